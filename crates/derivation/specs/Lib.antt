@@ -1,0 +1,5 @@
+pub mod Trees
+pub mod Views
+pub mod Order
+pub mod Text
+pub mod Counts

@@ -1,0 +1,14 @@
+pub mod KeptLemmas
+pub mod Order
+pub mod Classes
+pub mod Runs
+pub mod Fronts
+pub mod Readings
+pub mod Items
+pub mod Chains
+pub mod Glb
+pub mod Lines
+pub mod Wholes
+pub mod Grammars
+pub mod Resolved
+pub mod Files

@@ -1,0 +1,6 @@
+pub mod Grammar
+pub mod File
+pub mod Reading
+pub mod Statements
+pub mod Resolving
+pub mod Kept

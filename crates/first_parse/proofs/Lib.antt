@@ -1,0 +1,11 @@
+pub mod Members
+pub mod Order
+pub mod Cells
+pub mod Words
+pub mod Leaves
+pub mod Arena
+pub mod Rows
+pub mod Growth
+pub mod Counts
+pub mod Readings
+pub mod Unique

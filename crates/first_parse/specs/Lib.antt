@@ -1,0 +1,5 @@
+pub mod Licensed
+pub mod Report
+pub mod Cells
+pub mod Chart
+pub mod Parse

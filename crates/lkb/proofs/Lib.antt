@@ -1,0 +1,9 @@
+pub mod Readings
+pub mod Exits
+pub mod Pieces
+pub mod Endings
+pub mod Telling
+pub mod Runs
+pub mod Clauses
+pub mod Complete
+pub mod OneReport

@@ -1,0 +1,132 @@
+-- How a run of the program ends, by its command and by the way it ended.
+use Rattle.std.specs.Prelude.{◌≡◌, ℕ, List, [], ◌∷◌, Option, None, Some, Bool, true, false, Result, Ok, Err, ◌⊎◌}
+use Rattle.std.specs.List.{concat}
+use Rattle.lkb_io.specs.Outside.{HasRisen, IsAtEnd, Adds, AddsFront}
+use Rattle.lkb_io.specs.Lines.{HasNoEnd, IsTooLong, lines_of}
+use Rattle.first_grammar.specs.Grammar.{Grammar}
+use Rattle.first_parse.specs.Report.{IsAnswer}
+use Rattle.lkb.specs.declared.lines.Stop.{Stop}
+use Rattle.lkb.specs.declared.lines.Stop.TheVariants.{Write, NoMemory}
+use Rattle.lkb.specs.declared.faults.Fault.{Fault}
+use Rattle.lkb.specs.declared.faults.Fault.TheVariants.{Usage, File, Stopped}
+use Rattle.lkb.specs.declared.faults.FileFault.{FileFault}
+use Rattle.lkb.specs.declared.faults.Status.{Status}
+use Rattle.lkb.specs.declared.faults.Status.TheVariants.{Done, Items, Usage as UsageStatus, Grammar as GrammarStatus, ReadFault, WriteFault, NoMemory as NoMemoryStatus}
+use Rattle.lkb.specs.declared.lines.Stop.TheVariants.{Read, TooLong, TooMany}
+use Rattle.lkb.specs.Words.{Form, help, version, parse, file_of}
+use Rattle.lkb.specs.Files.{Shelves, IsGrammarOf, FileFails}
+use Rattle.lkb.specs.Reports.{AreAnswers, Streams, Served, IsServedTo, IsServedToLast, IsServedInPart}
+use Rattle.lkb.specs.Texts.{usage_line, version_line}
+
+-- The report of a command over the lines of its input: the report lines, each with its end, and whether a line is refused.
+abbrev pub IsReport : Option (List ℕ → Option (List ℕ)) → Form → List (List ℕ) → List (List ℕ) → Bool → Type 0
+IsReport files help lines pieces refused = (pieces ≡ usage_line ∷ []) × (refused ≡ false)
+IsReport files version lines pieces refused = (pieces ≡ version_line ∷ []) × (refused ≡ false)
+IsReport files (parse name) lines pieces refused = (grammar : Grammar) × IsGrammarOf files (file_of name) grammar × AreAnswers (IsAnswer grammar) 1 lines pieces refused
+
+-- The whole report of a command that reads no lines was written and flushed.
+pub record IsSaid (reports : List (List ℕ) → List (List ℕ) → Bool → Type 0) (o : Streams) (refused : Bool) : Type 0 where
+  pub pieces : List (List ℕ)
+  pub report : reports [] pieces refused
+  pub writes : Adds o.written_old o.written_new (concat pieces)
+  pub flushed : o.flushed_new ≡ o.written_new
+
+-- A front of the report of a command that reads no lines was written.
+pub record IsSaidInPart (reports : List (List ℕ) → List (List ℕ) → Bool → Type 0) (o : Streams) : Type 0 where
+  pub pieces : List (List ℕ)
+  pub refused : Bool
+  pub report : reports [] pieces refused
+  pub writes : AddsFront o.written_old o.written_new (concat pieces)
+
+-- How a command that reads no lines ends.
+abbrev pub Said : (List (List ℕ) → List (List ℕ) → Bool → Type 0) → Streams → Result Bool Stop → Type 0
+Said reports o (Ok refused) = IsSaid reports o refused
+Said reports o (Err Write) = IsSaidInPart reports o × HasRisen o.out_old o.out_new
+Said reports o (Err stop) = ⊥
+
+-- How the writing of a report of one line ends: it was written and flushed, or a front of it was written.
+abbrev pub SaidLine : List ℕ → Option (List ℕ) → Option (List ℕ) → Option (List ℕ) → ℕ → ℕ → Result Bool Stop → Type 0
+SaidLine line old new flushed faults_old faults_new (Ok refused) = Adds old new line × (flushed ≡ new) × (refused ≡ false)
+SaidLine line old new flushed faults_old faults_new (Err Write) = AddsFront old new line × HasRisen faults_old faults_new
+SaidLine line old new flushed faults_old faults_new (Err stop) = ⊥
+
+-- How a command ends that met no fault of its words or its file. `unread` says that shelf and source are as they were.
+abbrev pub Ran : Shelves → Streams → (unread : Type 0) → Form → Result Bool Stop → Type 0
+Ran h o unread help end = Said (IsReport h.files help) o end × unread
+Ran h o unread version end = Said (IsReport h.files version) o end × unread
+Ran h o unread (parse name) end = Served (IsReport h.files (parse name)) o end
+
+-- A front of the command's report was written, over lines that were read where it reads any.
+abbrev pub RanInPart : Shelves → Streams → Form → Type 0
+RanInPart h o help = IsSaidInPart (IsReport h.files help) o
+RanInPart h o version = IsSaidInPart (IsReport h.files version) o
+RanInPart h o (parse name) = IsServedInPart (IsReport h.files (parse name)) o
+
+-- The source failed, or 65,536 bytes came without a line end, or 2^64 - 1 lines came; exactly the report over the lines before was written.
+abbrev pub StopsReading : Shelves → Streams → Form → Type 0
+StopsReading h o form = (((r : IsServedTo (IsReport h.files form) o) × HasNoEnd r.part × HasRisen o.in_old o.in_new)
+    ⊎ ((r : IsServedTo (IsReport h.files form) o) × IsTooLong r.part))
+    ⊎ IsServedToLast (IsReport h.files form) o
+
+-- No fault of the shelf, the source or the sink was counted.
+abbrev pub IsFaultless : Shelves → Streams → Type 0
+IsFaultless h o = (HasRisen h.faults_old h.faults_new → ⊥) × (HasRisen o.in_old o.in_new → ⊥) × (HasRisen o.out_old o.out_new → ⊥)
+
+-- The command's file, where it has one, is the file of a grammar.
+abbrev pub IsLoadable : Option (List ℕ → Option (List ℕ)) → Form → Type 0
+IsLoadable files help = Unit {0}
+IsLoadable files version = Unit {0}
+IsLoadable files (parse name) = (grammar : Grammar) × IsGrammarOf files (file_of name) grammar
+
+-- The input was read to its end, where the command reads it.
+abbrev pub IsReadThrough : Form → Option (List ℕ) → Type 0
+IsReadThrough help left = Unit {0}
+IsReadThrough version left = Unit {0}
+IsReadThrough (parse name) left = IsAtEnd left
+
+-- whether the form has this file's fault: only `parse` has a file
+abbrev pub FormFails : Shelves → Form → FileFault → Type 0
+FormFails h (parse name) cause = FileFails h (file_of name) cause
+FormFails h other cause = ⊥
+
+-- How a run ends. `unread` says that shelf and source are as they were, `untouched` that source and sink are.
+abbrev pub Ended : Shelves → Streams → (unread untouched : Type 0) → Option Form → Result Bool Fault → Type 0
+Ended h o unread untouched None (Err Usage) = unread × untouched
+Ended h o unread untouched None end = ⊥
+Ended h o unread untouched (Some form) (Ok refused) = Ran h o unread form (Ok refused)
+Ended h o unread untouched (Some form) (Err Usage) = ⊥
+Ended h o unread untouched (Some form) (Err (File cause)) = FormFails h form cause × untouched
+Ended h o unread untouched (Some form) (Err (Stopped NoMemory)) = untouched ⊎ Ran h o unread form (Err NoMemory)
+Ended h o unread untouched (Some form) (Err (Stopped stop)) = Ran h o unread form (Err stop)
+
+-- the status of each end
+abbrev pub status_of : Result Bool Fault → Status
+status_of (Ok false) = Done
+status_of (Ok true) = Items
+status_of (Err Usage) = UsageStatus
+status_of (Err (File cause)) = GrammarStatus
+status_of (Err (Stopped Read)) = ReadFault
+status_of (Err (Stopped TooLong)) = ReadFault
+status_of (Err (Stopped TooMany)) = ReadFault
+status_of (Err (Stopped Write)) = WriteFault
+status_of (Err (Stopped NoMemory)) = NoMemoryStatus
+
+-- the number by which a status goes out
+abbrev pub code_of : Status → ℕ
+code_of Done = 0
+code_of UsageStatus = 2
+code_of GrammarStatus = 3
+code_of Items = 4
+code_of ReadFault = 5
+code_of WriteFault = 6
+code_of NoMemoryStatus = 7
+
+-- whether the status says that a line is refused
+abbrev pub is_items : Status → Bool
+is_items Items = true
+is_items other = false
+
+-- Memory was wanting, or the whole report over the lines of these bytes was written, and the status says whether a line is refused.
+abbrev pub IsWhole : Shelves → Streams → Form → List ℕ → Status → Type 0
+IsWhole h o form bytes status = (status ≡ NoMemoryStatus) ⊎ ((pieces : List (List ℕ)) × (refused : Bool) × IsReport h.files form (lines_of bytes) pieces refused
+    × Adds o.written_old o.written_new (concat pieces) × (status ≡ status_of (Ok refused)))

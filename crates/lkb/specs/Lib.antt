@@ -1,0 +1,7 @@
+pub mod Readings
+pub mod Reports
+pub mod Stops
+pub mod Words
+pub mod Files
+pub mod Endings
+pub mod Texts

@@ -1,0 +1,5 @@
+pub mod Complete
+pub mod Exists
+pub mod Sound
+pub mod Spans
+pub mod Unique

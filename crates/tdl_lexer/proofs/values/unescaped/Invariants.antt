@@ -1,0 +1,15 @@
+use Rattle.std.proofs.Common.{◌≡◌, string_bytes, encode_utf8_all, false, ◌++◌, length}
+use denote.Text.{Utf8}
+use denote.Shadow.{shadow}
+use Rattle.std.specs.Str.{chars}
+use Rattle.tdl_lexer.specs.Spelling.{unescaped}
+use Rattle.tdl_lexer.proofs.values.unescaped.Given as goal
+
+abbrev pub invariant-loop-c : goal.invariant-loop-c
+invariant-loop-c l = record {
+  text : shadow (Utf8 l.rest);
+  same : string_bytes l.out ++ encode_utf8_all (unescaped l.escaped (chars l.rest)) ≡ encode_utf8_all (unescaped false (chars l.text));
+}
+
+abbrev pub decreases-loop-c : goal.decreases-loop-c
+decreases-loop-c l = length l.rest
