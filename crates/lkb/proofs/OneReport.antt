@@ -1,5 +1,5 @@
 -- A command has one report.
-use Rattle.std.proofs.Common.{suc, ◌≡◌, ℕ, ◌∙◌, sym, ap, refl, List, [], ◌∷◌, ◌++◌, Bool, true, false, ◌||◌, subst, Option, Some}
+use Rattle.std.proofs.Common.{suc, ◌≡◌, ℕ, ◌∙◌, sym, ap, refl, List, ◌++◌, Bool, ◌||◌, subst, Option, Some}
 use Rattle.first_grammar.specs.Grammar.{Grammar}
 use Rattle.first_grammar.specs.File.{IsFirstGrammar}
 use Rattle.first_parse.specs.Report.{IsAnswer, HasOneAnswer}

@@ -1,0 +1,11 @@
+pub mod Standing
+pub mod Gather
+pub mod Pairing
+pub mod Complete
+pub mod Steps
+pub mod Index
+pub mod Peers
+pub mod Unique
+pub mod Leaves
+pub mod Trees
+pub mod Whole

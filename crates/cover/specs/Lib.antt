@@ -1,0 +1,6 @@
+pub mod Calculus
+pub mod Tuples
+pub mod Spans
+pub mod Lists
+pub mod Sums
+pub mod Tables
