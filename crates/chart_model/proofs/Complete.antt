@@ -4,7 +4,7 @@ use Rattle.std.proofs.Common.{zero, suc, ap, subst, sym, ◌∙◌, arith, lengt
 use Rattle.cover.specs.Calculus.{Calculus, Laws, AllOver, none, more, NoneApplies}
 use Rattle.cover.specs.Tuples.{on_list}
 use Rattle.chart_model.specs.Chart.{Kind, OfLeaf, OfPartial, OfWhole, Row, Task, Chart, Leaf, Limits, daughters, cover_of, shape_of, covers_at, shapes_at, level_of, levels_at, level_above}
-use Rattle.chart_model.specs.Classes.{Class, Member, of_leaf, of_rule, Members, no_members, more_members, IsHost, HostsAreClasses, class_covers, class_shapes, class_level}
+use Rattle.chart_model.specs.Classes.{Class, Member, of_leaf, of_rule, Members, no_members, more_members, IsPacked, IsHost, HostsAreClasses, class_covers, class_shapes, class_level}
 use Rattle.chart_model.specs.At.{At, here, there, at_below, at_one, to_get, from_get, at_found}
 use Rattle.chart_model.specs.Grown.{LeadsTo, ends, goes}
 use Rattle.chart_model.specs.Finished.{NothingPending}
@@ -189,7 +189,14 @@ module _ {M C : Type 0} (k : Calculus M C) (limits : Limits) (leaves : List (Lea
     pub kind : row.kind ≡ OfWhole rule
     pub daughters_are : row.daughters ≡ ds
 
-  module _ (laws : Laws k) (ch : Chart M C) (facts : Facts ch) (all_done : NothingPending ch) where
+  -- each task that puts together a beginning of this tuple, or the whole of it, is done
+  abbrev pub TasksAreDone : Chart M C → ℕ → List ℕ → Type 0
+  TasksAreDone ch rule ds = (t : ℕ) (task : Task) (rest : List ℕ) → At ch.tasks t task → task.rule ≡ rule → daughters ch.rows task ++ rest ≡ ds → (place : ℕ) × At ch.done t (Some place)
+
+  pub all_due : (ch : Chart M C) → NothingPending ch → (rule : ℕ) (ds : List ℕ) → TasksAreDone ch rule ds
+  all_due ch all_done rule ds = λ t task rest a e f. all_done t task a
+
+  module _ (laws : Laws k) (ch : Chart M C) (facts : Facts ch) where
     -- the daughters of a tuple so far, all live
     pub record Tuple_so_far (rule : ℕ) (ds : List ℕ) : Type 0 where
       pub t : ℕ
@@ -198,9 +205,9 @@ module _ {M C : Type 0} (k : Calculus M C) (limits : Limits) (leaves : List (Lea
       pub rule_is : task.rule ≡ rule
       pub daughters_are : daughters ch.rows task ≡ ds
 
-    answer_of : (rule : ℕ) (ds : List ℕ) → Tuple_so_far rule ds → ((j d : ℕ) → At ds j d → At ch.into d None) → Answer ch.rows rule ds
-    answer_of rule ds s live =
-        let p = all_done s.t s.task s.at in
+    answer_of : (rule : ℕ) (ds rest : List ℕ) → TasksAreDone ch rule (ds ++ rest) → Tuple_so_far rule ds → ((j d : ℕ) → At ds j d → At ch.into d None) → Answer ch.rows rule ds
+    answer_of rule ds rest due s live =
+        let p = due s.t s.task rest s.at s.rule_is (ap (λ xs. xs ++ rest) s.daughters_are) in
         let a = facts.answered s.t p.0 s.task s.at p.1 (λ j d b. live j d (subst (λ xs. At xs j d) s.daughters_are b)) in
         subst (λ xs. Answer ch.rows rule xs) s.daughters_are (subst (λ r. Answer ch.rows r (daughters ch.rows s.task)) s.rule_is a)
 
@@ -244,12 +251,12 @@ module _ {M C : Type 0} (k : Calculus M C) (limits : Limits) (leaves : List (Lea
         let y : q ≡ rule = let z = r.kind in let x = ap rule_of e in cc in
         record { number = r.number; row = r.row; at = r.at; kind = e ∙ ap OfPartial y; daughters_are = r.daughters_are; covers = subst (λ x. k.covers x (covers_at ch.rows ds) ≡ Some r.row.cover) y (subst (λ xs. k.covers q (covers_at ch.rows xs) ≡ Some r.row.cover) r.daughters_are c) }
 
-    grow : (rule : ℕ) (ds rest : List ℕ) → 0 < length ds → Low ch.rows ch.into ds → Low ch.rows ch.into rest → Applies rule (ds ++ rest) → Tuple_so_far rule ds → WholeRow ch.rows rule (ds ++ rest)
-    grow rule ds [] l low no_low a s =
-        let r = row_of rule ds [] l low no_low a (answer_of rule ds s (λ j d b. low_split ch.rows ch.into j d low b)) in
+    grow : (rule : ℕ) (ds rest : List ℕ) → TasksAreDone ch rule (ds ++ rest) → 0 < length ds → Low ch.rows ch.into ds → Low ch.rows ch.into rest → Applies rule (ds ++ rest) → Tuple_so_far rule ds → WholeRow ch.rows rule (ds ++ rest)
+    grow rule ds [] due l low no_low a s =
+        let r = row_of rule ds [] l low no_low a (answer_of rule ds [] due s (λ j d b. low_split ch.rows ch.into j d low b)) in
         subst (WholeRow ch.rows rule) (sym (append-nil ds)) (ended rule ds (ap length (sym (append-nil ds)) ∙ a.whole) r r.row.kind refl (facts.row_ok r.number r.row r.at))
-    grow rule ds (_ ∷ rest) l low (more_low h lh f ml) a s =
-        let r = row_of rule ds (h ∷ rest) l low (more_low h lh f ml) a (answer_of rule ds s (λ j d b. low_split ch.rows ch.into j d low b)) in
+    grow rule ds (_ ∷ rest) due l low (more_low h lh f ml) a s =
+        let r = row_of rule ds (h ∷ rest) l low (more_low h lh f ml) a (answer_of rule ds (h ∷ rest) due s (λ j d b. low_split ch.rows ch.into j d low b)) in
         let p = goes_on rule ds (omega (arith, a.whole, length-append ds (h ∷ rest))) r r.row.kind refl (facts.row_ok r.number r.row r.at) in
         let e : k.covers rule (covers_at ch.rows ds ++ covers_at ch.rows (h ∷ rest)) ≡ Some a.cover = rw (← covers-append ch.rows ds (h ∷ rest)) a.covers in
         let z = laws.prefixes rule (covers_at ch.rows ds) lh.row.cover (covers_at ch.rows rest) a.cover (omega (arith, low_covers ch.rows ch.into low)) (omega (arith, length-append (covers_at ch.rows ds) (lh.row.cover ∷ covers_at ch.rows rest), low_covers ch.rows ch.into low, low_covers ch.rows ch.into ml, a.whole, length-append ds (h ∷ rest))) (rw (to_get lh.at) at e) in
@@ -257,7 +264,7 @@ module _ {M C : Type 0} (k : Calculus M C) (limits : Limits) (leaves : List (Lea
         let joins : is_some (k.join p.row.cover lh.row.cover) ≡ true = subst (λ c. is_some (k.join c lh.row.cover) ≡ true) same z.2 in
         let t = facts.pairing.with_partial rule p.number h p.row (record { at = p.at; kind = p.kind; live = λ j d b. low_split ch.rows ch.into j d low (subst (λ xs. At xs j d) p.daughters_are b) }) lh f joins in
         let next : Tuple_so_far rule (ds ++ h ∷ []) = record { t = t.0; task = record { rule = rule; partial = Some p.number; host = h }; at = t.1; rule_is = refl; daughters_are = rw (to_get p.at, p.daughters_are) refl } in
-        let w = grow rule (ds ++ h ∷ []) rest (omega (arith, length-append ds (h ∷ []))) (low_snoc ch.rows ch.into h low lh f) ml (subst (Applies rule) (sym (append_assoc ds (h ∷ []) rest)) a) next in
+        let w = grow rule (ds ++ h ∷ []) rest (subst (TasksAreDone ch rule) (sym (append_assoc ds (h ∷ []) rest)) due) (omega (arith, length-append ds (h ∷ []))) (low_snoc ch.rows ch.into h low lh f) ml (subst (Applies rule) (sym (append_assoc ds (h ∷ []) rest)) a) next in
         subst (WholeRow ch.rows rule) (append_assoc ds (h ∷ []) rest) w
 
     level_of_live : (d : Class M C) (h : ℕ) → LiveOver k ch.rows ch.into d.cover d.level d.shape h → level_of (slice_get ch.rows h) ≡ Some d.level
@@ -269,11 +276,11 @@ module _ {M C : Type 0} (k : Calculus M C) (limits : Limits) (leaves : List (Lea
     hosts_level (more_hosts h d l u (more_hosts g e q v rest)) = rw (level_of_live d h l, level_of_live e g q) refl
 
     -- the hosts of a tuple have a whole row
-    pub whole_of : (rule : ℕ) (hs : List ℕ) → rule < k.rules → Low ch.rows ch.into hs → Applies rule hs → WholeRow ch.rows rule hs
-    whole_of rule [] r_ok low a = absurd (let z = (laws.one_to_four rule r_ok).0 in omega (arith, a.whole))
-    whole_of rule (_ ∷ rest) r_ok (more_low h lh f ml) a =
+    pub whole_of : (rule : ℕ) (hs : List ℕ) → TasksAreDone ch rule hs → rule < k.rules → Low ch.rows ch.into hs → Applies rule hs → WholeRow ch.rows rule hs
+    whole_of rule [] due r_ok low a = absurd (let z = (laws.one_to_four rule r_ok).0 in omega (arith, a.whole))
+    whole_of rule (_ ∷ rest) due r_ok (more_low h lh f ml) a =
         let t = facts.pairing.with_rule rule h r_ok lh f in
-        grow rule (h ∷ []) rest (omega arith) (more_low h lh f no_low) ml a (record { t = t.0; task = record { rule = rule; partial = None; host = h }; at = t.1; rule_is = refl; daughters_are = refl })
+        grow rule (h ∷ []) rest due (omega arith) (more_low h lh f no_low) ml a (record { t = t.0; task = record { rule = rule; partial = None; host = h }; at = t.1; rule_is = refl; daughters_are = refl })
 
     pub record Found (c : Class M C) : Type 0 where
       pub host : ℕ
@@ -324,24 +331,6 @@ module _ {M C : Type 0} (k : Calculus M C) (limits : Limits) (leaves : List (Lea
       pub hs : List ℕ
       pub hosts : Hosts ch.rows ch.into hs ds
 
-    mutual
-      -- each member of the set has a live host that subsumes it
-      pub complete : (c : Class M C) → Member k limits leaves c → Found c
-      complete c (of_leaf l leaf a) = found_of (record { cover = leaf.cover; level = 0; shape = leaf.shape }) (facts.leaf_row l leaf a).number (from_leaf leaf (facts.leaf_row l leaf a))
-      complete c (of_rule rule ds cover m r_ok len members cov app) =
-          let f = completes ds members in
-          let up = hosts_shapes ch.rows ch.into f.hosts in
-          let a : Applies rule f.hs = record { cover = cover; covers = rw (hosts_covers ch.rows ch.into f.hosts) cov; apply = laws.falls rule (shapes_at ch.rows f.hs) (class_shapes ds) up (laws.has_mother rule (class_shapes ds) m app); whole = hosts_length ch.rows ch.into f.hosts ∙ len } in
-          let w = whole_of rule f.hs r_ok (hosts_low ch.rows ch.into f.hosts) a in
-          found_of (record { cover = cover; level = class_level ds; shape = m }) w.number (from_row rule f.hs ds cover m f.hosts cov (λ n mother. laws.monotone rule (shapes_at ch.rows f.hs) (class_shapes ds) n m up mother app) w w.row.kind refl (facts.row_ok w.number w.row w.at))
-
-      pub completes : (ds : List (Class M C)) → Members k limits leaves ds → FoundAll ds
-      completes ds no_members = record { hs = []; hosts = no_hosts }
-      completes ds (more_members d rest m l ms) =
-          let f = complete d m in
-          let g = completes rest ms in
-          record { hs = f.host ∷ g.hs; hosts = more_hosts f.host d f.live l g.hosts }
-
     as_member : (c : Class M C) (j : ℕ) (l : LiveOver k ch.rows ch.into c.cover c.level c.shape j) → Member k limits leaves (record c { shape = l.shape })
     as_member c j l = subst (λ v. Member k limits leaves (record { cover = c.cover; level = v; shape = l.shape })) l.level_is (subst (λ v. Member k limits leaves (record { cover = v; level = l.row.level; shape = l.shape })) l.cover_is (facts.members j l.row l.shape l.at l.shape_is))
 
@@ -358,21 +347,62 @@ module _ {M C : Type 0} (k : Calculus M C) (limits : Limits) (leaves : List (Lea
         let v = h.shape in
         cc
 
-    -- the live hosts are the packed classes, one for each
-    pub hosts_are_classes : HostsAreClasses k limits leaves ch
-    hosts_are_classes =
-        record {
-          sound = λ c i h. record {
+    -- classes whose making depends on such classes alone, where the tasks of each tuple that makes one are done
+    pub record Closed (In : Class M C → Type 0) : Type 0 where
+      pub daughters_too : (rule : ℕ) (ds : List (Class M C)) (c : C) (m : M) → rule < k.rules → length ds ≡ k.arity rule → Members k limits leaves ds → k.covers rule (class_covers ds) ≡ Some c → In (record { cover = c; level = class_level ds; shape = m }) → (i : ℕ) (d : Class M C) → At ds i d → In d
+      pub due : (rule : ℕ) (ds : List (Class M C)) (c : C) (m : M) (hs : List ℕ) → rule < k.rules → length ds ≡ k.arity rule → k.covers rule (class_covers ds) ≡ Some c → In (record { cover = c; level = class_level ds; shape = m }) → Hosts ch.rows ch.into hs ds → TasksAreDone ch rule hs
+
+    module _ (In : Class M C → Type 0) (closed : Closed In) where
+      mutual
+        -- each member of the set has a live host that subsumes it
+        pub complete : (c : Class M C) → In c → Member k limits leaves c → Found c
+        complete c is (of_leaf l leaf a) = found_of (record { cover = leaf.cover; level = 0; shape = leaf.shape }) (facts.leaf_row l leaf a).number (from_leaf leaf (facts.leaf_row l leaf a))
+        complete c is (of_rule rule ds cover m r_ok len members cov app) =
+            let f = completes ds members (closed.daughters_too rule ds cover m r_ok len members cov is) in
+            let up = hosts_shapes ch.rows ch.into f.hosts in
+            let a : Applies rule f.hs = record { cover = cover; covers = rw (hosts_covers ch.rows ch.into f.hosts) cov; apply = laws.falls rule (shapes_at ch.rows f.hs) (class_shapes ds) up (laws.has_mother rule (class_shapes ds) m app); whole = hosts_length ch.rows ch.into f.hosts ∙ len } in
+            let w = whole_of rule f.hs (closed.due rule ds cover m f.hs r_ok len cov is f.hosts) r_ok (hosts_low ch.rows ch.into f.hosts) a in
+            found_of (record { cover = cover; level = class_level ds; shape = m }) w.number (from_row rule f.hs ds cover m f.hosts cov (λ n mother. laws.monotone rule (shapes_at ch.rows f.hs) (class_shapes ds) n m up mother app) w w.row.kind refl (facts.row_ok w.number w.row w.at))
+
+        pub completes : (ds : List (Class M C)) → Members k limits leaves ds → ((i : ℕ) (d : Class M C) → At ds i d → In d) → FoundAll ds
+        completes ds no_members is = record { hs = []; hosts = no_hosts }
+        completes ds (more_members d rest m l ms) is =
+            let f = complete d (is 0 d here) m in
+            let g = completes rest ms (λ i e a. is (suc i) e (there a)) in
+            record { hs = f.host ∷ g.hs; hosts = more_hosts f.host d f.live l g.hosts }
+
+      -- the live hosts of such classes are the packed ones among them, one for each
+      pub sound_in : ((c : Class M C) (m : M) → In c → In (record c { shape = m })) → (c : Class M C) (i : ℕ) → In c → IsHost k limits leaves ch c i → IsPacked k limits leaves c
+      sound_in same c i is h =
+          record {
             member = host_member c i h;
             least = λ m member over.
-                let f = complete (record c { shape = m }) member in
+                let f = complete (record c { shape = m }) (same c m is) member in
                 let o = laws.transitive f.live.shape m c.shape f.live.over over in
                 let e = same_host c i f.host h m f.live o in
                 laws.antisymmetric m c.shape over (subst (λ x. k.over x m ≡ true) e f.live.over);
-          };
-          found = λ c p.
-              let f = complete c p.member in
-              let e = p.least f.live.shape (as_member c f.host f.live) f.live.over in
-              (f.host, record { row = f.live.row; at = to_get f.live.at; free = Gather.at_free ch.into f.host f.live.free; shape = f.live.shape_is ∙ ap Some e; cover = f.live.cover_is; level = f.live.level_is });
-          once = λ c i j h g. facts.standing.apart i j h.row g.row c.shape c.shape (from_get ch.rows i h.row h.at) (from_get ch.rows j g.row g.at) (Gather.free_at ch.into i h.free) (Gather.free_at ch.into j g.free) h.shape g.shape (h.cover ∙ sym g.cover) (h.level ∙ sym g.level) (laws.reflexive c.shape);
+          }
+
+      pub found_in : (c : Class M C) → In c → IsPacked k limits leaves c → (i : ℕ) × IsHost k limits leaves ch c i
+      found_in c is p =
+          let f = complete c is p.member in
+          let e = p.least f.live.shape (as_member c f.host f.live) f.live.over in
+          (f.host, record { row = f.live.row; at = to_get f.live.at; free = Gather.at_free ch.into f.host f.live.free; shape = f.live.shape_is ∙ ap Some e; cover = f.live.cover_is; level = f.live.level_is })
+
+    pub host_once : (c : Class M C) (i j : ℕ) → IsHost k limits leaves ch c i → IsHost k limits leaves ch c j → i ≡ j
+    host_once c i j h g = facts.standing.apart i j h.row g.row c.shape c.shape (from_get ch.rows i h.row h.at) (from_get ch.rows j g.row g.at) (Gather.free_at ch.into i h.free) (Gather.free_at ch.into j g.free) h.shape g.shape (h.cover ∙ sym g.cover) (h.level ∙ sym g.level) (laws.reflexive c.shape)
+
+    abbrev pub Any : Class M C → Type 0
+    Any c = Unit {0}
+
+    any_closed : NothingPending ch → Closed Any
+    any_closed all_done = record { daughters_too = λ rule ds c m r len ms cov is i d a. tt; due = λ rule ds c m hs r len cov is hosts. all_due ch all_done rule hs }
+
+    -- the live hosts are the packed classes, one for each
+    pub hosts_are_classes : NothingPending ch → HostsAreClasses k limits leaves ch
+    hosts_are_classes all_done =
+        record {
+          sound = λ c i h. sound_in Any (any_closed all_done) (λ c m is. tt) c i tt h;
+          found = λ c p. found_in Any (any_closed all_done) c tt p;
+          once = host_once;
         }

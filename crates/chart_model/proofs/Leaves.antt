@@ -24,7 +24,7 @@ module _ {M C : Type 0} (k : Calculus M C) (limits : Limits) where
       ∙ append_assoc ch.rows (leaf_row k limits leaf ∷ []) (map (leaf_row k limits) leaves)
 
   -- a step adds no row, or one that isn't a leaf's
-  data Grows (rows next : List (Row M C)) : Type 0 where
+  pub data Grows (rows next : List (Row M C)) : Type 0 where
     same_rows : next ≡ rows → Grows rows next
     one_row : (w : Row M C) → ((name : ℕ) → w.kind ≡ OfLeaf name → ⊥) → next ≡ rows ++ w ∷ [] → Grows rows next
 
@@ -37,7 +37,7 @@ module _ {M C : Type 0} (k : Calculus M C) (limits : Limits) where
   grows_live ch t task o true = grows_outcome (with_done ch t) task o
   grows_live ch t task o false = same_rows refl
 
-  grows_at : (ch : Chart M C) (t : ℕ) (o : Outcome M C) (task : Option Task) (pending : Bool) → Grows ch.rows (step_at k limits ch t o task pending).rows
+  pub grows_at : (ch : Chart M C) (t : ℕ) (o : Outcome M C) (task : Option Task) (pending : Bool) → Grows ch.rows (step_at k limits ch t o task pending).rows
   grows_at ch t o None pending = same_rows refl
   grows_at ch t o (Some task) false = same_rows refl
   grows_at ch t o (Some task) true = grows_live ch t task o (all_free ch.into (daughters ch.rows task))

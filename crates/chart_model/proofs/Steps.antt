@@ -3,7 +3,8 @@ use Rattle.std.specs.Prelude.{◌≡◌, ℕ, ◌+◌, ◌<◌, Bool, true, fals
 use Rattle.std.proofs.Common.{zero, suc, ap, subst, sym, ◌∙◌, arith, length-append, append_assoc, append-nil, inl, inr, leb-true, le-leb}
 use Rattle.std.proofs.lemmas.List.{length-set}
 use Rattle.cover.specs.Calculus.{Calculus, Laws}
-use Rattle.chart_model.specs.Chart.{Kind, OfLeaf, OfPartial, OfWhole, Row, Task, Chart, Leaf, Limits, with_done, with_outcome, Fits, Makes, Fails, Outcome, tasks_of_partial, tasks_of_host, peer_over, whole_row, has_peer, frosted, rule_tasks, gather, host_task, with_host, with_frost, step, leaf_row, opened, empty, Replay, with_whole, Entry, Adds, IsRight, IsLegal, replayed, daughters, before, daughters_of_row, all_free, covers_at, shapes_at, levels_at, level_above}
+use Rattle.chart_model.specs.Chart.{Kind, OfLeaf, OfPartial, OfWhole, Row, Task, Chart, Leaf, Limits, with_done, with_outcome, Fits, Makes, Fails, Outcome, tasks_of_partial, tasks_of_host, peer_over, whole_row, has_peer, frosted, rule_tasks, gather, host_task, with_host, with_frost, step, leaf_row, opened, empty, Replay, with_whole, Entry, IsRight, replayed, daughters, before, daughters_of_row, all_free, covers_at, shapes_at, levels_at, level_above}
+use Rattle.chart_model.specs.Below.{Follows, IsRun}
 use Rattle.chart_model.specs.Classes.{Class, Member, of_leaf, of_rule, Members, no_members, more_members, class_covers, class_shapes, class_level}
 use Rattle.chart_model.proofs.Complete.{RowOk, leaf_ok, partial_ok, whole_ok, HasRow, Answer, has_row, no_cover, none_applies, LeafRow, FactsOf, rule_of}
 use Rattle.chart_model.specs.At.{At, here, there, at_below, at_one, at_append, at_last, to_get, from_get, at_found, Snoc, old, new, at_snoc}
@@ -23,7 +24,7 @@ module _ {A : Type 0} where
   set_at (y ∷ xs) (suc t) zero v x (here) = Gather.left here
   set_at (y ∷ xs) (suc t) (suc s) v x (there a) = elim (set_at xs t s v x a) [ left b ↦ Gather.left (there b) | right b ↦ Gather.right (ap suc b.0, b.1) ]
 
-at_single : {A : Type 0} (x : A) (i : ℕ) (y : A) → At (x ∷ []) i y → x ≡ y
+pub at_single : {A : Type 0} (x : A) (i : ℕ) (y : A) → At (x ∷ []) i y → x ≡ y
 at_single x zero y (here) = refl
 at_single x (suc i) y (there b) = elim b [ ]
 
@@ -33,7 +34,7 @@ no_place (t ∷ added) zero p a = elim a [ ]
 no_place (t ∷ added) (suc s) p (there a) = no_place added s p a
 
 module _ {M C : Type 0} (rows more : List (Row M C)) where
-  covers-more : (ds : List ℕ) → ((j d : ℕ) → At ds j d → d < length rows) → covers_at (rows ++ more) ds ≡ covers_at rows ds
+  pub covers-more : (ds : List ℕ) → ((j d : ℕ) → At ds j d → d < length rows) → covers_at (rows ++ more) ds ≡ covers_at rows ds
   covers-more [] h = refl
   covers-more (d ∷ ds) h = rw (get_more rows more d (h 0 d here), covers-more ds (λ j e a. h (suc j) e (there a))) refl
 
@@ -42,7 +43,7 @@ module _ {M C : Type 0} (rows more : List (Row M C)) where
   shapes-more (d ∷ ds) h = rw (get_more rows more d (h 0 d here), shapes-more ds (λ j e a. h (suc j) e (there a))) refl
 
 module _ {M C : Type 0} (k : Calculus M C) (limits : Limits) (leaves : List (Leaf M C)) where
-  levels-more : (rows more : List (Row M C)) (ds : List ℕ) → ((j d : ℕ) → At ds j d → d < length rows) → levels_at (rows ++ more) ds ≡ levels_at rows ds
+  pub levels-more : (rows more : List (Row M C)) (ds : List ℕ) → ((j d : ℕ) → At ds j d → d < length rows) → levels_at (rows ++ more) ds ≡ levels_at rows ds
   levels-more rows more [] h = refl
   levels-more rows more (d ∷ ds) h = rw (get_more rows more d (h 0 d here), levels-more rows more ds (λ j e a. h (suc j) e (there a))) refl
 
@@ -147,7 +148,7 @@ module _ {M C : Type 0} (k : Calculus M C) (limits : Limits) (leaves : List (Lea
   class_level_is (c ∷ []) = refl
   class_level_is (c ∷ d ∷ cs) = refl
 
-  tuple_of : (rows : List (Row M C)) → ((i : ℕ) (row : Row M C) (m : M) → At rows i row → row.shape ≡ Some m → Member k limits leaves (record { cover = row.cover; level = row.level; shape = m })) → (ds : List ℕ) → ((j d : ℕ) → At ds j d → Pairing.LowHost k limits rows d) → Tuple_of rows ds
+  pub tuple_of : (rows : List (Row M C)) → ((i : ℕ) (row : Row M C) (m : M) → At rows i row → row.shape ≡ Some m → Member k limits leaves (record { cover = row.cover; level = row.level; shape = m })) → (ds : List ℕ) → ((j d : ℕ) → At ds j d → Pairing.LowHost k limits rows d) → Tuple_of rows ds
   tuple_of rows members [] low = record { classes = []; covers = refl; shapes = refl; levels = refl; first = refl; counted = refl; members = no_members }
   tuple_of rows members (d ∷ ds) low =
       let l = low 0 d here in
@@ -192,7 +193,7 @@ module _ {M C : Type 0} (k : Calculus M C) (limits : Limits) (leaves : List (Lea
     task_ok : Pairing.TaskOk k limits ch.rows task
     task_ok = facts.pairing.task_ok t task at
 
-    low_ds : (j d : ℕ) → At (daughters ch.rows task) j d → Pairing.LowHost k limits ch.rows d
+    pub low_ds : (j d : ℕ) → At (daughters ch.rows task) j d → Pairing.LowHost k limits ch.rows d
     low_ds j d a = of_sides (Gather.split_at (before ch.rows task.partial) (task.host ∷ []) j d a)
       where
         of_front : (p : Option ℕ) → Pairing.Front k limits ch.rows task.rule p → (i : ℕ) → At (before ch.rows p) i d → Pairing.LowHost k limits ch.rows d
@@ -339,15 +340,15 @@ module _ {M C : Type 0} (k : Calculus M C) (limits : Limits) (leaves : List (Lea
     facts_at o true e right_is = facts_outcome o (right_is refl)
     facts_at o false e right_is = facts_done (λ live. absurd (let z = Gather.at_all_free ch.into (daughters ch.rows task) live in cc))
 
-  -- a legal step keeps the facts
-  pub facts_step : (laws : Laws k) (entered : List (Leaf M C)) (ch : Chart M C) → FactsOf k limits leaves entered ch → (e : Entry M C) → Adds k limits ch e → FactsOf k limits leaves entered (step k limits ch e)
-  facts_step laws entered ch facts e adds =
-      rw (adds.made, adds.pending)
-      (facts_at laws entered ch facts e.task adds.task (from_get ch.tasks e.task adds.task adds.made) e.outcome (all_free ch.into (daughters ch.rows adds.task)) refl (λ b. adds.right b))
+  -- a step keeps the facts
+  pub facts_step : (laws : Laws k) (entered : List (Leaf M C)) (ch : Chart M C) → FactsOf k limits leaves entered ch → (e : Entry M C) → Follows k limits ch e → FactsOf k limits leaves entered (step k limits ch e)
+  facts_step laws entered ch facts e follows =
+      rw (follows.made, follows.pending)
+      (facts_at laws entered ch facts e.task follows.task (from_get ch.tasks e.task follows.task follows.made) e.outcome (all_free ch.into (daughters ch.rows follows.task)) refl (λ b. follows.right b))
 
-  pub facts_replayed : (laws : Laws k) (entered : List (Leaf M C)) (ch : Chart M C) (es : List (Entry M C)) → FactsOf k limits leaves entered ch → IsLegal k limits ch es → FactsOf k limits leaves entered (replayed k limits ch es)
-  facts_replayed laws entered ch [] facts legal = facts
-  facts_replayed laws entered ch (e ∷ es) facts legal = facts_replayed laws entered (step k limits ch e) es (facts_step laws entered ch facts e legal.0) legal.1
+  pub facts_replayed : (laws : Laws k) (entered : List (Leaf M C)) (ch : Chart M C) (es : List (Entry M C)) → FactsOf k limits leaves entered ch → IsRun k limits ch es → FactsOf k limits leaves entered (replayed k limits ch es)
+  facts_replayed laws entered ch [] facts run = facts
+  facts_replayed laws entered ch (e ∷ es) facts run = facts_replayed laws entered (step k limits ch e) es (facts_step laws entered ch facts e run.0) run.1
 
   -- a row of a leaf
   module _ (laws : Laws k) (entered : List (Leaf M C)) (ch : Chart M C) (facts : FactsOf k limits leaves entered ch) (number : ℕ) (leaf : Leaf M C) (leaf_at : At leaves number leaf) where
@@ -458,5 +459,5 @@ module _ {M C : Type 0} (k : Calculus M C) (limits : Limits) (leaves : List (Lea
         members = λ i row m a e. elim a [ ];
       }
 
-  pub facts_of_history : Laws k → (history : List (Entry M C)) → IsLegal k limits (opened k limits (empty k limits) leaves) history → FactsOf k limits leaves leaves (Replay k limits leaves history)
-  facts_of_history laws history legal = facts_replayed laws leaves (opened k limits (empty k limits) leaves) history (facts_opened laws [] leaves (empty k limits) facts_empty refl) legal
+  pub facts_of_run : Laws k → (history : List (Entry M C)) → IsRun k limits (opened k limits (empty k limits) leaves) history → FactsOf k limits leaves leaves (Replay k limits leaves history)
+  facts_of_run laws history run = facts_replayed laws leaves (opened k limits (empty k limits) leaves) history (facts_opened laws [] leaves (empty k limits) facts_empty refl) run

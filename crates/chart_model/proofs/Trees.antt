@@ -9,7 +9,7 @@ use Rattle.chart_model.specs.Finished.{LeavesHaveRows, NothingPending}
 use Rattle.chart_model.specs.At.{to_get, at_one, at_below}
 use Rattle.chart_model.proofs.Unique.{Unique}
 use Rattle.chart_model.proofs.Gather
-use Rattle.chart_model.proofs.Complete.{LiveOver, RowOk, whole_ok, Facts, Hosts, no_hosts, more_hosts, hosts_length, hosts_covers, hosts_shapes, hosts_low, LeafRow, WholeRow, Applies, whole_of, from_row, from_leaf, rule_of, Low, no_low, more_low}
+use Rattle.chart_model.proofs.Complete.{LiveOver, RowOk, whole_ok, Facts, Hosts, no_hosts, more_hosts, hosts_length, hosts_covers, hosts_shapes, hosts_low, LeafRow, WholeRow, Applies, all_due, whole_of, from_row, from_leaf, rule_of, Low, no_low, more_low}
 
 agree_over : {M F : Type 0} {over : M → M → Bool} {agrees : M → F → Type 0} → ((n m : M) (f : F) → over n m ≡ true → agrees m f → agrees n f) → {ns ms : List M} {fs : List F} → AllOver over ns ms → Along agrees ms fs → Along agrees ns fs
 agree_over go none along_none = along_none
@@ -95,16 +95,16 @@ module _ {M C F : Type 0} (k : Calculus M C) (full : ℕ → List F → F → Ty
     agreed : (t : Tree) (c : Class F C) → Grown k full of_leaf limits leaves t c → Agreed t c
     agreed t c (grown_leaf l leaf f a is) =
         let row : LeafRow k limits leaves ch.rows leaf = record { number = l; row = leaf_row k limits leaf; at = leaf_rows.row_is l leaf a; shape = refl; cover = refl; level = refl } in
-        let r = from_leaf k limits leaves laws ch facts all_done leaf row in
+        let r = from_leaf k limits leaves laws ch facts leaf row in
         record { shape = leaf.shape; host = r.host; live = r.live; agrees_too = leaf_agrees leaf f is; number = l; stands = stands_leaf (at_below a) r.leads }
     agreed t c (grown_rule rule ts cs cover f r_ok len grown cov is) =
         let d = agreed_all ts cs grown in
         let up = agree_over agree.over_agrees (hosts_shapes k limits leaves ch.rows ch.into d.hosts) d.agree_too in
-        let a : Applies k limits leaves laws ch facts all_done rule d.hs = record { cover = cover; covers = rw (hosts_covers k limits leaves ch.rows ch.into d.hosts, d.covers) cov; apply = agree.applies_too rule (shapes_at ch.rows d.hs) (class_shapes cs) f up is; whole = hosts_length k limits leaves ch.rows ch.into d.hosts ∙ d.counted ∙ len } in
+        let a : Applies k limits leaves laws ch facts rule d.hs = record { cover = cover; covers = rw (hosts_covers k limits leaves ch.rows ch.into d.hosts, d.covers) cov; apply = agree.applies_too rule (shapes_at ch.rows d.hs) (class_shapes cs) f up is; whole = hosts_length k limits leaves ch.rows ch.into d.hosts ∙ d.counted ∙ len } in
         let low = hosts_low k limits leaves ch.rows ch.into d.hosts in
-        let w = whole_of k limits leaves laws ch facts all_done rule d.hs r_ok low a in
+        let w = whole_of k limits leaves laws ch facts rule d.hs (all_due k limits leaves ch all_done rule d.hs) r_ok low a in
         let v = mother_of rule d.hs w w.row.kind refl (facts.row_ok w.number w.row w.at) in
-        let r = from_row k limits leaves laws ch facts all_done rule d.hs d.ds cover v.0 d.hosts (rw d.covers cov) (λ n m. laws.monotone rule (shapes_at ch.rows d.hs) (shapes_at ch.rows d.hs) n v.0 (all_over_itself k.over laws.reflexive (shapes_at ch.rows d.hs)) m v.1) w w.row.kind refl (facts.row_ok w.number w.row w.at) in
+        let r = from_row k limits leaves laws ch facts rule d.hs d.ds cover v.0 d.hosts (rw d.covers cov) (λ n m. laws.monotone rule (shapes_at ch.rows d.hs) (shapes_at ch.rows d.hs) n v.0 (all_over_itself k.over laws.reflexive (shapes_at ch.rows d.hs)) m v.1) w w.row.kind refl (facts.row_ok w.number w.row w.at) in
         record { shape = v.0; host = r.host; live = subst (λ l. LiveOver k ch.rows ch.into cover l v.0 r.host) d.level r.live; agrees_too = agree.mother_agrees rule (shapes_at ch.rows d.hs) (class_shapes cs) v.0 f up is v.1; number = w.number; stands = stands_by rule ts d.hs r.host w low d.stand r.leads }
 
     agreed_all : (ts : Trees) (cs : List (Class F C)) → AllGrown k full of_leaf limits leaves ts cs → AgreedAll ts cs

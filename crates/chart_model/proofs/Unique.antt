@@ -2,9 +2,10 @@
 use Rattle.std.specs.Prelude.{◌≡◌, ℕ, ◌+◌, Bool, true, false, Option, Some, None, List, [], ◌∷◌, ◌++◌, length, refl, slice_set, if◌then◌else◌}
 use Rattle.std.proofs.Common.{zero, suc, ap, subst, sym, ◌∙◌, arith, length-append, append-nil}
 use Rattle.cover.specs.Calculus.{Calculus}
-use Rattle.chart_model.specs.Chart.{Row, Task, Chart, Leaf, Limits, daughters, before, daughters_of_row, all_free, with_done, with_outcome, whole_row, partial_row, peer_over, step, Entry, Adds, Outcome, Fails, Fits, Makes}
+use Rattle.chart_model.specs.Chart.{Row, Task, Chart, Leaf, Limits, daughters, before, daughters_of_row, all_free, with_done, with_outcome, whole_row, partial_row, peer_over, step, Entry, Outcome, Fails, Fits, Makes}
 use Rattle.chart_model.proofs.Complete.{FactsOf, rule_of}
 use Rattle.chart_model.proofs.Steps.{daughters_more}
+use Rattle.chart_model.specs.Below.{Follows}
 use Rattle.chart_model.specs.At.{At, here, there, at_one, at_append, to_get, from_get, Snoc, old, new, at_snoc}
 use Rattle.chart_model.proofs.Pairing
 use Rattle.chart_model.proofs.Gather.{free_at}
@@ -101,7 +102,7 @@ module _ {A : Type 0} where
   set_keep (z ∷ xs) (suc t) zero v x y (here) b h = here
   set_keep (z ∷ xs) (suc t) (suc s) v x y (there a) (there b) h = there (set_keep xs t s v x y a b h)
 
-  set_hit : (xs : List A) (t : ℕ) (v y : A) → At xs t y → At (slice_set xs t v) t v
+  pub set_hit : (xs : List A) (t : ℕ) (v y : A) → At xs t y → At (slice_set xs t v) t v
   set_hit [] t v y b = elim b [ ]
   set_hit (z ∷ xs) zero v y b = here
   set_hit (z ∷ xs) (suc t) v y (there b) = there (set_hit xs t v y b)
@@ -135,35 +136,35 @@ module _ {M C : Type 0} (k : Calculus M C) (limits : Limits) (leaves : List (Lea
       }
 
   -- a step
-  pub unique_step : (entered : List (Leaf M C)) (ch : Chart M C) → FactsOf k limits leaves entered ch → Unique k limits leaves ch → (e : Entry M C) → Adds k limits ch e → Unique k limits leaves (step k limits ch e)
-  unique_step entered ch facts unique e adds =
-      rw (adds.made, adds.pending) (by_live e.outcome (all_free ch.into (daughters ch.rows adds.task)))
+  pub unique_step : (entered : List (Leaf M C)) (ch : Chart M C) → FactsOf k limits leaves entered ch → Unique k limits leaves ch → (e : Entry M C) → Follows k limits ch e → Unique k limits leaves (step k limits ch e)
+  unique_step entered ch facts unique e follows =
+      rw (follows.made, follows.pending) (by_live e.outcome (all_free ch.into (daughters ch.rows follows.task)))
     where
-      at : At ch.tasks e.task adds.task
-      at = from_get ch.tasks e.task adds.task adds.made
+      at : At ch.tasks e.task follows.task
+      at = from_get ch.tasks e.task follows.task follows.made
 
       pending : At ch.done e.task None
-      pending = free_at ch.done e.task adds.pending
+      pending = free_at ch.done e.task follows.pending
 
-      row : (w : Row M C) (into : List (Option ℕ)) (added : List Task) (extra : List (Option ℕ)) (made : ℕ) → rule_of w.kind ≡ Some adds.task.rule → w.daughters ≡ daughters ch.rows adds.task → Unique k limits leaves (record (with_done ch e.task) { rows = ch.rows ++ w ∷ []; into = into; tasks = ch.tasks ++ added; done = slice_set ch.done e.task (Some ch.places) ++ extra; made = made })
+      row : (w : Row M C) (into : List (Option ℕ)) (added : List Task) (extra : List (Option ℕ)) (made : ℕ) → rule_of w.kind ≡ Some follows.task.rule → w.daughters ≡ daughters ch.rows follows.task → Unique k limits leaves (record (with_done ch e.task) { rows = ch.rows ++ w ∷ []; into = into; tasks = ch.tasks ++ added; done = slice_set ch.done e.task (Some ch.places) ++ extra; made = made })
       row w into added extra made rule ds =
-          unique_row k limits leaves entered ch facts unique e.task ch.places adds.task w into (slice_set ch.done e.task (Some ch.places) ++ extra) added made (ch.places + 1) at pending rule ds
+          unique_row k limits leaves entered ch facts unique e.task ch.places follows.task w into (slice_set ch.done e.task (Some ch.places) ++ extra) added made (ch.places + 1) at pending rule ds
           (λ s p a. at_append extra (set_keep ch.done e.task s (Some ch.places) (Some p) None a pending (λ z. cc)))
           (at_append extra (set_hit ch.done e.task (Some ch.places) None pending))
 
-      by_peer : (c : C) (m : M) (o : Option ℕ) → peer_over k limits (with_done ch e.task) (whole_row k limits (with_done ch e.task) adds.task c m) m ≡ o → Unique k limits leaves (with_outcome k limits (with_done ch e.task) adds.task (Makes c m))
-      by_peer c m None f = rw f (row (whole_row k limits (with_done ch e.task) adds.task c m) _ _ _ _ refl refl)
+      by_peer : (c : C) (m : M) (o : Option ℕ) → peer_over k limits (with_done ch e.task) (whole_row k limits (with_done ch e.task) follows.task c m) m ≡ o → Unique k limits leaves (with_outcome k limits (with_done ch e.task) follows.task (Makes c m))
+      by_peer c m None f = rw f (row (whole_row k limits (with_done ch e.task) follows.task c m) _ _ _ _ refl refl)
       by_peer c m (Some r) f =
           rw f
-          (subst (λ ts. Unique k limits leaves (record (with_done ch e.task) { rows = ch.rows ++ whole_row k limits (with_done ch e.task) adds.task c m ∷ []; into = ch.into ++ Some r ∷ []; tasks = ts })) (append-nil ch.tasks)
-          (subst (λ ds. Unique k limits leaves (record (with_done ch e.task) { rows = ch.rows ++ whole_row k limits (with_done ch e.task) adds.task c m ∷ []; into = ch.into ++ Some r ∷ []; tasks = ch.tasks ++ []; done = ds })) (append-nil (slice_set ch.done e.task (Some ch.places)))
-          (row (whole_row k limits (with_done ch e.task) adds.task c m) (ch.into ++ Some r ∷ []) [] [] ch.made refl refl)))
+          (subst (λ ts. Unique k limits leaves (record (with_done ch e.task) { rows = ch.rows ++ whole_row k limits (with_done ch e.task) follows.task c m ∷ []; into = ch.into ++ Some r ∷ []; tasks = ts })) (append-nil ch.tasks)
+          (subst (λ ds. Unique k limits leaves (record (with_done ch e.task) { rows = ch.rows ++ whole_row k limits (with_done ch e.task) follows.task c m ∷ []; into = ch.into ++ Some r ∷ []; tasks = ch.tasks ++ []; done = ds })) (append-nil (slice_set ch.done e.task (Some ch.places)))
+          (row (whole_row k limits (with_done ch e.task) follows.task c m) (ch.into ++ Some r ∷ []) [] [] ch.made refl refl)))
 
-      by_outcome : (o : Outcome M C) → Unique k limits leaves (with_outcome k limits (with_done ch e.task) adds.task o)
+      by_outcome : (o : Outcome M C) → Unique k limits leaves (with_outcome k limits (with_done ch e.task) follows.task o)
       by_outcome Fails = unique_done ch unique e.task pending
-      by_outcome (Fits c) = row (partial_row k limits (with_done ch e.task) adds.task c) _ _ _ _ refl refl
-      by_outcome (Makes c m) = by_peer c m (peer_over k limits (with_done ch e.task) (whole_row k limits (with_done ch e.task) adds.task c m) m) refl
+      by_outcome (Fits c) = row (partial_row k limits (with_done ch e.task) follows.task c) _ _ _ _ refl refl
+      by_outcome (Makes c m) = by_peer c m (peer_over k limits (with_done ch e.task) (whole_row k limits (with_done ch e.task) follows.task c m) m) refl
 
-      by_live : (o : Outcome M C) (b : Bool) → Unique k limits leaves (if b then with_outcome k limits (with_done ch e.task) adds.task o else with_done ch e.task)
+      by_live : (o : Outcome M C) (b : Bool) → Unique k limits leaves (if b then with_outcome k limits (with_done ch e.task) follows.task o else with_done ch e.task)
       by_live o true = by_outcome o
       by_live o false = unique_done ch unique e.task pending

@@ -1,19 +1,28 @@
--- After every legal history in which nothing is pending, the chart is complete over its leaves.
+-- After every history in which nothing is pending, the chart is complete over its leaves.
 use Rattle.std.specs.Prelude.{◌≡◌, ℕ, true, Option, Some, None, List, [], ◌∷◌, ◌++◌, length, refl}
 use Rattle.std.proofs.Common.{suc, ap, subst, sym, ◌∙◌, arith, append_assoc, append-nil}
 use Rattle.cover.specs.Calculus.{Calculus, Laws, Agreement}
-use Rattle.chart_model.specs.Chart.{Kind, OfLeaf, OfPartial, OfWhole, Row, Chart, Leaf, Limits, all_free, covers_at, shapes_at, levels_at, level_above, peer_over, with_whole, leaf_row, opened, empty, step, replayed, Replay, Entry, IsLegal}
+use Rattle.chart_model.specs.Chart.{Kind, OfLeaf, OfPartial, OfWhole, Row, Chart, Leaf, Limits, all_free, covers_at, shapes_at, levels_at, level_above, peer_over, with_whole, leaf_row, opened, empty, step, replayed, Replay, Entry, Adds, IsLegal}
+use Rattle.chart_model.specs.Below.{Follows, IsRun}
 use Rattle.chart_model.specs.Finished.{NothingPending, LeavesHaveRows, AreLow, IsMother, IsWhole, OneRow, RowsHaveHosts, IsComplete}
 use Rattle.chart_model.specs.Grown.{HoldsTrees}
 use Rattle.chart_model.specs.At.{At, here, there}
-use Rattle.chart_model.proofs.Complete.{RowOk, whole_ok, FactsOf, Facts, Low, no_low, more_low, WholeRow, whole_of, hosts_are_classes, rule_of, led}
-use Rattle.chart_model.proofs.Steps.{facts_leaf, facts_empty, facts_step, facts_of_history}
+use Rattle.chart_model.proofs.Complete.{RowOk, whole_ok, FactsOf, Facts, Low, no_low, more_low, WholeRow, all_due, whole_of, hosts_are_classes, rule_of, led}
+use Rattle.chart_model.proofs.Steps.{facts_leaf, facts_empty, facts_step, facts_of_run}
 use Rattle.chart_model.proofs.Unique.{Unique, unique_leaf, unique_step}
 use Rattle.chart_model.proofs.Leaves.{leaves_have_rows}
 use Rattle.chart_model.proofs.Trees.{trees_held}
 use Rattle.chart_model.proofs.Gather
 
 module _ {M C : Type 0} (k : Calculus M C) (limits : Limits) (leaves : List (Leaf M C)) where
+  follows_of : (ch : Chart M C) (e : Entry M C) → Adds k limits ch e → Follows k limits ch e
+  follows_of ch e adds = record { task = adds.task; made = adds.made; pending = adds.pending; skipped = adds.skipped; right = adds.right }
+
+  -- a legal history needs no word about room
+  pub run_of : (ch : Chart M C) (history : List (Entry M C)) → IsLegal k limits ch history → IsRun k limits ch history
+  run_of ch [] legal = tt
+  run_of ch (e ∷ es) legal = (follows_of ch e legal.0, run_of (step k limits ch e) es legal.1)
+
   unique_by : (entered : List (Leaf M C)) (ch : Chart M C) → FactsOf k limits leaves entered ch → Unique k limits leaves ch → (leaf : Leaf M C) (o : Option ℕ) → peer_over k limits ch (leaf_row k limits leaf) leaf.shape ≡ o → Unique k limits leaves (with_whole k limits ch (leaf_row k limits leaf) leaf.shape)
   unique_by entered ch facts unique leaf None e = rw e (unique_leaf k limits leaves entered ch facts unique (leaf_row k limits leaf) _ _ _ _ refl)
   unique_by entered ch facts unique leaf (Some r) e =
@@ -31,16 +40,16 @@ module _ {M C : Type 0} (k : Calculus M C) (limits : Limits) (leaves : List (Lea
       (unique_by entered ch facts unique leaf (peer_over k limits ch (leaf_row k limits leaf) leaf.shape) refl)
       (append_assoc entered (leaf ∷ []) rest ∙ e)
 
-  unique_replayed : (laws : Laws k) (ch : Chart M C) (history : List (Entry M C)) → FactsOf k limits leaves leaves ch → Unique k limits leaves ch → IsLegal k limits ch history → Unique k limits leaves (replayed k limits ch history)
-  unique_replayed laws ch [] facts unique legal = unique
-  unique_replayed laws ch (e ∷ es) facts unique legal = unique_replayed laws (step k limits ch e) es (facts_step k limits leaves laws leaves ch facts e legal.0) (unique_step k limits leaves leaves ch facts unique e legal.0) legal.1
+  unique_replayed : (laws : Laws k) (ch : Chart M C) (history : List (Entry M C)) → FactsOf k limits leaves leaves ch → Unique k limits leaves ch → IsRun k limits ch history → Unique k limits leaves (replayed k limits ch history)
+  unique_replayed laws ch [] facts unique run = unique
+  unique_replayed laws ch (e ∷ es) facts unique run = unique_replayed laws (step k limits ch e) es (facts_step k limits leaves laws leaves ch facts e run.0) (unique_step k limits leaves leaves ch facts unique e run.0) run.1
 
-  pub unique_of_history : Laws k → (history : List (Entry M C)) → IsLegal k limits (opened k limits (empty k limits) leaves) history → Unique k limits leaves (Replay k limits leaves history)
-  unique_of_history laws history legal =
+  pub unique_of_run : Laws k → (history : List (Entry M C)) → IsRun k limits (opened k limits (empty k limits) leaves) history → Unique k limits leaves (Replay k limits leaves history)
+  unique_of_run laws history run =
       unique_replayed laws (opened k limits (empty k limits) leaves) history
-      (facts_of_history k limits leaves laws [] tt)
+      (facts_of_run k limits leaves laws [] tt)
       (unique_opened laws [] leaves (empty k limits) (facts_empty k limits leaves) (record { origin = λ i row r a e. elim a [ ]; row_once = λ i j a b r p q e f g. elim p [ ] }) refl)
-      legal
+      run
 
   module _ (laws : Laws k) (ch : Chart M C) (facts : Facts k limits leaves ch) (all_done : NothingPending ch) (unique : Unique k limits leaves ch) where
     low_of : (ds : List ℕ) → AreLow k limits leaves ch ds → Low k limits leaves ch.rows ch.into ds
@@ -67,7 +76,7 @@ module _ {M C : Type 0} (k : Calculus M C) (limits : Limits) (leaves : List (Lea
 
     one_row_of : (rule : ℕ) (ds : List ℕ) → IsWhole k limits leaves ch rule ds → OneRow k limits leaves ch rule ds
     one_row_of rule ds is =
-        let w = whole_of k limits leaves laws ch facts all_done rule ds is.rule_is (low_of ds is.low) (record { cover = is.cover; covers = is.covers; apply = is.applies; whole = is.whole }) in
+        let w = whole_of k limits leaves laws ch facts rule ds (all_due k limits leaves ch all_done rule ds) is.rule_is (low_of ds is.low) (record { cover = is.cover; covers = is.covers; apply = is.applies; whole = is.whole }) in
         record {
           number = w.number;
           row = w.row;
@@ -106,11 +115,17 @@ module _ {M C : Type 0} (k : Calculus M C) (limits : Limits) (leaves : List (Lea
         }
 
   -- whatever order the outcomes of tasks are entered in, a chart with nothing pending is complete over its leaves
+  pub complete_run : Laws k → (history : List (Entry M C)) → IsRun k limits (opened k limits (empty k limits) leaves) history → NothingPending (Replay k limits leaves history) → IsComplete k limits leaves (Replay k limits leaves history)
+  complete_run laws history run all_done =
+      is_complete laws (Replay k limits leaves history) (facts_of_run k limits leaves laws history run) all_done (unique_of_run laws history run) (leaves_have_rows k limits leaves history)
+
   pub complete_chart : Laws k → (history : List (Entry M C)) → IsLegal k limits (opened k limits (empty k limits) leaves) history → NothingPending (Replay k limits leaves history) → IsComplete k limits leaves (Replay k limits leaves history)
-  complete_chart laws history legal all_done =
-      is_complete laws (Replay k limits leaves history) (facts_of_history k limits leaves laws history legal) all_done (unique_of_history laws history legal) (leaves_have_rows k limits leaves history)
+  complete_chart laws history legal all_done = complete_run laws history (run_of (opened k limits (empty k limits) leaves) history legal) all_done
 
   -- and each tree with a full structure stands in exactly one group of its forest
+  pub forest_run : {F : Type 0} → Laws k → (full : ℕ → List F → F → Type 0) (agrees : M → F → Type 0) → Agreement k.over k.applies k.mother full agrees → (history : List (Entry M C)) → IsRun k limits (opened k limits (empty k limits) leaves) history → NothingPending (Replay k limits leaves history) → HoldsTrees k full agrees limits leaves (Replay k limits leaves history)
+  forest_run laws full agrees agree history run all_done =
+      λ t c g. trees_held k full agrees agree (λ leaf f. agrees leaf.shape f) (λ leaf f a. a) limits leaves laws (Replay k limits leaves history) (facts_of_run k limits leaves laws history run) all_done (unique_of_run laws history run) (leaves_have_rows k limits leaves history) t c g
+
   pub complete_forest : {F : Type 0} → Laws k → (full : ℕ → List F → F → Type 0) (agrees : M → F → Type 0) → Agreement k.over k.applies k.mother full agrees → (history : List (Entry M C)) → IsLegal k limits (opened k limits (empty k limits) leaves) history → NothingPending (Replay k limits leaves history) → HoldsTrees k full agrees limits leaves (Replay k limits leaves history)
-  complete_forest laws full agrees agree history legal all_done =
-      λ t c g. trees_held k full agrees agree (λ leaf f. agrees leaf.shape f) (λ leaf f a. a) limits leaves laws (Replay k limits leaves history) (facts_of_history k limits leaves laws history legal) all_done (unique_of_history laws history legal) (leaves_have_rows k limits leaves history) t c g
+  complete_forest laws full agrees agree history legal all_done = forest_run laws full agrees agree history (run_of (opened k limits (empty k limits) leaves) history legal) all_done

@@ -4,3 +4,6 @@ pub mod Classes
 pub mod Grown
 pub mod Finished
 pub mod Picked
+pub mod Limits
+pub mod Below
+pub mod Ordered

@@ -1,0 +1,14 @@
+//! The completion of a type hierarchy by the meets that it lacks.
+#![tactic(auto)]
+
+mod completion;
+mod family;
+mod fault;
+mod spread;
+
+pub use completion::complete;
+pub use family::MOST_COMPLETED;
+pub use fault::CompleteFault;
+
+#[cfg(test)]
+mod tests;

@@ -1,0 +1,101 @@
+//! What the set at one place has in common with written types.
+
+ghost use Rattle.std.specs.Prelude.{◌≡◌, ℕ, ◌<◌, ◌≤◌, ◌*◌, ◌&&◌, ◌||◌, not, length, IfOk, IfErr, OnOk, All};
+ghost use Rattle.type_hierarchy.specs.Bits.{has_bit, IsRow};
+ghost use Rattle.type_hierarchy.specs.Inside.{row_items};
+ghost use Rattle.type_hierarchy.specs.Laws.{IsHierarchy};
+ghost use Rattle.glb_completion.specs.Completion.{IsCompleteFault};
+ghost use Rattle.glb_completion.specs.Growing.{IsUpRow, IsGrowing, HasNear, StartsWith, IsMet, IsSpread};
+
+use crate::family::Family;
+use crate::fault::CompleteFault;
+use std::alloc::{AllocError, Global};
+use type_hierarchy::{Hierarchy, bits};
+
+// The types that have a member in common with a set.
+fn near(
+    alloc: Global,
+    h: &Hierarchy,
+    above: &[Vec<u64>],
+    set: &[u64],
+) -> Result<Vec<u64>, AllocError>
+    requires enough { h.now.written ≤ length above.now }
+    requires rows { All (λ row. IsRow h.now.written row.items) above.now }
+    requires up { (t : ℕ) → t < h.now.written → IsUpRow h.now t (row_items above.now t) }
+    requires set { IsRow h.now.written set.now }
+    ensures row { IfOk result (λ v. IsRow h.now.written v.items) }
+    ensures near { IfOk result (λ v. HasNear h.now set.now v.items) }
+{
+    let mut x = h.count();
+    let mut near = bits::empty(alloc, x)?;
+    while x > 0 {
+        x -= 1;
+        if bits::has(set, x) && !bits::has(&near, x) {
+            near = bits::united(alloc, &near, &above[x as usize])?;
+        }
+    }
+    Ok(near)
+}
+
+// Adds what the set at a place has in common with one written type.
+fn meet_with(
+    alloc: Global,
+    h: &Hierarchy,
+    family: &mut Family,
+    at: usize,
+    t: u32,
+) -> Result<(), CompleteFault>
+    requires laws { IsHierarchy h.now }
+    requires growing { IsGrowing h.now family.old.sets.keys family.old.above.items }
+    requires at_in { at < length family.old.sets.keys }
+    requires t_in { t < h.now.written }
+    ensures growing { OnOk result (IsGrowing h.now family.new.sets.keys family.new.above.items) }
+    ensures more { OnOk result (StartsWith family.new.sets.keys family.old.sets.keys) }
+    ensures met { OnOk result (IsMet h.now family.new.sets.keys at t) }
+    ensures fault { IfErr result (IsCompleteFault h.now) }
+{
+    let set = family.sets.as_slice()[at].as_slice();
+    if bits::are_disjoint(set, h.row(t)) {
+        return Ok(());
+    }
+    let common = bits::common(alloc, set, h.row(t))?;
+    let more = bits::united(alloc, &family.above[at], &family.above[t as usize])?;
+    family.add(common, more)
+}
+
+/// Adds what the set at a place has in common with each written type.
+///
+/// Only types that share a member with the set, and are neither in it nor known to be above all of it, can give
+/// a set that isn't there.
+pub fn spread(
+    alloc: Global,
+    h: &Hierarchy,
+    family: &mut Family,
+    at: usize,
+) -> Result<(), CompleteFault>
+    requires growing { IsGrowing h.now family.old.sets.keys family.old.above.items }
+    requires at_in { at < length family.old.sets.keys }
+    ensures growing { OnOk result (IsGrowing h.now family.new.sets.keys family.new.above.items) }
+    ensures more { OnOk result (StartsWith family.new.sets.keys family.old.sets.keys) }
+    ensures spread { OnOk result (IsSpread h.now family.new.sets.keys at) }
+    ensures fault { IfErr result (IsCompleteFault h.now) }
+{
+    let near = near(alloc, h, &family.above, &family.sets.as_slice()[at])?;
+    for t in 0..h.count() {
+        if bits::has(&near, t) && is_open(family, at, t) {
+            meet_with(alloc, h, family, at, t)?;
+        }
+    }
+    Ok(())
+}
+
+// Whether a type is neither in the set at a place nor known to be above all of it.
+fn is_open(family: &Family, at: usize, t: u32) -> bool
+    requires at_in { at < length family.now.sets.keys }
+    requires pairs { length family.now.above.items ≡ length family.now.sets.keys }
+    requires in_set { t < 64 * length (row_items family.now.sets.keys at) }
+    requires in_above { t < 64 * length (row_items family.now.above.items at) }
+    ensures { result ≡ (not (has_bit (row_items family.now.sets.keys at) t) && not (has_bit (row_items family.now.above.items at) t)) }
+{
+    !bits::has(&family.sets.as_slice()[at], t) && !bits::has(&family.above[at], t)
+}

@@ -1,0 +1,13 @@
+pub mod Faults
+pub mod GoesOn
+pub mod GroupForms
+pub mod GroupLemmas
+pub mod Holds
+pub mod Nesting
+pub mod Reached
+pub mod Rows
+pub mod SetForms
+pub mod Spelled
+pub mod Stacks
+pub mod Stands
+pub mod StageLemmas

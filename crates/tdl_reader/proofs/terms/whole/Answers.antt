@@ -1,0 +1,6 @@
+use Rattle.std.proofs.Common.{◌∙◌}
+use Rattle.tdl_reader.proofs.Rows.{body_roll, view_of_body}
+use Rattle.tdl_reader.proofs.terms.whole.Goals as goal
+
+pub returns-clause-found : goal.returns-clause-found
+returns-clause-found c = body_roll c.push.new.self ∙ view_of_body c.args.terms.items c.push.new.self.items c.args.last c.in_ok-push.ensures.items

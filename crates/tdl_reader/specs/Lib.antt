@@ -1,0 +1,12 @@
+pub mod Grammar
+pub mod GroupScan
+pub mod Groups
+pub mod Machine
+pub mod Reading
+pub mod Running
+pub mod Stages
+pub mod States
+pub mod Texts
+pub mod Toks
+pub mod Trees
+pub mod Views

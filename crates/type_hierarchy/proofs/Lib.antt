@@ -1,0 +1,15 @@
+pub mod BitLemmas
+pub mod ReachLemmas
+pub mod ListLemmas
+pub mod NameLemmas
+pub mod ParentLemmas
+pub mod SetLemmas
+pub mod LawLemmas
+pub mod RowLemmas
+pub mod HierarchyLemmas
+pub mod DeclLemmas
+pub mod TypeLemmas
+pub mod FamilyLemmas
+pub mod MarkLemmas
+pub mod PlaceLemmas
+pub mod SupertypeLemmas

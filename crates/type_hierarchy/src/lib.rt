@@ -1,0 +1,22 @@
+//! Type hierarchies: what is written, and the completed types with their meets.
+#![tactic(auto)]
+
+pub mod bits;
+mod decl;
+mod faults;
+mod hierarchy;
+mod marks;
+mod names;
+mod order;
+mod parents;
+mod places;
+mod rows;
+mod supertypes;
+mod types;
+
+pub use decl::{Decl, TypeFault};
+pub use hierarchy::{Hierarchy, MOST_TYPES};
+pub use types::{NoMemory, Ty, TypeCounts, Types};
+
+#[cfg(test)]
+mod tests;
