@@ -4,6 +4,7 @@
 #![tactic(auto)]
 
 mod hierarchies;
+mod lexing;
 mod report;
 mod types;
 
@@ -15,6 +16,9 @@ fn main(rt: HostRuntime) -> io::Result<()> {
     let asked = word.unwrap_or(String::new(rt.alloc()));
     if is_asked(asked.as_str(), "types") {
         types::measure(&rt, rt.alloc(), timed)?;
+    }
+    if is_asked(asked.as_str(), "lexing") {
+        lexing::measure(&rt, rt.alloc(), timed)?;
     }
     Ok(())
 }
