@@ -7,17 +7,19 @@ use Rattle.first_grammar.specs.Grammar.{Grammar}
 use Rattle.first_grammar.specs.File.{IsFirstGrammar}
 use Rattle.lkb.specs.declared.lines.Stop.TheVariants.{Read, TooLong, TooMany, Write, NoMemory}
 use Rattle.lkb.specs.declared.faults.Fault.{Fault}
-use Rattle.lkb.specs.declared.faults.Fault.TheVariants.{Usage, File, Stopped}
+use Rattle.lkb.specs.declared.faults.Fault.TheVariants.{Usage, File, Found, Stopped}
 use Rattle.lkb.specs.declared.faults.FileFault.{FileFault}
 use Rattle.lkb.specs.declared.faults.FileFault.TheVariants.{Shelf, TooLong as FileTooLong, NotBuilt}
 use Rattle.lkb.specs.declared.faults.Status.TheVariants.{ReadFault, NoMemory as NoMemoryStatus}
-use Rattle.lkb.specs.Words.{Form, help, version, parse, file_of}
+use Rattle.lkb.specs.Words.{Form, help, version, parse, types, file_of}
 use Rattle.lkb.specs.Readings.{AreLines, AreShort, AreReadable, ReadsAll, ReadsPart, Reads}
 use Rattle.lkb.specs.Files.{Shelves, IsGrammarOf, FileFails}
 use Rattle.lkb.specs.Reports.{Streams, IsServed, IsServedTo, IsServedToLast}
 use Rattle.lkb.specs.Endings.{IsReport, Ran, IsLoadable, FormFails, Ended, IsWhole, status_of}
 use Rattle.lkb.proofs.Readings.{cut-text}
+use Rattle.lkb.specs.Grammars.{fault_at}
 use Rattle.lkb.proofs.Clauses.{ran-report}
+use Rattle.lkb.proofs.GrammarLemmas.{Outcomes, no-types-fault}
 
 -- whole lines, and then any text
 lines-front : (lines : List (List ℕ)) (rest : List ℕ) → AreLines lines → lines_of (text_of lines ++ rest) ≡ lines ++ lines_of rest
@@ -92,44 +94,49 @@ no-file-fault h files file grammar NotBuilt e is fails none =
 abbrev StopsLate : Shelves → Streams → Form → Type 0
 StopsLate h o form = ((r : IsServedTo (IsReport h.files form) o) × IsTooLong r.part) ⊎ IsServedToLast (IsReport h.files form) o
 
-abbrev IsSettled : Shelves → Streams → (unread : Type 0) → Form → Result Bool Fault → Type 0
-IsSettled h o unread form end = ((status_of end ≡ NoMemoryStatus) ⊎ ((refused : Bool) × (end ≡ Ok refused) × Ran h o unread form (Ok refused))) ⊎ ((status_of end ≡ ReadFault) × StopsLate h o form)
+abbrev IsSettled : Shelves → Streams → (unread idle : Type 0) → Form → Result Bool Fault → Type 0
+IsSettled h o unread idle form end = ((status_of end ≡ NoMemoryStatus) ⊎ ((refused : Bool) × (end ≡ Ok refused) × Ran h o unread idle form (Ok refused))) ⊎ ((status_of end ≡ ReadFault) × StopsLate h o form)
 
-no-fault : (h : Shelves) (form : Form) (cause : FileFault) (files : List ℕ → Option (List ℕ)) → h.files ≡ Some files → IsLoadable h.files form → FormFails h form cause → (HasRisen h.faults_old h.faults_new → ⊥) → ⊥
-no-fault h help cause files e is fails none = fails
-no-fault h version cause files e is fails none = fails
-no-fault h (parse name) cause files e is fails none = no-file-fault h files (file_of name) is.0 cause e is.1 fails none
+no-fault : (h : Shelves) (form : Form) (fault : Fault) (files : List ℕ → Option (List ℕ)) → Outcomes → h.files ≡ Some files → IsLoadable h.files form → FormFails h form fault → (HasRisen h.faults_old h.faults_new → ⊥) → ⊥
+no-fault h (parse name) (File cause) files laws e is fails none = no-file-fault h files (file_of name) is.0 cause e is.1 fails none
+no-fault h (types name options) (Found file at why) files laws e is fails none = no-types-fault h files name options.settings is.0 (fault_at file at why) laws e is.1 fails none
+no-fault h form fault files laws e is fails none = absurd fails
 
-ran-read : (h : Shelves) (o : Streams) (unread : Type 0) (form : Form) → Ran h o unread form (Err Read) → HasRisen o.in_old o.in_new
-ran-read h o unread help s = absurd s.0
-ran-read h o unread version s = absurd s.0
-ran-read h o unread (parse name) s = s.2
+ran-read : (h : Shelves) (o : Streams) (unread idle : Type 0) (form : Form) → Ran h o unread idle form (Err Read) → HasRisen o.in_old o.in_new
+ran-read h o unread idle help s = absurd s.0
+ran-read h o unread idle version s = absurd s.0
+ran-read h o unread idle (parse name) s = s.2
+ran-read h o unread idle (types name options) s = absurd s.0
 
-ran-write : (h : Shelves) (o : Streams) (unread : Type 0) (form : Form) → Ran h o unread form (Err Write) → HasRisen o.out_old o.out_new
-ran-write h o unread help s = s.0.1
-ran-write h o unread version s = s.0.1
-ran-write h o unread (parse name) s = s.1
+ran-write : (h : Shelves) (o : Streams) (unread idle : Type 0) (form : Form) → Ran h o unread idle form (Err Write) → HasRisen o.out_old o.out_new
+ran-write h o unread idle help s = s.0.1
+ran-write h o unread idle version s = s.0.1
+ran-write h o unread idle (parse name) s = s.1
+ran-write h o unread idle (types name options) s = s.0.1
 
-ran-too_long : (h : Shelves) (o : Streams) (unread : Type 0) (form : Form) → Ran h o unread form (Err TooLong) → StopsLate h o form
-ran-too_long h o unread help s = absurd s.0
-ran-too_long h o unread version s = absurd s.0
-ran-too_long h o unread (parse name) s = inl s
+ran-too_long : (h : Shelves) (o : Streams) (unread idle : Type 0) (form : Form) → Ran h o unread idle form (Err TooLong) → StopsLate h o form
+ran-too_long h o unread idle help s = absurd s.0
+ran-too_long h o unread idle version s = absurd s.0
+ran-too_long h o unread idle (parse name) s = inl s
+ran-too_long h o unread idle (types name options) s = absurd s.0
 
-ran-too_many : (h : Shelves) (o : Streams) (unread : Type 0) (form : Form) → Ran h o unread form (Err TooMany) → StopsLate h o form
-ran-too_many h o unread help s = absurd s.0
-ran-too_many h o unread version s = absurd s.0
-ran-too_many h o unread (parse name) s = inr s
+ran-too_many : (h : Shelves) (o : Streams) (unread idle : Type 0) (form : Form) → Ran h o unread idle form (Err TooMany) → StopsLate h o form
+ran-too_many h o unread idle help s = absurd s.0
+ran-too_many h o unread idle version s = absurd s.0
+ran-too_many h o unread idle (parse name) s = inr s
+ran-too_many h o unread idle (types name options) s = absurd s.0
 
-settled : (h : Shelves) (o : Streams) (unread untouched : Type 0) (form : Form) (end : Result Bool Fault) (files : List ℕ → Option (List ℕ)) → Ended h o unread untouched (Some form) end → h.files ≡ Some files → IsLoadable h.files form
-    → (HasRisen h.faults_old h.faults_new → ⊥) → (HasRisen o.in_old o.in_new → ⊥) → (HasRisen o.out_old o.out_new → ⊥) → IsSettled h o unread form end
-settled h o unread untouched form (Ok refused) files s e is no_shelf no_in no_out = inl (inr (refused, refl, s))
-settled h o unread untouched form (Err Usage) files s e is no_shelf no_in no_out = absurd s
-settled h o unread untouched form (Err (File cause)) files s e is no_shelf no_in no_out = absurd (no-fault h form cause files e is s.0 no_shelf)
-settled h o unread untouched form (Err (Stopped Read)) files s e is no_shelf no_in no_out = absurd (no_in (ran-read h o unread form s))
-settled h o unread untouched form (Err (Stopped TooLong)) files s e is no_shelf no_in no_out = inr (refl, ran-too_long h o unread form s)
-settled h o unread untouched form (Err (Stopped TooMany)) files s e is no_shelf no_in no_out = inr (refl, ran-too_many h o unread form s)
-settled h o unread untouched form (Err (Stopped Write)) files s e is no_shelf no_in no_out = absurd (no_out (ran-write h o unread form s))
-settled h o unread untouched form (Err (Stopped NoMemory)) files s e is no_shelf no_in no_out = inl (inl refl)
+settled : (h : Shelves) (o : Streams) (unread idle untouched : Type 0) (form : Form) (end : Result Bool Fault) (files : List ℕ → Option (List ℕ)) → Outcomes → Ended h o unread idle untouched (Some form) end → h.files ≡ Some files → IsLoadable h.files form
+    → (HasRisen h.faults_old h.faults_new → ⊥) → (HasRisen o.in_old o.in_new → ⊥) → (HasRisen o.out_old o.out_new → ⊥) → IsSettled h o unread idle form end
+settled h o unread idle untouched form (Ok refused) files laws s e is no_shelf no_in no_out = inl (inr (refused, refl, s))
+settled h o unread idle untouched form (Err Usage) files laws s e is no_shelf no_in no_out = absurd s
+settled h o unread idle untouched form (Err (File cause)) files laws s e is no_shelf no_in no_out = absurd (no-fault h form (File cause) files laws e is s.0 no_shelf)
+settled h o unread idle untouched form (Err (Found file at why)) files laws s e is no_shelf no_in no_out = absurd (no-fault h form (Found file at why) files laws e is s.0 no_shelf)
+settled h o unread idle untouched form (Err (Stopped Read)) files laws s e is no_shelf no_in no_out = absurd (no_in (ran-read h o unread idle form s))
+settled h o unread idle untouched form (Err (Stopped TooLong)) files laws s e is no_shelf no_in no_out = inr (refl, ran-too_long h o unread idle form s)
+settled h o unread idle untouched form (Err (Stopped TooMany)) files laws s e is no_shelf no_in no_out = inr (refl, ran-too_many h o unread idle form s)
+settled h o unread idle untouched form (Err (Stopped Write)) files laws s e is no_shelf no_in no_out = absurd (no_out (ran-write h o unread idle form s))
+settled h o unread idle untouched form (Err (Stopped NoMemory)) files laws s e is no_shelf no_in no_out = inl (inl refl)
 
 readable-on : (h : Shelves) (o : Streams) (form : Form) (bytes : List ℕ) → o.left_old ≡ Some bytes → AreReadable (lines_of bytes) → StopsLate h o form → ⊥
 readable-on h o form bytes l can (inl s) = no-long bytes o.left_new s.0.lines s.0.part (subst (λ left. ReadsPart left o.left_new s.0.lines s.0.part) l s.0.reads) s.1 can.0
@@ -139,24 +146,24 @@ readable-on h o form bytes l can (inr r) =
     let few = can.1 in
     omega (arith, le, n, few)
 
-pub complete : (h : Shelves) (o : Streams) (unread untouched : Type 0) (form : Form) (end : Result Bool Fault) (files : List ℕ → Option (List ℕ)) (bytes : List ℕ) → Ended h o unread untouched (Some form) end → h.files ≡ Some files → IsLoadable h.files form
+pub complete : (h : Shelves) (o : Streams) (unread idle untouched : Type 0) (form : Form) (end : Result Bool Fault) (files : List ℕ → Option (List ℕ)) (bytes : List ℕ) → Outcomes → Ended h o unread idle untouched (Some form) end → h.files ≡ Some files → IsLoadable h.files form
     → o.left_old ≡ Some bytes → AreReadable (lines_of bytes) → (HasRisen h.faults_old h.faults_new → ⊥) → (HasRisen o.in_old o.in_new → ⊥) → (HasRisen o.out_old o.out_new → ⊥) → IsWhole h o form bytes (status_of end)
-complete h o unread untouched form end files bytes s e is l can no_shelf no_in no_out = by_cases (settled h o unread untouched form end files s e is no_shelf no_in no_out)
+complete h o unread idle untouched form end files bytes laws s e is l can no_shelf no_in no_out = by_cases (settled h o unread idle untouched form end files laws s e is no_shelf no_in no_out)
   where
-    by_cases : IsSettled h o unread form end → IsWhole h o form bytes (status_of end)
+    by_cases : IsSettled h o unread idle form end → IsWhole h o form bytes (status_of end)
     by_cases (inl (inl m)) = inl m
-    by_cases (inl (inr r)) = let w = ran-report h o unread form r.0 bytes r.2 l in inr (w.0, r.0, w.1, w.2, ap status_of r.1)
+    by_cases (inl (inr r)) = let w = ran-report h o unread idle form r.0 bytes r.2 l in inr (w.0, r.0, w.1, w.2, ap status_of r.1)
     by_cases (inr r) = absurd (readable-on h o form bytes l can r.1)
 
 -- A line that can't be read, or want of memory.
-pub unreadable : (h : Shelves) (o : Streams) (unread untouched : Type 0) (name : List ℕ) (end : Result Bool Fault) (files : List ℕ → Option (List ℕ)) (bytes : List ℕ) → Ended h o unread untouched (Some (parse name)) end → h.files ≡ Some files → IsLoadable h.files (parse name)
+pub unreadable : (h : Shelves) (o : Streams) (unread idle untouched : Type 0) (name : List ℕ) (end : Result Bool Fault) (files : List ℕ → Option (List ℕ)) (bytes : List ℕ) → Outcomes → Ended h o unread idle untouched (Some (parse name)) end → h.files ≡ Some files → IsLoadable h.files (parse name)
     → o.left_old ≡ Some bytes → (AreReadable (lines_of bytes) → ⊥) → (HasRisen h.faults_old h.faults_new → ⊥) → (HasRisen o.in_old o.in_new → ⊥) → (HasRisen o.out_old o.out_new → ⊥) → (status_of end ≡ ReadFault) ⊎ (status_of end ≡ NoMemoryStatus)
-unreadable h o unread untouched name end files bytes s e is l can no_shelf no_in no_out = by_cases (settled h o unread untouched (parse name) end files s e is no_shelf no_in no_out)
+unreadable h o unread idle untouched name end files bytes laws s e is l can no_shelf no_in no_out = by_cases (settled h o unread idle untouched (parse name) end files laws s e is no_shelf no_in no_out)
   where
     readable : (refused : Bool) → IsServed (IsReport h.files (parse name)) o refused → AreReadable (lines_of bytes)
     readable refused r = let reads = subst (λ left. ReadsAll left o.left_new r.lines) l r.reads in subst AreReadable reads.0 (reads.1, r.few)
 
-    by_cases : IsSettled h o unread (parse name) end → (status_of end ≡ ReadFault) ⊎ (status_of end ≡ NoMemoryStatus)
+    by_cases : IsSettled h o unread idle (parse name) end → (status_of end ≡ ReadFault) ⊎ (status_of end ≡ NoMemoryStatus)
     by_cases (inl (inl m)) = inr m
     by_cases (inl (inr r)) = absurd (can (readable r.0 r.2))
     by_cases (inr r) = inl r.0

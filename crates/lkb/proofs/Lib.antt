@@ -4,6 +4,13 @@ pub mod Pieces
 pub mod Endings
 pub mod Telling
 pub mod Runs
+pub mod OutcomeLemmas
+pub mod GrammarLemmas
+pub mod TypeLines
+pub mod TypeRuns
 pub mod Clauses
+pub mod Firsts
 pub mod Complete
 pub mod OneReport
+pub mod WordTests
+pub mod Forms

@@ -3,8 +3,11 @@ use Rattle.std.proofs.Common.{suc, ◌≡◌, ℕ, ◌∙◌, sym, ap, refl, Lis
 use Rattle.first_grammar.specs.Grammar.{Grammar}
 use Rattle.first_grammar.specs.File.{IsFirstGrammar}
 use Rattle.first_parse.specs.Report.{IsAnswer, HasOneAnswer}
-use Rattle.lkb.specs.Words.{Form, help, version, parse, file_of}
+use Rattle.lkb.specs.Words.{Form, help, version, parse, types, file_of}
 use Rattle.lkb.specs.Reports.{AreAnswers, no_line, a_line}
+use Rattle.type_hierarchy.specs.Table.{TypeTable}
+use Rattle.lkb.specs.Grammars.{HasTypes}
+use Rattle.lkb.specs.TypeReports.{type_lines}
 use Rattle.lkb.specs.Endings.{IsReport}
 
 -- the reports of lines, where each line has one answer
@@ -21,12 +24,15 @@ some-same : (file : Option (List ℕ)) (a b : List ℕ) → file ≡ Some a → 
 some-same file a b p q = let e : Some a ≡ Some b = sym p ∙ q in cc
 
 pub one-report : ((text : List ℕ) (g h : Grammar) → IsFirstGrammar text g → IsFirstGrammar text h → g ≡ h) → ((g : Grammar) (number : ℕ) (line : List ℕ) → HasOneAnswer g number line)
+    → ((files : List ℕ → Option (List ℕ)) (name : List ℕ) (settings : Option (List ℕ)) (t u : TypeTable) → HasTypes (Some files) name settings t → HasTypes (Some files) name settings u → t ≡ u)
     → (files : List ℕ → Option (List ℕ)) (form : Form) (lines pieces others : List (List ℕ)) (refused may : Bool)
     → IsReport (Some files) form lines pieces refused → IsReport (Some files) form lines others may → (pieces ≡ others) × (refused ≡ may)
-one-report grammars answers files help lines pieces others refused may p q = (p.0 ∙ sym q.0, p.1 ∙ sym q.1)
-one-report grammars answers files version lines pieces others refused may p q = (p.0 ∙ sym q.0, p.1 ∙ sym q.1)
-one-report grammars answers files (parse name) lines pieces others refused may p q =
+one-report grammars answers tables files help lines pieces others refused may p q = (p.0 ∙ sym q.0, p.1 ∙ sym q.1)
+one-report grammars answers tables files version lines pieces others refused may p q = (p.0 ∙ sym q.0, p.1 ∙ sym q.1)
+one-report grammars answers tables files (parse name) lines pieces others refused may p q =
     let text = some-same (files (file_of name)) p.1.0 q.1.0 p.1.1.0 q.1.1.0 in
     let same : p.0 ≡ q.0 = grammars q.1.0 p.0 q.0 (subst (λ t. IsFirstGrammar t p.0) text p.1.2) q.1.2 in
     one-answers (IsAnswer q.0) (λ n line own other b c. answers q.0 n line own other b c) 1 lines pieces others refused may
     (subst (λ g. AreAnswers (IsAnswer g) 1 lines pieces refused) same p.2) q.2
+one-report grammars answers tables files (types name options) lines pieces others refused may p q =
+    (p.2 ∙ ap type_lines (tables files name options.settings p.0 q.0 p.1 q.1) ∙ sym q.2, p.3 ∙ sym q.3)

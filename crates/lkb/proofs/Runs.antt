@@ -24,11 +24,11 @@ served-map R T o f TooMany r = record { lines = r.lines; part = r.part; pieces =
 served-map R T o f Write s = (in_part R T o f s.0, s.1)
 served-map R T o f NoMemory s = in_part R T o f s
 
-pub stopped : (h : Shelves) (o : Streams) (unread untouched : Type 0) (name : List ℕ) (grammar : Grammar) → IsGrammarOf h.files (file_of name) grammar → (stop : Stop) → Served (AreAnswers (IsAnswer grammar) 1) o (Err stop)
-    → Ended h o unread untouched (Some (parse name)) (Err (Stopped stop))
-stopped h o unread untouched name grammar is stop s = by_cases stop (served-map (AreAnswers (IsAnswer grammar) 1) (IsReport h.files (parse name)) o (λ lines pieces refused r. (grammar, is, r)) stop s)
+pub stopped : (h : Shelves) (o : Streams) (unread idle untouched : Type 0) (name : List ℕ) (grammar : Grammar) → IsGrammarOf h.files (file_of name) grammar → (stop : Stop) → Served (AreAnswers (IsAnswer grammar) 1) o (Err stop)
+    → Ended h o unread idle untouched (Some (parse name)) (Err (Stopped stop))
+stopped h o unread idle untouched name grammar is stop s = by_cases stop (served-map (AreAnswers (IsAnswer grammar) 1) (IsReport h.files (parse name)) o (λ lines pieces refused r. (grammar, is, r)) stop s)
   where
-    by_cases : (stop : Stop) → Served (IsReport h.files (parse name)) o (Err stop) → Ended h o unread untouched (Some (parse name)) (Err (Stopped stop))
+    by_cases : (stop : Stop) → Served (IsReport h.files (parse name)) o (Err stop) → Ended h o unread idle untouched (Some (parse name)) (Err (Stopped stop))
     by_cases Read s = s
     by_cases TooLong s = s
     by_cases TooMany s = s

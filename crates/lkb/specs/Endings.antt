@@ -8,21 +8,24 @@ use Rattle.first_parse.specs.Report.{IsAnswer}
 use Rattle.lkb.specs.declared.lines.Stop.{Stop}
 use Rattle.lkb.specs.declared.lines.Stop.TheVariants.{Write, NoMemory}
 use Rattle.lkb.specs.declared.faults.Fault.{Fault}
-use Rattle.lkb.specs.declared.faults.Fault.TheVariants.{Usage, File, Stopped}
-use Rattle.lkb.specs.declared.faults.FileFault.{FileFault}
+use Rattle.lkb.specs.declared.faults.Fault.TheVariants.{Usage, File, Found, Stopped}
 use Rattle.lkb.specs.declared.faults.Status.{Status}
 use Rattle.lkb.specs.declared.faults.Status.TheVariants.{Done, Items, Usage as UsageStatus, Grammar as GrammarStatus, ReadFault, WriteFault, NoMemory as NoMemoryStatus}
 use Rattle.lkb.specs.declared.lines.Stop.TheVariants.{Read, TooLong, TooMany}
-use Rattle.lkb.specs.Words.{Form, help, version, parse, file_of}
+use Rattle.lkb.specs.Words.{Form, help, version, parse, types, file_of}
 use Rattle.lkb.specs.Files.{Shelves, IsGrammarOf, FileFails}
 use Rattle.lkb.specs.Reports.{AreAnswers, Streams, Served, IsServedTo, IsServedToLast, IsServedInPart}
+use Rattle.type_hierarchy.specs.Table.{TypeTable}
 use Rattle.lkb.specs.Texts.{usage_line, version_line}
+use Rattle.lkb.specs.Grammars.{HasTypes, TypesFail, fault_at}
+use Rattle.lkb.specs.TypeReports.{type_lines}
 
 -- The report of a command over the lines of its input: the report lines, each with its end, and whether a line is refused.
 abbrev pub IsReport : Option (List ℕ → Option (List ℕ)) → Form → List (List ℕ) → List (List ℕ) → Bool → Type 0
 IsReport files help lines pieces refused = (pieces ≡ usage_line ∷ []) × (refused ≡ false)
 IsReport files version lines pieces refused = (pieces ≡ version_line ∷ []) × (refused ≡ false)
 IsReport files (parse name) lines pieces refused = (grammar : Grammar) × IsGrammarOf files (file_of name) grammar × AreAnswers (IsAnswer grammar) 1 lines pieces refused
+IsReport files (types name options) lines pieces refused = (table : TypeTable) × HasTypes files name options.settings table × (pieces ≡ type_lines table) × (refused ≡ false)
 
 -- The whole report of a command that reads no lines was written and flushed.
 pub record IsSaid (reports : List (List ℕ) → List (List ℕ) → Bool → Type 0) (o : Streams) (refused : Bool) : Type 0 where
@@ -44,23 +47,40 @@ Said reports o (Ok refused) = IsSaid reports o refused
 Said reports o (Err Write) = IsSaidInPart reports o × HasRisen o.out_old o.out_new
 Said reports o (Err stop) = ⊥
 
+-- How a command ends that makes its report line by line and reads no lines.
+abbrev pub Listed : (List (List ℕ) → List (List ℕ) → Bool → Type 0) → Streams → Result Bool Stop → Type 0
+Listed reports o (Ok refused) = IsSaid reports o refused
+Listed reports o (Err Write) = IsSaidInPart reports o × HasRisen o.out_old o.out_new
+Listed reports o (Err NoMemory) = IsSaidInPart reports o
+Listed reports o (Err stop) = ⊥
+
+-- How the writing of these lines ends: they were written and flushed, or a front of them was written.
+abbrev pub ListedLines : List (List ℕ) → Option (List ℕ) → Option (List ℕ) → Option (List ℕ) → ℕ → ℕ → Result Bool Stop → Type 0
+ListedLines lines old new flushed faults_old faults_new (Ok refused) = Adds old new (concat lines) × (flushed ≡ new) × (refused ≡ false)
+ListedLines lines old new flushed faults_old faults_new (Err Write) = AddsFront old new (concat lines) × HasRisen faults_old faults_new
+ListedLines lines old new flushed faults_old faults_new (Err NoMemory) = AddsFront old new (concat lines)
+ListedLines lines old new flushed faults_old faults_new (Err stop) = ⊥
+
 -- How the writing of a report of one line ends: it was written and flushed, or a front of it was written.
 abbrev pub SaidLine : List ℕ → Option (List ℕ) → Option (List ℕ) → Option (List ℕ) → ℕ → ℕ → Result Bool Stop → Type 0
 SaidLine line old new flushed faults_old faults_new (Ok refused) = Adds old new line × (flushed ≡ new) × (refused ≡ false)
 SaidLine line old new flushed faults_old faults_new (Err Write) = AddsFront old new line × HasRisen faults_old faults_new
 SaidLine line old new flushed faults_old faults_new (Err stop) = ⊥
 
--- How a command ends that met no fault of its words or its file. `unread` says that shelf and source are as they were.
-abbrev pub Ran : Shelves → Streams → (unread : Type 0) → Form → Result Bool Stop → Type 0
-Ran h o unread help end = Said (IsReport h.files help) o end × unread
-Ran h o unread version end = Said (IsReport h.files version) o end × unread
-Ran h o unread (parse name) end = Served (IsReport h.files (parse name)) o end
+-- How a command ends that met no fault of its words or its file. `unread` says that shelf and source are as they were, `idle`
+-- that the source is.
+abbrev pub Ran : Shelves → Streams → (unread idle : Type 0) → Form → Result Bool Stop → Type 0
+Ran h o unread idle help end = Said (IsReport h.files help) o end × unread
+Ran h o unread idle version end = Said (IsReport h.files version) o end × unread
+Ran h o unread idle (parse name) end = Served (IsReport h.files (parse name)) o end
+Ran h o unread idle (types name options) end = Listed (IsReport h.files (types name options)) o end × idle
 
 -- A front of the command's report was written, over lines that were read where it reads any.
 abbrev pub RanInPart : Shelves → Streams → Form → Type 0
 RanInPart h o help = IsSaidInPart (IsReport h.files help) o
 RanInPart h o version = IsSaidInPart (IsReport h.files version) o
 RanInPart h o (parse name) = IsServedInPart (IsReport h.files (parse name)) o
+RanInPart h o (types name options) = IsSaidInPart (IsReport h.files (types name options)) o
 
 -- The source failed, or 65,536 bytes came without a line end, or 2^64 - 1 lines came; exactly the report over the lines before was written.
 abbrev pub StopsReading : Shelves → Streams → Form → Type 0
@@ -72,32 +92,37 @@ StopsReading h o form = (((r : IsServedTo (IsReport h.files form) o) × HasNoEnd
 abbrev pub IsFaultless : Shelves → Streams → Type 0
 IsFaultless h o = (HasRisen h.faults_old h.faults_new → ⊥) × (HasRisen o.in_old o.in_new → ⊥) × (HasRisen o.out_old o.out_new → ⊥)
 
--- The command's file, where it has one, is the file of a grammar.
+-- The command's file, where it has one, is the file of a grammar: for `types`, it and the files that it includes define types.
 abbrev pub IsLoadable : Option (List ℕ → Option (List ℕ)) → Form → Type 0
 IsLoadable files help = Unit {0}
 IsLoadable files version = Unit {0}
 IsLoadable files (parse name) = (grammar : Grammar) × IsGrammarOf files (file_of name) grammar
+IsLoadable files (types name options) = (table : TypeTable) × HasTypes files name options.settings table
 
 -- The input was read to its end, where the command reads it.
 abbrev pub IsReadThrough : Form → Option (List ℕ) → Type 0
 IsReadThrough help left = Unit {0}
 IsReadThrough version left = Unit {0}
 IsReadThrough (parse name) left = IsAtEnd left
+IsReadThrough (types name options) left = Unit {0}
 
--- whether the form has this file's fault: only `parse` has a file
-abbrev pub FormFails : Shelves → Form → FileFault → Type 0
-FormFails h (parse name) cause = FileFails h (file_of name) cause
-FormFails h other cause = ⊥
+-- whether the form's files have this fault
+abbrev pub FormFails : Shelves → Form → Fault → Type 0
+FormFails h (parse name) (File cause) = FileFails h (file_of name) cause
+FormFails h (types name options) (Found file at why) = TypesFail h name options.settings (fault_at file at why)
+FormFails h form fault = ⊥
 
--- How a run ends. `unread` says that shelf and source are as they were, `untouched` that source and sink are.
-abbrev pub Ended : Shelves → Streams → (unread untouched : Type 0) → Option Form → Result Bool Fault → Type 0
-Ended h o unread untouched None (Err Usage) = unread × untouched
-Ended h o unread untouched None end = ⊥
-Ended h o unread untouched (Some form) (Ok refused) = Ran h o unread form (Ok refused)
-Ended h o unread untouched (Some form) (Err Usage) = ⊥
-Ended h o unread untouched (Some form) (Err (File cause)) = FormFails h form cause × untouched
-Ended h o unread untouched (Some form) (Err (Stopped NoMemory)) = untouched ⊎ Ran h o unread form (Err NoMemory)
-Ended h o unread untouched (Some form) (Err (Stopped stop)) = Ran h o unread form (Err stop)
+-- How a run ends. `unread` says that shelf and source are as they were, `idle` that the source is, `untouched` that source and
+-- sink are.
+abbrev pub Ended : Shelves → Streams → (unread idle untouched : Type 0) → Option Form → Result Bool Fault → Type 0
+Ended h o unread idle untouched None (Err Usage) = unread × untouched
+Ended h o unread idle untouched None end = ⊥
+Ended h o unread idle untouched (Some form) (Ok refused) = Ran h o unread idle form (Ok refused)
+Ended h o unread idle untouched (Some form) (Err Usage) = ⊥
+Ended h o unread idle untouched (Some form) (Err (File cause)) = FormFails h form (File cause) × untouched
+Ended h o unread idle untouched (Some form) (Err (Found file at why)) = FormFails h form (Found file at why) × untouched
+Ended h o unread idle untouched (Some form) (Err (Stopped NoMemory)) = untouched ⊎ Ran h o unread idle form (Err NoMemory)
+Ended h o unread idle untouched (Some form) (Err (Stopped stop)) = Ran h o unread idle form (Err stop)
 
 -- the status of each end
 abbrev pub status_of : Result Bool Fault → Status
@@ -105,6 +130,7 @@ status_of (Ok false) = Done
 status_of (Ok true) = Items
 status_of (Err Usage) = UsageStatus
 status_of (Err (File cause)) = GrammarStatus
+status_of (Err (Found file at why)) = GrammarStatus
 status_of (Err (Stopped Read)) = ReadFault
 status_of (Err (Stopped TooLong)) = ReadFault
 status_of (Err (Stopped TooMany)) = ReadFault

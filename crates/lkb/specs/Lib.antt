@@ -2,6 +2,9 @@ pub mod Readings
 pub mod Reports
 pub mod Stops
 pub mod Words
+pub mod Reader
 pub mod Files
+pub mod Grammars
+pub mod TypeReports
 pub mod Endings
 pub mod Texts

@@ -1,36 +1,162 @@
 -- The forms of the command line.
-use Rattle.std.specs.Prelude.{ℕ, List, [], ◌∷◌, ◌++◌, Option, None, Some, Bool, true, false, ◌&&◌, ◌||◌, not, ◌==◌, if◌then◌else◌, codes, nat_eq}
-use Rattle.std.specs.Cmp.Lexicographic.{pointwise}
-use Rattle.lkb.specs.declared.words.Command.{Command}
-use Rattle.lkb.specs.declared.words.Command.TheVariants.{Help, Version, Parse}
-
--- `--help`, `--version`, and `parse` with the name of a grammar
-pub data Form : Type 0 where
-  help : Form
-  version : Form
-  parse : (name : List ℕ) → Form
+use Rattle.std.specs.Prelude.{◌≡◌, ℕ, ◌≤◌, List, [], ◌∷◌, ◌++◌, Option, None, Some, Bool, true, false, ◌&&◌, ◌||◌, not, ◌==◌, if◌then◌else◌, codes}
+use Rattle.std.specs.Str.Parse.{IsNumeral, digits_value, without_leading_plus}
+use Rattle.lkb.specs.declared.options.OptionName.{OptionName}
+use Rattle.lkb.specs.declared.options.OptionName.TheVariants.{Workers, Edges, Readings, Lexical, Unary, Empty, Settings, Mrs, Lattice}
 
 -- a word that names something: it isn't empty and doesn't begin with `-`
 abbrev pub is_name : List ℕ → Bool
 is_name [] = false
 is_name (b ∷ bs) = not (b == 45)
 
--- The form that the words of a command line have, if they have one.
-abbrev pub form_of : List (List ℕ) → Option Form
-form_of [] = None
-form_of (word ∷ []) = if pointwise nat_eq word (codes "--help") then Some help else (if pointwise nat_eq word (codes "--version") then Some version else None)
-form_of (word ∷ name ∷ []) = if pointwise nat_eq word (codes "parse") && is_name name then Some (parse name) else None
-form_of (word ∷ name ∷ more ∷ words) = None
+-- the word by which an option goes
+abbrev pub word_of : OptionName → List ℕ
+word_of Workers = codes "--workers"
+word_of Edges = codes "--edges"
+word_of Readings = codes "--readings"
+word_of Lexical = codes "--lexical"
+word_of Unary = codes "--unary"
+word_of Empty = codes "--empty"
+word_of Settings = codes "--settings"
+word_of Mrs = codes "--mrs"
+word_of Lattice = codes "--lattice"
 
--- the form that a command of the program stands for
-abbrev pub form : Command → Form
-form Help = help
-form Version = version
-form (Parse name) = parse name.now
+-- what stands after an option's word: a number from `least` to `greatest`, a name, or nothing
+pub data Value : Type 0 where
+  number : (least greatest : ℕ) → Value
+  name : Value
+  nothing : Value
 
--- the name that a form gives
+abbrev pub value_of : OptionName → Value
+value_of Workers = number 1 64
+value_of Edges = number 1 20000
+value_of Readings = number 1 100000
+value_of Lexical = number 0 15
+value_of Unary = number 0 32
+value_of Empty = number 0 16
+value_of Settings = name
+value_of Mrs = nothing
+value_of Lattice = nothing
+
+-- the number that a word writes in decimal digits
+abbrev pub number_of : List ℕ → ℕ
+number_of word = digits_value 10 (without_leading_plus word)
+
+-- The word writes a number in this range: decimal digits, which a `+` may lead.
+abbrev pub IsNumber : ℕ → ℕ → List ℕ → Type 0
+IsNumber least greatest word = IsNumeral 10 (without_leading_plus word) × (least ≤ number_of word) × (number_of word ≤ greatest)
+
+-- these words are such a value
+abbrev pub IsValue : Value → List (List ℕ) → Type 0
+IsValue (number least greatest) (word ∷ []) = IsNumber least greatest word
+IsValue name (word ∷ []) = is_name word ≡ true
+IsValue nothing [] = Unit {0}
+IsValue _ words = ⊥
+
+-- what a command line is made of after its command: positional words, and options with the words of their values
+pub data Item : Type 0 where
+  positional : (word : List ℕ) → Item
+  option : (o : OptionName) (value : List (List ℕ)) → Item
+
+-- the words that these items are written with
+abbrev pub words_of : List Item → List (List ℕ)
+words_of [] = []
+words_of (positional word ∷ items) = word ∷ words_of items
+words_of (option o value ∷ items) = word_of o ∷ (value ++ words_of items)
+
+-- each item is in its form
+abbrev pub AreItems : List Item → Type 0
+AreItems [] = Unit {0}
+AreItems (positional word ∷ items) = (is_name word ≡ true) × AreItems items
+AreItems (option o value ∷ items) = IsValue (value_of o) value × AreItems items
+
+-- the option isn't among these items
+abbrev pub IsNotIn : OptionName → List Item → Type 0
+IsNotIn o [] = Unit {0}
+IsNotIn o (positional word ∷ items) = IsNotIn o items
+IsNotIn o (option p value ∷ items) = (o ≡ p → ⊥) × IsNotIn o items
+
+-- no option stands twice
+abbrev pub AreOnce : List Item → Type 0
+AreOnce [] = Unit {0}
+AreOnce (positional word ∷ items) = AreOnce items
+AreOnce (option o value ∷ items) = IsNotIn o items × AreOnce items
+
+-- the positional words, in order
+abbrev pub positionals : List Item → List (List ℕ)
+positionals [] = []
+positionals (positional word ∷ items) = word ∷ positionals items
+positionals (option o value ∷ items) = positionals items
+
+-- the options of a command line, each with its value where it stands there
+pub record Options : Type 0 where
+  pub workers : Option ℕ
+  pub edges : Option ℕ
+  pub readings : Option ℕ
+  pub lexical : Option ℕ
+  pub unary : Option ℕ
+  pub empty : Option ℕ
+  pub settings : Option (List ℕ)
+  pub mrs : Bool
+  pub lattice : Bool
+
+abbrev pub no_options : Options
+no_options = record { workers = None; edges = None; readings = None; lexical = None; unary = None; empty = None; settings = None; mrs = false; lattice = false }
+
+-- the one word of a value
+abbrev pub named : List (List ℕ) → Option (List ℕ)
+named [] = None
+named (word ∷ words) = Some word
+
+-- the number that the one word of a value writes
+abbrev pub numbered : List (List ℕ) → Option ℕ
+numbered [] = None
+numbered (word ∷ words) = Some (number_of word)
+
+-- these options, and this one with its value
+abbrev pub given : OptionName → List (List ℕ) → Options → Options
+given Workers value o = record o { workers = numbered value }
+given Edges value o = record o { edges = numbered value }
+given Readings value o = record o { readings = numbered value }
+given Lexical value o = record o { lexical = numbered value }
+given Unary value o = record o { unary = numbered value }
+given Empty value o = record o { empty = numbered value }
+given Settings value o = record o { settings = named value }
+given Mrs value o = record o { mrs = true }
+given Lattice value o = record o { lattice = true }
+
+-- these options, and those of the items
+abbrev pub with_options : Options → List Item → Options
+with_options o [] = o
+with_options o (positional word ∷ items) = with_options o items
+with_options o (option p value ∷ items) = with_options (given p value o) items
+
+-- What the words of a command line ask for: `--help`, `--version`, `parse` with the name of a grammar, and `types` with the
+-- name of a grammar and options.
+pub data Form : Type 0 where
+  help : Form
+  version : Form
+  parse : (name : List ℕ) → Form
+  types : (name : List ℕ) (options : Options) → Form
+
+-- The words are of this form. `parse` takes no option, and `types` takes each of them, at most once and in any order; options and
+-- the name may stand in any order too.
+abbrev pub IsForm : List (List ℕ) → Form → Type 0
+IsForm words help = words ≡ codes "--help" ∷ []
+IsForm words version = words ≡ codes "--version" ∷ []
+IsForm words (parse file) = (words ≡ codes "parse" ∷ file ∷ []) × (is_name file ≡ true)
+IsForm words (types file options) = (items : List Item) × (words ≡ codes "types" ∷ words_of items) × AreItems items × AreOnce items
+    × (positionals items ≡ file ∷ []) × (options ≡ with_options no_options items)
+
+-- The form of the words, or that they have none.
+abbrev pub HasForm : List (List ℕ) → Option Form → Type 0
+HasForm words (Some form) = IsForm words form
+HasForm words None = (form : Form) → IsForm words form → ⊥
+
+-- the name of the grammar that a form gives
 abbrev pub name_in : Option Form → List ℕ
-name_in (Some (parse name)) = name
+name_in (Some (parse file)) = file
+name_in (Some (types file options)) = file
 name_in other = []
 
 -- no `/` stands in these bytes
@@ -45,4 +171,4 @@ has_ending (b ∷ bs) = has_ending bs || ((b == 46) && has_no_slash bs)
 
 -- The file of a grammar: its name, and `.tdl` after it where no `.` stands after the last `/`.
 abbrev pub file_of : List ℕ → List ℕ
-file_of name = if has_ending name then name else name ++ codes ".tdl"
+file_of file = if has_ending file then file else file ++ codes ".tdl"

@@ -3,6 +3,7 @@ ghost use Rattle.std.specs.Prelude.{◌≡◌};
 
 use crate::lines::Stop;
 use first_grammar::NoMemory;
+use grammar_model::{LoadFault, Why};
 use lkb_io::{Failed, ShelfFault};
 use std::alloc::AllocError;
 
@@ -18,12 +19,14 @@ pub enum FileFault {
 }
 
 /// Why a run ends without its whole report.
-#[derive(Clone, Copy, Debug, PartialEq, Eq)]
+#[derive(Debug, Drop)]
 pub enum Fault {
     /// The words of the command line are outside the form.
     Usage,
-    /// The command's file has a fault.
+    /// The file of a first grammar has a fault.
     File(FileFault),
+    /// The files of a grammar have this first fault: the file, the place in it, and the cause.
+    Found { file: String, at: u32, why: Why },
     /// The run stopped, at a line or for want of memory.
     Stopped(Stop),
 }
@@ -38,6 +41,19 @@ impl From<ShelfFault> for Fault {
             ShelfFault::Failed => Fault::File(FileFault::Shelf),
             ShelfFault::TooLong => Fault::File(FileFault::TooLong),
             ShelfFault::NoMemory => Fault::Stopped(Stop::NoMemory),
+        }
+    }
+}
+
+impl From<LoadFault> for Fault {
+    ghost use Rattle.lkb.specs.Grammars.{load_fault};
+
+    ghost from_gives = { λ fault e. e ≡ load_fault fault };
+
+    fn from(fault: LoadFault) -> Fault {
+        match fault {
+            LoadFault::NoMemory => Fault::Stopped(Stop::NoMemory),
+            LoadFault::Found { file, at, why } => Fault::Found { file, at, why },
         }
     }
 }

@@ -57,6 +57,16 @@ impl From<Failed> for Stop {
     }
 }
 
+impl From<type_hierarchy::NoMemory> for Stop {
+    ghost use Rattle.lkb.specs.declared.lines.Stop.{Stop};
+
+    ghost from_gives = { λ _ e. e ≡ Stop.NoMemory };
+
+    fn from(_fault: type_hierarchy::NoMemory) -> Stop {
+        Stop::NoMemory
+    }
+}
+
 impl From<NoMemory> for Stop {
     ghost use Rattle.lkb.specs.declared.lines.Stop.{Stop};
 

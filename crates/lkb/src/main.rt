@@ -6,25 +6,31 @@ ghost use Rattle.std.specs.List.{concat};
 ghost use Rattle.lkb_io.specs.Outside.{HasRisen};
 ghost use Rattle.lkb_io.specs.Lines.{lines_of};
 ghost use Rattle.lkb.specs.declared.faults.Fault.{Fault};
-ghost use Rattle.lkb.specs.declared.faults.FileFault.{FileFault};
-ghost use Rattle.lkb.specs.Words.{Form, parse, form_of};
+ghost use Rattle.grammar_model.specs.Faults.{FoundFault};
+ghost use Rattle.lkb.specs.Words.{Form, Options, parse, types, IsForm, HasForm};
+ghost use Rattle.lkb.specs.Grammars.{never, HasFirst};
 ghost use Rattle.lkb.specs.Readings.{AreReadable};
 ghost use Rattle.lkb.specs.Files.{shelves};
 ghost use Rattle.lkb.specs.Reports.{streams};
-ghost use Rattle.lkb.specs.Texts.{fault_text, Tells};
+ghost use Rattle.lkb.specs.Texts.{fault_text, found_text, Tells};
 ghost use Rattle.lkb.specs.Endings.{Ended, IsReport, IsFaultless, IsLoadable, IsReadThrough, FormFails, StopsReading, RanInPart, IsWhole, status_of, is_items};
 
 pub mod faults;
 pub mod files;
 pub mod laws;
 pub mod lines;
+pub mod options;
 pub mod perform;
 #[cfg(test)]
 mod tests;
 pub mod texts;
+#[cfg(test)]
+mod type_tests;
+pub mod types;
 pub mod words;
 
 use faults::{Fault, Status};
+use laws::one_outcome;
 use lines::Stop;
 use lkb_io::{FileShelf, Shelf, Sink, Source, StdSink, StdSource};
 use std::alloc::Global;
@@ -35,9 +41,9 @@ use texts::conclude;
 use words::command_of;
 
 /// Does all that the program does: reads the words of the command line, which don't hold the program's
-/// name, does what they say, and tells how it ended. The order is: words, the grammar's file from the
-/// shelf, then the input line by line: read, answer, write. A fault is told on `err` by its text, and a
-/// fault of `err` itself changes nothing.
+/// name, does what they say, and tells how it ended. The order is: words, the grammar's files from the
+/// shelf, then for `parse` the input line by line: read, answer, write. A fault is told on `err` by its
+/// text, and a fault of `err` itself changes nothing.
 pub fn run<S: Shelf, I: Source, O: Sink, X: Sink>(
     alloc: Global,
     words: &[String],
@@ -50,9 +56,8 @@ pub fn run<S: Shelf, I: Source, O: Sink, X: Sink>(
     // of this end.
     ensures ended { let h = shelves S.files S.faults S.asked shelf.old shelf.new in
         let o = streams I.left I.faults O.written O.flushed O.faults input.old input.new out.old out.new in
-        let form = form_of (map (λ w. string_bytes w) words.now) in
-        (end : Result Bool Fault)
-        × Ended h o ((shelf.new ≡ shelf.old) × (input.new ≡ input.old)) ((input.new ≡ input.old) × (out.new ≡ out.old)) form end
+        (form : Option Form) × (end : Result Bool Fault) × HasForm (map (λ w. string_bytes w) words.now) form
+        × Ended h o ((shelf.new ≡ shelf.old) × (input.new ≡ input.old)) (input.new ≡ input.old) ((input.new ≡ input.old) × (out.new ≡ out.old)) form end
         × (result ≡ status_of end)
         × Tells (X.written err.old) (X.written err.new) (X.faults err.old) (X.faults err.new) (fault_text form end) }
 
@@ -61,34 +66,41 @@ pub fn run<S: Shelf, I: Source, O: Sink, X: Sink>(
     ensures report { (bytes before after : List ℕ) → I.left input.old ≡ Some bytes
         → O.written out.old ≡ Some before → O.written out.new ≡ Some after
         → (result ≡ Status.Done) ⊎ (result ≡ Status.Items)
-        → (form : Form) × (pieces : List (List ℕ)) × (form_of (map (λ w. string_bytes w) words.now) ≡ Some form)
+        → (form : Form) × (pieces : List (List ℕ)) × IsForm (map (λ w. string_bytes w) words.now) form
         × IsReport (S.files shelf.old) form (lines_of bytes) pieces (is_items result)
         × (after ≡ before ++ concat pieces) × IsReadThrough form (I.left input.new) }
     ensures flushed { (result ≡ Status.Done) ⊎ (result ≡ Status.Items) → O.flushed out.new ≡ O.written out.new }
     ensures silent { (result ≡ Status.Done) ⊎ (result ≡ Status.Items) → err.new ≡ err.old }
 
     // `Usage` exactly where the words are outside the form. Nothing is read, and nothing written to `out`.
-    ensures usage { (result ≡ Status.Usage) ↔ (form_of (map (λ w. string_bytes w) words.now) ≡ None) }
+    ensures usage { (result ≡ Status.Usage) ↔ ((form : Form) → IsForm (map (λ w. string_bytes w) words.now) form → ⊥) }
     ensures unread { result ≡ Status.Usage → (shelf.new ≡ shelf.old) × (input.new ≡ input.old) × (out.new ≡ out.old) }
 
-    // `Grammar` only where the command's file has the fault that is told, and always where it gives no
-    // grammar. Nothing is read of the input, and nothing written to `out`.
+    // `Grammar` only where the command's files have the fault that is told, and always where they give no
+    // grammar, or no types. Nothing is read of the input, and nothing written to `out`.
     ensures grammar { let h = shelves S.files S.faults S.asked shelf.old shelf.new in
-        result ≡ Status.Grammar → (form : Form) × (cause : FileFault)
-        × (form_of (map (λ w. string_bytes w) words.now) ≡ Some form) × FormFails h form cause
-        × Tells (X.written err.old) (X.written err.new) (X.faults err.old) (X.faults err.new) (fault_text (Some form) (Err (Fault.File cause)))
+        result ≡ Status.Grammar → (form : Form) × (fault : Fault)
+        × IsForm (map (λ w. string_bytes w) words.now) form × FormFails h form fault
+        × Tells (X.written err.old) (X.written err.new) (X.faults err.old) (X.faults err.new) (fault_text (Some form) (Err fault))
         × (input.new ≡ input.old) × (out.new ≡ out.old) }
-    ensures no_grammar { (form : Form) → form_of (map (λ w. string_bytes w) words.now) ≡ Some form
+    ensures no_grammar { (form : Form) → IsForm (map (λ w. string_bytes w) words.now) form
         → (IsLoadable (S.files shelf.old) form → ⊥) → (result ≡ Status.Grammar) ⊎ (result ≡ Status.NoMemory) }
+
+    // Of `types`: the first fault of the grammar's files, by what the shelf tells of them, is the one that is told.
+    ensures first_fault { (name : List ℕ) (options : Options) (files : List ℕ → Option (List ℕ)) (fault : FoundFault)
+        → IsForm (map (λ w. string_bytes w) words.now) (types name options) → S.files shelf.old ≡ Some files
+        → HasFirst (Some files) never name options.settings fault → (HasRisen (S.faults shelf.old) (S.faults shelf.new) → ⊥)
+        → (result ≡ Status.NoMemory) ⊎ ((result ≡ Status.Grammar)
+        × Tells (X.written err.old) (X.written err.new) (X.faults err.old) (X.faults err.new) (found_text fault)) }
 
     // `ReadFault` only where the source failed, a line is too long, or a line has no number; and always
     // where a line can't be read. Exactly the report over the lines before was written.
     ensures read_fault { let h = shelves S.files S.faults S.asked shelf.old shelf.new in
         let o = streams I.left I.faults O.written O.flushed O.faults input.old input.new out.old out.new in
-        result ≡ Status.ReadFault → (form : Form) × (form_of (map (λ w. string_bytes w) words.now) ≡ Some form) × StopsReading h o form }
+        result ≡ Status.ReadFault → (form : Form) × IsForm (map (λ w. string_bytes w) words.now) form × StopsReading h o form }
     ensures unreadable { let h = shelves S.files S.faults S.asked shelf.old shelf.new in
         let o = streams I.left I.faults O.written O.flushed O.faults input.old input.new out.old out.new in
-        (name : List ℕ) (files : List ℕ → Option (List ℕ)) (bytes : List ℕ) → form_of (map (λ w. string_bytes w) words.now) ≡ Some (parse name)
+        (name : List ℕ) (files : List ℕ → Option (List ℕ)) (bytes : List ℕ) → IsForm (map (λ w. string_bytes w) words.now) (parse name)
         → S.files shelf.old ≡ Some files → I.left input.old ≡ Some bytes
         → IsLoadable (S.files shelf.old) (parse name) → (AreReadable (lines_of bytes) → ⊥) → IsFaultless h o
         → (result ≡ Status.ReadFault) ⊎ (result ≡ Status.NoMemory) }
@@ -97,25 +109,26 @@ pub fn run<S: Shelf, I: Source, O: Sink, X: Sink>(
     // that were read was written; where memory was wanting before the first line, nothing was read or written.
     ensures write_fault { let h = shelves S.files S.faults S.asked shelf.old shelf.new in
         let o = streams I.left I.faults O.written O.flushed O.faults input.old input.new out.old out.new in
-        result ≡ Status.WriteFault → (form : Form) × (form_of (map (λ w. string_bytes w) words.now) ≡ Some form)
+        result ≡ Status.WriteFault → (form : Form) × IsForm (map (λ w. string_bytes w) words.now) form
         × RanInPart h o form × HasRisen (O.faults out.old) (O.faults out.new) }
     ensures no_memory { let h = shelves S.files S.faults S.asked shelf.old shelf.new in
         let o = streams I.left I.faults O.written O.flushed O.faults input.old input.new out.old out.new in
-        result ≡ Status.NoMemory → (form : Form) × (form_of (map (λ w. string_bytes w) words.now) ≡ Some form)
+        result ≡ Status.NoMemory → (form : Form) × IsForm (map (λ w. string_bytes w) words.now) form
         × (((input.new ≡ input.old) × (out.new ≡ out.old)) ⊎ RanInPart h o form) }
 
     // Completeness: where the words are in the form, the told file gives a grammar, each line can be read and
     // nothing fails, the whole report is written, or memory was wanting.
     ensures complete { let h = shelves S.files S.faults S.asked shelf.old shelf.new in
         let o = streams I.left I.faults O.written O.flushed O.faults input.old input.new out.old out.new in
-        (form : Form) (files : List ℕ → Option (List ℕ)) (bytes : List ℕ) → form_of (map (λ w. string_bytes w) words.now) ≡ Some form
+        (form : Form) (files : List ℕ → Option (List ℕ)) (bytes : List ℕ) → IsForm (map (λ w. string_bytes w) words.now) form
         → S.files shelf.old ≡ Some files → I.left input.old ≡ Some bytes
         → IsLoadable (S.files shelf.old) form → AreReadable (lines_of bytes) → IsFaultless h o
         → IsWhole h o form bytes result }
 {
+    one_outcome();
     let command = command_of(words);
     let outcome = perform::perform(alloc, &command, shelf, input, out);
-    conclude(err, &command, outcome)
+    conclude(err, &command, &outcome)
 }
 
 // The words of the command line without the program's name. One that isn't UTF-8 is outside every form.
@@ -151,7 +164,7 @@ fn main(rt: HostRuntime) -> ExitCode {
             &mut out,
             &mut err,
         ),
-        Err(fault) => conclude(&mut err, &None, Err(fault)),
+        Err(fault) => conclude(&mut err, &None, &Err(fault)),
     };
     ExitCode::from(status.code())
 }

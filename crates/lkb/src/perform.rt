@@ -2,7 +2,8 @@
 ghost use Rattle.std.specs.Prelude.{◌≡◌, ◌≤◌, ℕ, List, Bool, option_map, map, IfOk, Some};
 ghost use Rattle.first_parse.specs.Report.{IsAnswer};
 ghost use Rattle.lkb_io.specs.Outside.{HasRisen};
-ghost use Rattle.lkb.specs.Words.{form, parse};
+ghost use Rattle.lkb.specs.Words.{parse, types};
+ghost use Rattle.lkb.specs.Reader.{form, options_in};
 ghost use Rattle.lkb.specs.Files.{shelves};
 ghost use Rattle.lkb.specs.Reports.{streams};
 ghost use Rattle.lkb.specs.Endings.{Ended, SaidLine};
@@ -10,7 +11,9 @@ ghost use Rattle.lkb.specs.Endings.{Ended, SaidLine};
 use crate::faults::Fault;
 use crate::files::load;
 use crate::lines::{Answers, Stop, serve};
+use crate::options::Options;
 use crate::texts::{USAGE, VERSION};
+use crate::types::{grammar_types, put_types};
 use crate::words::Command;
 use first_grammar::FirstGrammar;
 use first_parse::{LineAnswer, NoMemory};
@@ -40,13 +43,33 @@ fn parse<S: Shelf, I: Source, O: Sink>(
     out: &mut O,
 ) -> Result<bool, Fault>
     ensures ended { Ended (shelves S.files S.faults S.asked shelf.old shelf.new) (streams I.left I.faults O.written O.flushed O.faults input.old input.new out.old out.new)
-        ((shelf.new ≡ shelf.old) × (input.new ≡ input.old)) ((input.new ≡ input.old) × (out.new ≡ out.old)) (Some (parse name.now)) result }
+        ((shelf.new ≡ shelf.old) × (input.new ≡ input.old)) (input.new ≡ input.old) ((input.new ≡ input.old) × (out.new ≡ out.old)) (Some (parse name.now)) result }
     ensures no_fall_in { I.faults input.old ≤ I.faults input.new }
     ensures no_fall_out { O.faults out.old ≤ O.faults out.new }
 {
     let grammar = load(alloc, shelf, name)?;
     let lines = ParseLines { grammar: &grammar };
     let refused = serve(alloc, &lines, input, out)?;
+    Ok(refused)
+}
+
+// Writes the types of the grammar of this name. Of the options it heeds `--settings` alone, and it reads
+// nothing of the input.
+fn types<S: Shelf, I: Source, O: Sink>(
+    alloc: Global,
+    name: &str,
+    options: &Options,
+    shelf: &mut S,
+    input: &mut I,
+    out: &mut O,
+) -> Result<bool, Fault>
+    ensures ended { Ended (shelves S.files S.faults S.asked shelf.old shelf.new) (streams I.left I.faults O.written O.flushed O.faults input.old input.new out.old out.new)
+        ((shelf.new ≡ shelf.old) × (input.new ≡ input.old)) (input.new ≡ input.old) ((input.new ≡ input.old) × (out.new ≡ out.old)) (Some (types name.now (options_in options.now))) result }
+    ensures no_fall_in { I.faults input.old ≤ I.faults input.new }
+    ensures no_fall_out { O.faults out.old ≤ O.faults out.new }
+{
+    let table = grammar_types(alloc, shelf, name, options.settings)?;
+    let refused = put_types(alloc, &table, out)?;
     Ok(refused)
 }
 
@@ -60,6 +83,27 @@ fn say<O: Sink>(out: &mut O, line: &[u8]) -> Result<bool, Stop>
     Ok(false)
 }
 
+// Does what the command says.
+fn carry_out<S: Shelf, I: Source, O: Sink>(
+    alloc: Global,
+    command: &Command,
+    shelf: &mut S,
+    input: &mut I,
+    out: &mut O,
+) -> Result<bool, Fault>
+    ensures ended { Ended (shelves S.files S.faults S.asked shelf.old shelf.new) (streams I.left I.faults O.written O.flushed O.faults input.old input.new out.old out.new)
+        ((shelf.new ≡ shelf.old) × (input.new ≡ input.old)) (input.new ≡ input.old) ((input.new ≡ input.old) × (out.new ≡ out.old)) (Some (form command.now)) result }
+    ensures no_fall_in { I.faults input.old ≤ I.faults input.new }
+    ensures no_fall_out { O.faults out.old ≤ O.faults out.new }
+{
+    match command {
+        Command::Help => Ok(say(out, USAGE)?),
+        Command::Version => Ok(say(out, VERSION)?),
+        Command::Parse(name) => parse(alloc, name, shelf, input, out),
+        Command::Types(name, options) => types(alloc, name, options, shelf, input, out),
+    }
+}
+
 /// Does what the command says. `Ok` tells whether a line was refused.
 pub fn perform<S: Shelf, I: Source, O: Sink>(
     alloc: Global,
@@ -69,14 +113,12 @@ pub fn perform<S: Shelf, I: Source, O: Sink>(
     out: &mut O,
 ) -> Result<bool, Fault>
     ensures ended { Ended (shelves S.files S.faults S.asked shelf.old shelf.new) (streams I.left I.faults O.written O.flushed O.faults input.old input.new out.old out.new)
-        ((shelf.new ≡ shelf.old) × (input.new ≡ input.old)) ((input.new ≡ input.old) × (out.new ≡ out.old)) (option_map form command.now) result }
+        ((shelf.new ≡ shelf.old) × (input.new ≡ input.old)) (input.new ≡ input.old) ((input.new ≡ input.old) × (out.new ≡ out.old)) (option_map form command.now) result }
     ensures no_fall_in { I.faults input.old ≤ I.faults input.new }
     ensures no_fall_out { O.faults out.old ≤ O.faults out.new }
 {
     match command {
         None => Err(Fault::Usage),
-        Some(Command::Help) => Ok(say(out, USAGE)?),
-        Some(Command::Version) => Ok(say(out, VERSION)?),
-        Some(Command::Parse(name)) => parse(alloc, name, shelf, input, out),
+        Some(command) => carry_out(alloc, command, shelf, input, out),
     }
 }

@@ -6,7 +6,7 @@ use std::alloc::{AllocError, Global};
 use std::test::Fail;
 
 // Types of a noun, a verb and a sentence, two words, and a rule.
-const DOGS: &[u8] = b"string := *top*.
+pub const DOGS: &[u8] = b"string := *top*.
 list := *top*.
 cons := list & [ FIRST *top*, REST list ].
 null := list.
@@ -45,12 +45,12 @@ root := x.
 const DOGS_BARK: &[u8] =
     b"item 1 classes 3 readings 1\n  (s_rule (dogs_n \"dogs\") (bark_v \"bark\"))\n";
 
-const USAGE: &[u8] =
+pub const USAGE: &[u8] =
     b"usage: lkb parse|generate|types|check GRAMMAR, lkb expand GRAMMAR NAME, lkb self-test NUMBER SIZE, lkb scope, lkb batch GRAMMAR PROFILE, lkb transfer RULES, with options\n";
 
 const VERSION: &[u8] = b"lkb 0.1.0\n";
 
-const WRITE_FAULT: &[u8] = b"lkb: write fault\n";
+pub const WRITE_FAULT: &[u8] = b"lkb: write fault\n";
 
 // Six words.
 const SIX: &[u8] = b"w w w w w w\n";
@@ -58,15 +58,15 @@ const SIX: &[u8] = b"w w w w w w\n";
 // The number of the call that is to fail: of reads, writes, flushes, writes of `err`, and texts of the
 // shelf. Calls are numbered from 1, so 0 is none.
 #[derive(Clone, Copy, Debug)]
-struct Fails {
-    read: u64,
-    write: u64,
-    flush: u64,
-    tell: u64,
-    text: u64,
+pub struct Fails {
+    pub read: u64,
+    pub write: u64,
+    pub flush: u64,
+    pub tell: u64,
+    pub text: u64,
 }
 
-const NONE: Fails = Fails {
+pub const NONE: Fails = Fails {
     read: 0,
     write: 0,
     flush: 0,
@@ -76,14 +76,14 @@ const NONE: Fails = Fails {
 
 // What a run wrote, and how it ended.
 #[derive(Drop)]
-struct Ran {
-    status: Status,
-    out: MemSink,
-    err: MemSink,
+pub struct Ran {
+    pub status: Status,
+    pub out: MemSink,
+    pub err: MemSink,
 }
 
 impl Ran {
-    fn is(&self, status: Status, out: &[u8], err: &[u8]) -> bool {
+    pub fn is(&self, status: Status, out: &[u8], err: &[u8]) -> bool {
         self.status == status && self.out.bytes() == out && self.err.bytes() == err
     }
 }
@@ -124,8 +124,19 @@ fn sink(alloc: Global, write: u64, flush: u64) -> Result<MemSink, AllocError> {
 }
 
 fn run_row(alloc: Global, words: &[&str], input: &[u8], fails: Fails) -> Result<Ran, AllocError> {
+    run_over(alloc, words, input, shelf(alloc, fails)?, fails)
+}
+
+// A run over this shelf.
+pub fn run_over(
+    alloc: Global,
+    words: &[&str],
+    input: &[u8],
+    files: MemShelf,
+    fails: Fails,
+) -> Result<Ran, AllocError> {
     let words = words_of(alloc, words)?;
-    let mut shelf = shelf(alloc, fails)?;
+    let mut shelf = files;
     let mut input = source(alloc, input, fails)?;
     let mut out = sink(alloc, fails.write, fails.flush)?;
     let mut err = sink(alloc, fails.tell, 0)?;
@@ -135,7 +146,7 @@ fn run_row(alloc: Global, words: &[&str], input: &[u8], fails: Fails) -> Result<
 
 #[test]
 fn words_outside_the_form_meet_the_usage_text(rt: HostRuntime) -> Result<(), Fail> {
-    let outside: [&[&str]; 11] = [
+    let outside: [&[&str]; 14] = [
         &[],
         &["parse"],
         &["parse", "g", "h"],
@@ -143,6 +154,9 @@ fn words_outside_the_form_meet_the_usage_text(rt: HostRuntime) -> Result<(), Fai
         &["parse", "-"],
         &["parse", ""],
         &["parse", "g", "--mrs"],
+        &["parse", "g", "--workers", "65"],
+        &["parse", "g", "--edges", "5", "--edges", "6"],
+        &["parse", "g", "--edges=5"],
         &["generate", "g"],
         &[""],
         &["--help", "g"],

@@ -1,14 +1,21 @@
 //! The texts that the program writes besides the answers to lines.
-ghost use Rattle.std.specs.Prelude.{◌≡◌, ◌≤◌, ◌++◌, codes, option_map, Err, OnOk, OnErr};
+ghost use Rattle.std.specs.Prelude.{◌≡◌, ◌≤◌, ◌++◌, codes, map, option_map, Err, OnOk, OnErr};
 ghost use Rattle.lkb_io.specs.Outside.{HasRisen, Adds, AddsFront};
-ghost use Rattle.lkb.specs.Words.{form, has_ending};
-ghost use Rattle.lkb.specs.Texts.{stop_text, fault_text, Tells, ending_of_name, file_fault_line};
+ghost use Rattle.lkb.specs.Words.{has_ending};
+ghost use Rattle.lkb.specs.Reader.{form};
+ghost use Rattle.lkb.specs.Texts.{stop_text, fault_text, Tells, ending_of_name, file_fault_line, lex_fault_name, read_fault_name, type_fault_words, why_words, has_place, place_text, cause_text};
+ghost use Rattle.lkb.specs.TypeReports.{spaced};
 ghost use Rattle.lkb.specs.Endings.{status_of};
 
 use crate::faults::{Fault, FileFault, Status};
 use crate::lines::Stop;
 use crate::words::{Command, has_ending, name_of};
+use grammar_model::Why;
+use itoa::Buffer;
 use lkb_io::{Failed, Sink, put_all};
+use tdl_lexer::LexFault;
+use tdl_reader::ReadFault;
+use type_hierarchy::TypeFault;
 
 /// The usage text and its line end.
 pub const USAGE: &[u8] =
@@ -68,16 +75,167 @@ fn tell_file<X: Sink>(err: &mut X, name: &str, cause: FileFault) -> Result<(), F
     put_both(err, ending_of(name), name_of_fault(cause))
 }
 
+// Writes these words, each after a blank.
+fn put_words<X: Sink>(err: &mut X, words: &[&str]) -> Result<(), Failed>
+    ensures ok { OnOk result (Adds (X.written err.old) (X.written err.new) (spaced (map (λ w. w.now) words.now))) }
+    ensures front { AddsFront (X.written err.old) (X.written err.new) (spaced (map (λ w. w.now) words.now)) }
+    ensures no_fall { X.faults err.old ≤ X.faults err.new }
+    ensures failed { OnErr result (HasRisen (X.faults err.old) (X.faults err.new)) }
+{
+    for word in words {
+        put_both(err, b" ", word.as_bytes())?;
+    }
+    Ok(())
+}
+
+// The name of a fault of tokens.
+fn name_of_lex(fault: &LexFault) -> &'static str
+    ensures { result.now ≡ lex_fault_name fault.now }
+{
+    match fault {
+        LexFault::NotUtf8 { .. } => "NotUtf8",
+        LexFault::BadChar { .. } => "BadChar",
+        LexFault::OpenString { .. } => "OpenString",
+        LexFault::OpenComment { .. } => "OpenComment",
+        LexFault::OpenGroup { .. } => "OpenGroup",
+        LexFault::NoMemory => "NoMemory",
+    }
+}
+
+// The name of a fault of statements.
+fn name_of_read(fault: &ReadFault) -> &'static str
+    ensures { result.now ≡ read_fault_name fault.now }
+{
+    match fault {
+        ReadFault::Unexpected { .. } => "Unexpected",
+        ReadFault::EndOfFile => "EndOfFile",
+        ReadFault::TooDeep { .. } => "TooDeep",
+        ReadFault::BadAffix { .. } => "BadAffix",
+        ReadFault::NoMemory => "NoMemory",
+    }
+}
+
+// Writes the name of a fault of types and what it carries, each after a blank.
+fn tell_types<X: Sink>(err: &mut X, fault: &TypeFault) -> Result<(), Failed>
+    ensures ok { OnOk result (Adds (X.written err.old) (X.written err.new) (spaced (type_fault_words fault.now))) }
+    ensures front { AddsFront (X.written err.old) (X.written err.new) (spaced (type_fault_words fault.now)) }
+    ensures no_fall { X.faults err.old ≤ X.faults err.new }
+    ensures failed { OnErr result (HasRisen (X.faults err.old) (X.faults err.new)) }
+{
+    match fault {
+        TypeFault::Duplicate { name } => put_words(err, &["Duplicate", name.as_str()]),
+        TypeFault::Unknown { name, parent } => put_words(
+            err,
+            &["Unknown", name.as_str(), parent.as_str()],
+        ),
+        TypeFault::Cycle { name } => put_words(err, &["Cycle", name.as_str()]),
+        TypeFault::Reserved { name } => put_words(err, &["Reserved", name.as_str()]),
+        TypeFault::TooMany { count } => {
+            let mut digits = Buffer::new();
+            put_words(err, &["TooMany", digits.format(*count)])
+        }
+        TypeFault::NoMemory => put_words(err, &["NoMemory"]),
+    }
+}
+
+// Writes the name of a cause and what it carries, each after a blank.
+fn tell_words<X: Sink>(err: &mut X, why: &Why) -> Result<(), Failed>
+    ensures ok { OnOk result (Adds (X.written err.old) (X.written err.new) (spaced (why_words why.now))) }
+    ensures front { AddsFront (X.written err.old) (X.written err.new) (spaced (why_words why.now)) }
+    ensures no_fall { X.faults err.old ≤ X.faults err.new }
+    ensures failed { OnErr result (HasRisen (X.faults err.old) (X.faults err.new)) }
+{
+    match why {
+        Why::Settings => put_words(err, &["Settings"]),
+        Why::Shelf => put_words(err, &["Shelf"]),
+        Why::TooLong => put_words(err, &["TooLong"]),
+        Why::IncludeLoop => put_words(err, &["IncludeLoop"]),
+        Why::TooManyFiles => put_words(err, &["TooManyFiles"]),
+        Why::Lex(fault) => put_words(err, &[name_of_lex(fault)]),
+        Why::Read(fault) => put_words(err, &[name_of_read(fault)]),
+        Why::Environment => put_words(err, &["Environment"]),
+        Why::Typing(fault) => tell_types(err, fault),
+        Why::TooManyTypes => put_words(err, &["TooManyTypes"]),
+        Why::Arity => put_words(err, &["Arity"]),
+        Why::Orthography => put_words(err, &["Orthography"]),
+    }
+}
+
+// Writes the end of a line that tells a cause.
+fn tell_cause<X: Sink>(err: &mut X, why: &Why) -> Result<(), Failed>
+    ensures ok { OnOk result (Adds (X.written err.old) (X.written err.new) (cause_text why.now)) }
+    ensures front { AddsFront (X.written err.old) (X.written err.new) (cause_text why.now) }
+    ensures no_fall { X.faults err.old ≤ X.faults err.new }
+    ensures failed { OnErr result (HasRisen (X.faults err.old) (X.faults err.new)) }
+{
+    put_all(err, b":")?;
+    tell_words(err, why)?;
+    put_all(err, b"\n")
+}
+
+// Whether the cause says something of a place in the file.
+fn has_place(why: &Why) -> bool
+    ensures { result ≡ has_place why.now }
+{
+    match why {
+        Why::Shelf | Why::TooLong | Why::IncludeLoop | Why::TooManyFiles => false,
+        Why::Settings
+        | Why::Lex(_)
+        | Why::Read(_)
+        | Why::Environment
+        | Why::Typing(_)
+        | Why::TooManyTypes
+        | Why::Arity
+        | Why::Orthography => true,
+    }
+}
+
+// Writes the place of a fault, where its cause has one.
+fn tell_place<X: Sink>(err: &mut X, at: u32, why: &Why) -> Result<(), Failed>
+    ensures ok { OnOk result (Adds (X.written err.old) (X.written err.new) (place_text why.now at)) }
+    ensures front { AddsFront (X.written err.old) (X.written err.new) (place_text why.now at) }
+    ensures no_fall { X.faults err.old ≤ X.faults err.new }
+    ensures failed { OnErr result (HasRisen (X.faults err.old) (X.faults err.new)) }
+{
+    if !has_place(why) {
+        return Ok(());
+    }
+    let mut digits = Buffer::new();
+    put_both(err, b":", digits.format(at).as_bytes())
+}
+
+// Writes the place and the cause of a fault.
+fn tell_rest<X: Sink>(err: &mut X, at: u32, why: &Why) -> Result<(), Failed>
+    ensures ok { OnOk result (Adds (X.written err.old) (X.written err.new) (place_text why.now at ++ cause_text why.now)) }
+    ensures front { AddsFront (X.written err.old) (X.written err.new) (place_text why.now at ++ cause_text why.now) }
+    ensures no_fall { X.faults err.old ≤ X.faults err.new }
+    ensures failed { OnErr result (HasRisen (X.faults err.old) (X.faults err.new)) }
+{
+    tell_place(err, at, why)?;
+    tell_cause(err, why)
+}
+
+// Writes the text of a fault of a grammar's files.
+fn tell_found<X: Sink>(err: &mut X, file: &str, at: u32, why: &Why) -> Result<(), Failed>
+    ensures ok { OnOk result (Adds (X.written err.old) (X.written err.new) ((codes "lkb: " ++ file.now) ++ (place_text why.now at ++ cause_text why.now))) }
+    ensures front { AddsFront (X.written err.old) (X.written err.new) ((codes "lkb: " ++ file.now) ++ (place_text why.now at ++ cause_text why.now)) }
+    ensures failed { OnErr result (HasRisen (X.faults err.old) (X.faults err.new)) }
+{
+    put_both(err, b"lkb: ", file.as_bytes())?;
+    tell_rest(err, at, why)
+}
+
 // Writes the text of a fault.
-fn tell<X: Sink>(err: &mut X, command: &Option<Command>, fault: Fault) -> Result<(), Failed>
-    ensures ok { OnOk result (Adds (X.written err.old) (X.written err.new) (fault_text (option_map form command.now) (Err fault))) }
-    ensures front { AddsFront (X.written err.old) (X.written err.new) (fault_text (option_map form command.now) (Err fault)) }
+fn tell<X: Sink>(err: &mut X, command: &Option<Command>, fault: &Fault) -> Result<(), Failed>
+    ensures ok { OnOk result (Adds (X.written err.old) (X.written err.new) (fault_text (option_map form command.now) (Err fault.now))) }
+    ensures front { AddsFront (X.written err.old) (X.written err.new) (fault_text (option_map form command.now) (Err fault.now)) }
     ensures failed { OnErr result (HasRisen (X.faults err.old) (X.faults err.new)) }
 {
     match fault {
         Fault::Usage => put_all(err, USAGE),
-        Fault::File(cause) => tell_file(err, name_of(command), cause),
-        Fault::Stopped(stop) => put_all(err, text_of_stop(stop)),
+        Fault::File(cause) => tell_file(err, name_of(command), *cause),
+        Fault::Found { file, at, why } => tell_found(err, file.as_str(), *at, why),
+        Fault::Stopped(stop) => put_all(err, text_of_stop(*stop)),
     }
 }
 
@@ -86,11 +244,11 @@ fn tell<X: Sink>(err: &mut X, command: &Option<Command>, fault: Fault) -> Result
 pub fn conclude<X: Sink>(
     err: &mut X,
     command: &Option<Command>,
-    outcome: Result<bool, Fault>,
+    outcome: &Result<bool, Fault>,
 ) -> Status
-    ensures status { result ≡ status_of outcome }
-    ensures tells { Tells (X.written err.old) (X.written err.new) (X.faults err.old) (X.faults err.new) (fault_text (option_map form command.now) outcome) }
-    ensures silent { (refused : _) → outcome ≡ Ok refused → err.new ≡ err.old }
+    ensures status { result ≡ status_of outcome.now }
+    ensures tells { Tells (X.written err.old) (X.written err.new) (X.faults err.old) (X.faults err.new) (fault_text (option_map form command.now) outcome.now) }
+    ensures silent { (refused : _) → outcome.now ≡ Ok refused → err.new ≡ err.old }
 {
     if let Err(fault) = outcome {
         let _told = tell(err, command, fault);
@@ -99,14 +257,14 @@ pub fn conclude<X: Sink>(
 }
 
 // The status of this end of a run.
-fn status(outcome: Result<bool, Fault>) -> Status
-    ensures { result ≡ status_of outcome }
+fn status(outcome: &Result<bool, Fault>) -> Status
+    ensures { result ≡ status_of outcome.now }
 {
     match outcome {
         Ok(false) => Status::Done,
         Ok(true) => Status::Items,
         Err(Fault::Usage) => Status::Usage,
-        Err(Fault::File(_)) => Status::Grammar,
+        Err(Fault::File(_)) | Err(Fault::Found { .. }) => Status::Grammar,
         Err(Fault::Stopped(Stop::Write)) => Status::WriteFault,
         Err(Fault::Stopped(Stop::NoMemory)) => Status::NoMemory,
         Err(Fault::Stopped(_)) => Status::ReadFault,

@@ -1,7 +1,9 @@
 //! The words of the command line, and the file that they name.
 ghost use Rattle.std.specs.Prelude.{◌≡◌, ◌==◌, ◌||◌, ◌&&◌, not, IfOk, map, option_map, string_bytes};
-ghost use Rattle.lkb.specs.Words.{form, form_of, name_in, is_name, has_ending, file_of};
+ghost use Rattle.lkb.specs.Words.{name_in, has_ending, file_of};
+ghost use Rattle.lkb.specs.Reader.{form, form_of, read_in, nothing_read, with_option, with_positional, with_plain, with_word, types_form, types_of, parse_of, alone, form_by};
 
+use crate::options::{OptionName, Options, is_name, option_of};
 use std::alloc::{AllocError, Global};
 
 /// What the words of the command line ask for.
@@ -13,38 +15,176 @@ pub enum Command<'a> {
     Version,
     /// The parses of the lines of the input, with the grammar of this name.
     Parse(&'a str),
+    /// The types of the grammar of this name, each with its immediate supertypes. It heeds `--settings` alone.
+    Types(&'a str, Options<'a>),
 }
 
-/// The command of these words, which don't hold the program's name. None where they are outside the
-/// form: `parse` with one name, or `--help` or `--version` alone.
-pub fn command_of(words: &[String]) -> Option<Command<'_>>
-    ensures { option_map form result ≡ form_of (map (λ w. string_bytes w) words.now) }
+// What was read of the words after `types`: the options and the grammar's name, where they stood, and the
+// option whose value comes next.
+#[derive(Clone, Copy)]
+struct ReadWords<'a> {
+    options: Options<'a>,
+    file: Option<&'a str>,
+    waiting: Option<OptionName>,
+}
+
+impl<'a> ReadWords<'a> {
+    // Nothing was read yet.
+    fn new() -> ReadWords<'a>
+        ensures { read_in result ≡ nothing_read }
+    {
+        ReadWords {
+            options: Options::none(),
+            file: None,
+            waiting: None,
+        }
+    }
+
+    // After the word of an option. None where it stands already.
+    fn with_option(&self, option: OptionName) -> Option<ReadWords<'a>>
+        ensures { option_map read_in result ≡ with_option option (read_in self.now) }
+    {
+        if self.options.has(option) {
+            return None;
+        }
+        match option {
+            OptionName::Mrs => Some(ReadWords {
+                options: Options {
+                    mrs: true,
+                    ..self.options
+                },
+                ..*self
+            }),
+            OptionName::Lattice => Some(ReadWords {
+                options: Options {
+                    lattice: true,
+                    ..self.options
+                },
+                ..*self
+            }),
+            OptionName::Workers
+            | OptionName::Edges
+            | OptionName::Readings
+            | OptionName::Lexical
+            | OptionName::Unary
+            | OptionName::Empty
+            | OptionName::Settings => Some(ReadWords {
+                waiting: Some(option),
+                ..*self
+            }),
+        }
+    }
+
+    // After a positional word. None where it is no name, or a name stands already.
+    fn with_positional(&self, word: &'a str) -> Option<ReadWords<'a>>
+        ensures { option_map read_in result ≡ with_positional word.now (read_in self.now) }
+    {
+        if is_name(word) && self.file.is_none() {
+            Some(ReadWords {
+                file: Some(word),
+                ..*self
+            })
+        } else {
+            None
+        }
+    }
+
+    // After one word more. None where no command line goes on so.
+    fn with_word(&self, word: &'a str) -> Option<ReadWords<'a>>
+        ensures { option_map read_in result ≡ with_word (read_in self.now).waiting word.now (read_in self.now) }
+    {
+        if let Some(option) = self.waiting {
+            let options = self.options.with_value(option, word)?;
+            return Some(ReadWords {
+                options,
+                waiting: None,
+                ..*self
+            });
+        }
+        match option_of(word) {
+            Some(option) => self.with_option(option),
+            None => self.with_positional(word),
+        }
+    }
+
+    // The command, where the words end here. None where a value is still to come, or the grammar's name is.
+    fn command(&self) -> Option<Command<'a>>
+        ensures { option_map form result ≡ types_form (read_in self.now) }
+    {
+        match (self.waiting, self.file) {
+            (None, Some(file)) => Some(Command::Types(file, self.options)),
+            _ => None,
+        }
+    }
+}
+
+// The command of the words after `types`, in any order.
+fn types_of(words: &[String]) -> Option<Command<'_>>
+    ensures { option_map form result ≡ types_of (map (λ w. string_bytes w) words.now) }
+{
+    let mut read = ReadWords::new();
+    for word in words {
+        read = read.with_word(word)?;
+    }
+    read.command()
+}
+
+// The command of the words after `parse`.
+fn parse_of(words: &[String]) -> Option<Command<'_>>
+    ensures { option_map form result ≡ parse_of (map (λ w. string_bytes w) words.now) }
 {
     match words {
-        [word] if word.as_str() == "--help" => Some(Command::Help),
-        [word] if word.as_str() == "--version" => Some(Command::Version),
-        [word, name] if word.as_str() == "parse" && is_name(name) => Some(Command::Parse(name)),
+        [name] if is_name(name) => Some(Command::Parse(name)),
         _ => None,
     }
 }
 
-/// The name that a command gives, or none.
+// The command that has one word, where no other follows.
+fn alone<'a>(command: Command<'a>, words: &[String]) -> Option<Command<'a>>
+    ensures { option_map form result ≡ alone (form command.entry) (map (λ w. string_bytes w) words.now) }
+{
+    if words.is_empty() {
+        Some(command)
+    } else {
+        None
+    }
+}
+
+// The command of this word and the words after it.
+fn command_by<'a>(word: &str, words: &'a [String]) -> Option<Command<'a>>
+    ensures { option_map form result ≡ form_by word.now (map (λ w. string_bytes w) words.now) }
+{
+    if word == "types" {
+        types_of(words)
+    } else if word == "parse" {
+        parse_of(words)
+    } else if word == "--help" {
+        alone(Command::Help, words)
+    } else if word == "--version" {
+        alone(Command::Version, words)
+    } else {
+        None
+    }
+}
+
+/// The command of these words, which don't hold the program's name. None where they are outside the
+/// form: `parse` with one name, `types` with one name and options, or `--help` or `--version` alone.
+pub fn command_of(words: &[String]) -> Option<Command<'_>>
+    ensures { option_map form result ≡ form_of (map (λ w. string_bytes w) words.now) }
+{
+    match words {
+        [] => None,
+        [word, rest @ ..] => command_by(word, rest),
+    }
+}
+
+/// The name of the grammar that a command gives, or none.
 pub fn name_of<'a>(command: &Option<Command<'a>>) -> &'a str
     ensures { result.now ≡ name_in (option_map form command.now) }
 {
     match command {
-        Some(Command::Parse(name)) => name,
+        Some(Command::Parse(name)) | Some(Command::Types(name, _)) => name,
         _ => "",
-    }
-}
-
-// Whether the word names something: it isn't empty and doesn't begin with `-`.
-fn is_name(word: &str) -> bool
-    ensures { result ≡ is_name word.now }
-{
-    match word.as_bytes() {
-        [] => false,
-        [first, ..] => *first != b'-',
     }
 }
 

@@ -1,0 +1,11 @@
+use Rattle.std.proofs.Common.{◌≡◌, drop}
+use Rattle.std.specs.List.{find}
+use Rattle.chart_core.specs.Tests.{at_place, is_peer}
+use Rattle.chart_core.proofs.search.first_over.Given as goal
+
+abbrev pub invariant-loop-place : goal.invariant-loop-place
+invariant-loop-place g l =
+    let k = g.S.Shapes.calculus l.shapes in
+    let m = g.S.Shapes.meaning l.shapes in
+    let t = at_place (is_peer k m (λ h. k.over h (m l.shape)) l.cover l.level) l.rows in
+    find t l.places ≡ find t (drop l.place-index l.places)

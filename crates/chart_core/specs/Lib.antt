@@ -1,0 +1,15 @@
+pub mod Lists
+pub mod Grammar
+pub mod View
+pub mod Verdicts
+pub mod Tests
+pub mod Copies
+pub mod Leaves
+pub mod CoreView
+pub mod Sound
+pub mod Kept
+pub mod Outcomes
+pub mod Steps
+pub mod Calls
+pub mod Standings
+pub mod Counted

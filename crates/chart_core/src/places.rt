@@ -1,0 +1,57 @@
+//! Numbers of rows, found by a key.
+
+ghost use Rattle.std.specs.Prelude.{◌≡◌, ◌<◌, ◌≤◌, ◌++◌, ◌∷◌, ◌%◌, [], length, slice_set, IfOk, OnOk, All};
+
+use cover::NoMemory;
+use std::alloc::Global;
+
+/// Lists of numbers, one for each remainder of a key.
+#[derive(Drop)]
+pub struct Places {
+    lists: Vec<Vec<u64>>,
+}
+
+impl Places {
+    ghost use Rattle.chart_core.specs.Lists.{lists_of, IsFull, HasRoomAt, bucket};
+
+    /// Empty lists.
+    pub fn new(alloc: Global) -> Result<Places, NoMemory>
+        ensures full { IfOk result IsFull }
+        ensures empty { IfOk result (λ p. All (λ xs. xs ≡ []) (lists_of p)) }
+    {
+        let mut lists = Vec::with_capacity(alloc, 1021)?;
+        for _slot in 0..1021usize {
+            lists.push(Vec::new(alloc))?;
+        }
+        Ok(Places { lists })
+    }
+
+    /// The numbers under keys with this one's remainder.
+    pub fn at(&self, key: u32) -> &[u64]
+        requires { IsFull self.now }
+        ensures { result.now ≡ bucket (lists_of self.now) key }
+    {
+        self.lists[key as usize % 1021].as_slice()
+    }
+
+    /// Makes room for one more number under this key.
+    pub fn reserve(&mut self, key: u32) -> Result<(), NoMemory>
+        requires { IsFull self.old }
+        ensures full { IsFull self.new }
+        ensures same { lists_of self.new ≡ lists_of self.old }
+        ensures room { OnOk result (HasRoomAt self.new key) }
+    {
+        self.lists[key as usize % 1021].reserve(1)?;
+        Ok(())
+    }
+
+    /// Adds a number under this key.
+    pub fn push_reserved(&mut self, key: u32, number: u64)
+        requires full { IsFull self.old }
+        requires room { HasRoomAt self.old key }
+        ensures full { IsFull self.new }
+        ensures added { lists_of self.new ≡ slice_set (lists_of self.old) (key % 1021) (bucket (lists_of self.old) key ++ number ∷ []) }
+    {
+        self.lists[key as usize % 1021].push_reserved(number);
+    }
+}

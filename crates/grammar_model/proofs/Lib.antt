@@ -1,0 +1,16 @@
+pub mod EntryLemmas
+pub mod FormLemmas
+pub mod LineLemmas
+pub mod NameLemmas
+pub mod TextLemmas
+pub mod WalkLemmas
+pub mod SettingsLemmas
+pub mod LawLemmas
+pub mod OneLemmas
+pub mod SettleLists
+pub mod SettleBodies
+pub mod SettleRepeats
+pub mod SettleDecls
+pub mod SettleFaults
+pub mod SettleTables
+pub mod SettleOne

@@ -1,0 +1,16 @@
+pub mod Forms
+pub mod Kept
+pub mod SettingsFiles
+pub mod Settled
+pub mod SettingsViews
+pub mod Groups
+pub mod FileNames
+pub mod Environments
+pub mod Faults
+pub mod Walks
+pub mod TextViews
+pub mod Included
+pub mod WalkViews
+pub mod BodyStrings
+pub mod Typings
+pub mod SettleViews

@@ -1,0 +1,37 @@
+//! Laws of what the files of a grammar say.
+
+ghost use Rattle.std.specs.Prelude.{◌≡◌, ℕ, List, Bool, true, false, Option, Some, Result, Ok, Err};
+ghost use Rattle.type_hierarchy.specs.Table.{TypeTable};
+ghost use Rattle.grammar_model.specs.declared.fault.Why.{Why};
+ghost use Rattle.grammar_model.specs.Faults.{FoundFault};
+ghost use Rattle.grammar_model.specs.Forms.{Name};
+ghost use Rattle.grammar_model.specs.Typings.{AreTypesOf, IsTypesFault, IsSameFault};
+ghost use Rattle.grammar_model.specs.Walks.{Files, WalkedTree, WalksTo};
+
+/// Where the files are told and the shelf doesn't fail, a top name and settings have one outcome.
+pub fn one_walk()
+    ensures { (files : Name → Option (List ℕ)) (top : Name) (settings : Option Name) (r q : Result WalkedTree FoundFault)
+        → WalksTo (Some files) (λ _. false) top settings r → WalksTo (Some files) (λ _. false) top settings q → r ≡ q }
+{
+    tdl_lexer::one_reading();
+    tdl_reader::one_reading();
+}
+
+/// What the files say doesn't hang on where the shelf fails, unless it is a fault of the shelf; and that stands at a name at
+/// which the shelf fails.
+pub fn walk_without_faults()
+    ensures walked { (files : Files) (fails other : Name → Bool) (top : Name) (settings : Option Name) (tree : WalkedTree)
+        → WalksTo files fails top settings (Ok tree) → WalksTo files other top settings (Ok tree) }
+    ensures fault { (files : Files) (fails other : Name → Bool) (top : Name) (settings : Option Name) (f : FoundFault)
+        → (f.why ≡ Why.Shelf → ⊥) → WalksTo files fails top settings (Err f) → WalksTo files other top settings (Err f) }
+    ensures shelf { (files : Files) (fails : Name → Bool) (top : Name) (settings : Option Name) (f : FoundFault)
+        → WalksTo files fails top settings (Err f) → f.why ≡ Why.Shelf → fails f.file ≡ true }
+{}
+
+/// The types of what was walked are one table, or there is one fault, and never both. A fault's names are compared by their
+/// bytes.
+pub fn one_settling()
+    ensures tables { (w : WalkedTree) (t u : TypeTable) → AreTypesOf w t → AreTypesOf w u → t ≡ u }
+    ensures faults { (w : WalkedTree) (f g : FoundFault) → IsTypesFault w f → IsTypesFault w g → IsSameFault f g }
+    ensures not_both { (w : WalkedTree) (t : TypeTable) (f : FoundFault) → AreTypesOf w t → IsTypesFault w f → ⊥ }
+{}
