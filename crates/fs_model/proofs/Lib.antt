@@ -1,0 +1,17 @@
+pub mod ClosureLemmas
+pub mod ListedLemmas
+pub mod TableLemmas
+pub mod StepLemmas
+pub mod MoreSteps
+pub mod Ends
+pub mod NumberingLemmas
+pub mod SubsumeLemmas
+pub mod AnswerLemmas
+pub mod PartLemmas
+pub mod PathLemmas
+pub mod VisitLemmas
+pub mod VisitSteps
+pub mod VisitMeets
+pub mod RenumberLemmas
+pub mod ListingLemmas
+pub mod ListingSteps

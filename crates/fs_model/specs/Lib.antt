@@ -1,0 +1,10 @@
+pub mod Claims
+pub mod Closure
+pub mod Listed
+pub mod Sources
+pub mod Table
+pub mod Steps
+pub mod Numbering
+pub mod Laws
+pub mod DepthFirst
+pub mod Listing
