@@ -20,3 +20,10 @@ pub mod Peered
 pub mod Reversed
 pub mod Tally
 pub mod Decide
+pub mod Keyed
+pub mod Settled
+pub mod Looked
+pub mod Visits
+pub mod Passes
+pub mod Later
+pub mod Lasting

@@ -13,3 +13,7 @@ pub mod Steps
 pub mod Calls
 pub mod Standings
 pub mod Counted
+pub mod Noted
+pub mod Passed
+pub mod Passing
+pub mod Later

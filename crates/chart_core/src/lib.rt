@@ -2,12 +2,20 @@
 //!
 //! Packing by subsumption (Oepen and Carroll 2000): an edge whose shape a live host of its cover and level
 //! subsumes is packed into that host; otherwise it becomes a host, and frosts the hosts that it subsumes.
+//!
+//! A row is a leaf, the first daughters of a rule (a partial), or a mother under a rule. A task puts one more daughter, a
+//! host, under a rule: as its first daughter, or to the right of a partial. A new row makes its tasks at once, so each pair is
+//! tried exactly once, whatever order the tasks are taken in. `ordered_pass` takes them by the size and level of the mothers.
 #![tactic(auto)]
 
+ghost use Rattle.std.specs.Prelude.{◌≡◌};
+ghost use Rattle.chart_core.specs.declared.ChartFault.TheVariants as faults;
+
 pub use chart::Core;
-use cover::{Shapes, Tuple};
+use cover::{NoMemory, Shapes, Tuple};
 pub use ended::Finished;
 pub use finding::outcome_of;
+pub use ordered::ordered_pass;
 
 mod calls;
 mod chart;
@@ -17,7 +25,10 @@ mod ended;
 mod entering;
 mod finding;
 mod history;
+mod noted;
 mod open;
+mod ordered;
+mod passing;
 mod places;
 mod rows;
 mod search;
@@ -26,6 +37,7 @@ mod telling;
 #[cfg(test)]
 mod tests;
 mod tuples;
+mod verdicts;
 mod worker;
 
 /// The number of a row of a chart.
@@ -206,4 +218,12 @@ pub enum ChartFault {
     /// more packed classes than the limit, by this size
     Edges { size: u32 },
     NoMemory,
+}
+
+impl From<NoMemory> for ChartFault {
+    ghost from_gives = { λ _ fault. fault ≡ faults.NoMemory };
+
+    fn from(_: NoMemory) -> ChartFault {
+        ChartFault::NoMemory
+    }
 }

@@ -8,21 +8,26 @@ use cover::{Cover, NoMemory, Shapes};
 use std::alloc::Global;
 
 impl<S: Shapes> Core<S> {
-    ghost use Rattle.std.specs.Prelude.{◌≡◌, ◌<◌, IfOk, OnErr, MatchResult};
+    ghost use Rattle.std.specs.Prelude.{◌≡◌, ◌<◌, All, IfOk, OnErr, MatchResult};
     ghost use Rattle.chart_core.specs.Grammar.{grammar_of, keys_of};
     ghost use Rattle.chart_core.specs.Kept.{IsCore, tasks_of, places_of};
     ghost use Rattle.chart_core.specs.Calls.{Tells, IsOpenIn, IsInfo, ArePeers};
+    ghost use Rattle.chart_core.specs.Later.{IsLater, StaysRight};
 
     /// How a task stands.
     ///
     /// `Done` exactly where it is done, with the place of its entry. Else `Skipped` exactly where a daughter is frosted, with the
     /// first. Else `Ready` with the rule and equal shapes and covers of the daughters. `NoMemory` may stand in place of
-    /// `Ready` alone.
+    /// `Ready` alone. An outcome that is right for what was told stays right while outcomes of other tasks are entered.
     pub fn ready(&self, alloc: Global, shapes: &S, task: TaskId) -> Result<Ready<S>, NoMemory>
         requires core { IsCore (grammar_of S.Shapes S.Cover.Cover.own shapes.now) self.now }
         requires made { task.0 < tasks_of self.now }
         ensures tells { IfOk result (Tells (grammar_of S.Shapes S.Cover.Cover.own shapes.now) self.now task.0) }
         ensures no_memory { OnErr result (IsOpenIn (grammar_of S.Shapes S.Cover.Cover.own shapes.now) self.now task.0) }
+        ensures stays { IfOk result (λ r. (later : _)
+            → IsCore (grammar_of S.Shapes S.Cover.Cover.own shapes.now) later
+            → IsLater (grammar_of S.Shapes S.Cover.Cover.own shapes.now) self.now later
+            → StaysRight (grammar_of S.Shapes S.Cover.Cover.own shapes.now) later task.0 r) }
     {
         match self.standing(shapes, task) {
             Standing::Done(place) => Ok(Ready::Done { place }),
@@ -59,6 +64,7 @@ impl<S: Shapes> Core<S> {
     ) -> Result<Peers<S>, NoMemory>
         requires core { IsCore (grammar_of S.Shapes S.Cover.Cover.own shapes.now) self.now }
         ensures hosts { IfOk result (λ p. ArePeers (grammar_of S.Shapes S.Cover.Cover.own shapes.now) self.now cover.now level p.hosts.items) }
+        ensures belongs { IfOk result (λ p. All (λ peer. S.belongs shapes.now peer.shape) p.hosts.items) }
         ensures seen { IfOk result (λ p. p.seen ≡ places_of self.now) }
     {
         let places = self.cells.at(cover.cell());

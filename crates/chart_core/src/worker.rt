@@ -1,18 +1,19 @@
 //! A single worker: one task, from what a core tells of it to what is entered.
 
-use crate::{Core, Entered, Outcome, Ready, TaskId, outcome_of};
+use crate::{Caller, Core, Entered, Outcome, Ready, TaskId, outcome_of};
 use cover::{NoMemory, Shapes};
 use std::alloc::Global;
 
 impl<S: Shapes> Core<S> {
-    ghost use Rattle.std.specs.Prelude.{◌≡◌, ◌<◌, IfOk};
+    ghost use Rattle.std.specs.Prelude.{◌≡◌, ◌<◌, ◌≤◌, IfOk, OnOk};
     ghost use Rattle.chart_core.specs.Grammar.{grammar_of};
     ghost use Rattle.chart_core.specs.Kept.{IsCore, tasks_of};
     ghost use Rattle.chart_core.specs.Calls.{IsRightIn};
     ghost use Rattle.chart_core.specs.Outcomes.{ShapeBelongs};
+    ghost use Rattle.chart_core.specs.Later.{IsLater};
 
     // The outcome of a task, as a worker finds it by what `ready` tells: `Fails` where the task is done or skipped.
-    fn work_out(
+    pub(crate) fn work_out(
         &self,
         alloc: Global,
         shapes: &S,
@@ -42,9 +43,35 @@ impl<S: Shapes> Core<S> {
         requires core { IsCore (grammar_of S.Shapes S.Cover.Cover.own shapes.now) self.old }
         requires made { task.0 < tasks_of self.old }
         ensures core { IsCore (grammar_of S.Shapes S.Cover.Cover.own shapes.now) self.new }
+        ensures later { OnOk result (IsLater (grammar_of S.Shapes S.Cover.Cover.own shapes.now) self.old self.new) }
+        ensures more { tasks_of self.old ≤ tasks_of self.new }
     {
         let outcome = self.work_out(alloc, shapes, work, task)?;
         Ok(self.enter(alloc, shapes, work, task, outcome))
+    }
+
+    // Works out and enters a task, with verdicts on hosts of this cover and level that were there before another task.
+    pub(crate) fn advance_after(
+        &mut self,
+        alloc: Global,
+        shapes: &S,
+        work: &mut S::Work,
+        cover: &S::Cover,
+        level: u32,
+        other: TaskId,
+        task: TaskId,
+    ) -> Result<Entered, NoMemory>
+        requires core { IsCore (grammar_of S.Shapes S.Cover.Cover.own shapes.now) self.old }
+        requires other { other.0 < tasks_of self.old }
+        requires made { task.0 < tasks_of self.old }
+        ensures core { IsCore (grammar_of S.Shapes S.Cover.Cover.own shapes.now) self.new }
+    {
+        let peers = self.peers(alloc, shapes, cover, level)?;
+        self.advance(alloc, shapes, work, other)?;
+        let outcome = self.work_out(alloc, shapes, work, task)?;
+        let tested = peers.test(alloc, shapes, work, &outcome)?;
+        let by = Caller { seat: 0, count: 0 };
+        Ok(self.enter_tested(alloc, shapes, work, task, outcome, by, &tested))
     }
 
     // Works out and enters the tasks below a bound, in order, as they are made.

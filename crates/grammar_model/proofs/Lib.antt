@@ -7,10 +7,12 @@ pub mod WalkLemmas
 pub mod SettingsLemmas
 pub mod LawLemmas
 pub mod OneLemmas
+pub mod EachLemmas
 pub mod SettleLists
 pub mod SettleBodies
 pub mod SettleRepeats
 pub mod SettleDecls
 pub mod SettleFaults
+pub mod SettlePlaces
 pub mod SettleTables
 pub mod SettleOne

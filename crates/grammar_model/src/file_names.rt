@@ -12,8 +12,8 @@ fn has_ending_after(ending: bool, byte: u8) -> bool
     byte == b'.' || (ending && byte != b'/')
 }
 
-// Whether a `.` stands after the last `/`.
-fn has_ending(name: &str) -> bool
+/// Whether a `.` stands after the last `/` of a name.
+pub fn has_ending(name: &str) -> bool
     ensures { result ≡ has_ending name.now }
 {
     let mut ending = false;

@@ -3,14 +3,13 @@
 ghost use Rattle.std.specs.Prelude.{◌≡◌, ℕ, ◌+◌, ◌*◌, ◌-◌, ◌<◌, ◌≤◌, ◌^◌, true, map, min, IfOk, Option, [], ◌∷◌, string_bytes, encode_utf8_all, length};
 ghost use Rattle.std.specs.List.{list_all};
 ghost use Rattle.std.specs.Char.{is_ascii_digit, is_ascii_lowercase};
-ghost use Rattle.type_hierarchy.specs.Faults.{is_glb_name};
-ghost use Rattle.tdl_lexer.specs.Characters.{is_name, in_name};
 ghost use Rattle.grammar_model.specs.Forms.{is_among, written_types, form_of, form_of_one, is_word, features, is_path, name_of, path_of, without_plus, value_of_digits, is_number, limit_in, fits, has_form};
 ghost use Rattle.grammar_model.specs.Kept.{words_in};
 
 use crate::fault::NoMemory;
 use std::alloc::{AllocError, Global};
-use unicode::properties::GeneralCategory;
+use tdl_lexer::is_name;
+use type_hierarchy::is_glb_name;
 
 /// The form of a setting's values.
 #[derive(Clone, Copy, Debug, PartialEq, Eq)]
@@ -129,42 +128,6 @@ fn form_of(name: &str) -> Option<ValueForm>
     }
 }
 
-// Whether characters past ASCII of a general category stand in names.
-fn in_name(category: GeneralCategory) -> bool
-    ensures { result ≡ in_name category }
-{
-    !matches!(
-        category,
-        GeneralCategory::SpaceSeparator
-            | GeneralCategory::LineSeparator
-            | GeneralCategory::ParagraphSeparator
-            | GeneralCategory::Control
-            | GeneralCategory::Surrogate
-            | GeneralCategory::PrivateUse
-            | GeneralCategory::Unassigned
-    )
-}
-
-// Whether a character stands in names.
-#[tactic(auto, unfolding(tdl_lexer::specs::Characters::is_name))]
-fn is_name(c: char) -> bool
-    ensures { result ≡ is_name c }
-{
-    if (c as u32) < 128 {
-        c.is_ascii_alphabetic()
-            || c.is_ascii_digit()
-            || c == '*'
-            || c == '+'
-            || c == '-'
-            || c == '_'
-            || c == '?'
-            || c == '@'
-            || c == '~'
-    } else {
-        in_name(GeneralCategory::for_char(c))
-    }
-}
-
 // Whether a word is one or more name characters.
 fn is_word(word: &[char]) -> bool
     ensures { result ≡ is_word word.now }
@@ -256,24 +219,6 @@ pub(crate) fn path_of(alloc: Global, word: &[char]) -> Result<Vec<String>, Alloc
         out.push(name_of(alloc, feature)?)?;
     }
     Ok(out)
-}
-
-// Whether a name is `glbtype` followed by digits alone.
-fn is_glb_name(name: &str) -> bool
-    ensures { result ≡ is_glb_name name.now }
-{
-    let bytes = name.as_bytes();
-    if bytes.len() <= 7 {
-        return false;
-    }
-    let (front, digits) = bytes.split_at(7);
-    front == b"glbtype".as_slice() && are_digit_bytes(digits)
-}
-
-fn are_digit_bytes(bytes: &[u8]) -> bool
-    ensures { result ≡ list_all is_ascii_digit bytes.now }
-{
-    bytes.iter().all(|b| b.is_ascii_digit())
 }
 
 // The characters after a plus sign at the beginning.

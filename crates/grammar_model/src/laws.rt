@@ -1,6 +1,6 @@
 //! Laws of what the files of a grammar say.
 
-ghost use Rattle.std.specs.Prelude.{◌≡◌, ℕ, List, Bool, true, false, Option, Some, Result, Ok, Err};
+ghost use Rattle.std.specs.Prelude.{◌≡◌, ℕ, List, Bool, true, false, Option, Some, None, Result, Ok, Err};
 ghost use Rattle.type_hierarchy.specs.Table.{TypeTable};
 ghost use Rattle.grammar_model.specs.declared.fault.Why.{Why};
 ghost use Rattle.grammar_model.specs.Faults.{FoundFault};
@@ -15,6 +15,16 @@ pub fn one_walk()
 {
     tdl_lexer::one_reading();
     tdl_reader::one_reading();
+}
+
+/// Where the files are told, and the shelf fails at each name that has none, each top name and settings have an outcome.
+pub fn each_walk()
+    ensures { (files : Name → Option (List ℕ)) (fails : Name → Bool) (top : Name) (settings : Option Name)
+        → ((name : Name) → files name ≡ None → fails name ≡ true)
+        → (r : Result WalkedTree FoundFault) × WalksTo (Some files) fails top settings r }
+{
+    tdl_lexer::each_has_a_reading();
+    tdl_reader::each_has_a_reading();
 }
 
 /// What the files say doesn't hang on where the shelf fails, unless it is a fault of the shelf; and that stands at a name at

@@ -1,9 +1,10 @@
 //! The types that a grammar's statements settle.
 
-ghost use Rattle.std.specs.Prelude.{◌≡◌, ℕ, ◌<◌, length, map, IfOk, IfErr, MatchOption, string_bytes};
+ghost use Rattle.std.specs.Prelude.{◌≡◌, ◌≢◌, ℕ, ◌<◌, length, map, IfOk, IfErr, MatchOption, string_bytes};
 ghost use Rattle.constraint_expand.specs.Placings.{PlacedTree, placed_of};
 ghost use Rattle.type_hierarchy.specs.Decls.{decls_of};
 ghost use Rattle.type_hierarchy.specs.Faults.{IsFirst, IsFaultOf};
+ghost use Rattle.type_hierarchy.specs.declared.decl.TypeFault.{TypeFault};
 ghost use Rattle.grammar_model.specs.Faults.{IsFaultBy};
 ghost use Rattle.grammar_model.specs.Typings.{file_name, fault_of, name_written, type_definitions, decls_in, StandsAt, IsRepeat, HasNoRepeat, IsWritten, AreTypesOf, IsTypesFault};
 ghost use Rattle.grammar_model.specs.WalkViews.{walked_of, CanSettle};
@@ -86,13 +87,14 @@ fn definition_with<'a>(statements: &'a [Placed], fault: &TypeFault) -> Option<&'
 
 // The fault of the declarations of types.
 fn typing_fault(alloc: Global, walked: &Walked, fault: TypeFault) -> LoadFault
+    requires own { fault ≢ TypeFault.NoMemory }
     requires once { HasNoRepeat (walked_of walked.now).statements }
     requires fault { IsFaultOf (walked_of walked.now).settings.top_type (walked_of walked.now).settings.string_type (decls_in (walked_of walked.now).statements) fault }
     ensures { IsFaultBy (IsTypesFault (walked_of walked.now)) result }
 {
     match definition_with(&walked.statements, &fault) {
         Some(placed) => fault_of(alloc, walked, placed, Why::Typing(fault)),
-        None => LoadFault::NoMemory,
+        None => unreachable!(),
     }
 }
 
@@ -115,6 +117,7 @@ fn written(alloc: Global, walked: &Walked, decls: &[Decl]) -> Result<Hierarchy, 
             let _count = hierarchy.count();
             Ok(hierarchy)
         }
+        Err(TypeFault::NoMemory) => Err(LoadFault::NoMemory),
         Err(fault) => Err(typing_fault(alloc, walked, fault)),
     }
 }

@@ -1,5 +1,6 @@
 //! What no clause says: that the calls succeed with ample memory, and examples of settings, files and faults.
 
+use crate::file_names::{included_in, with_ending};
 use crate::{LoadFault, Settings, SettingsFault, Walked, walk};
 use lkb_io::{MemShelf, ShelfFile};
 use std::alloc::{AllocError, Global};
@@ -202,5 +203,39 @@ fn defaults_of_settings(rt: HostRuntime) -> Result<(), Fail> {
     assert_eq!(rt; settings.mrs_path.len(), 3);
     assert_eq!(rt; settings.sort.len(), 4);
     assert_eq!(rt; settings.skip_roles.len(), 4);
+    Ok(())
+}
+
+#[test]
+fn tdl_is_added_where_no_ending_stands(rt: HostRuntime) -> Result<(), Fail> {
+    let rows = [
+        ("g", "g.tdl"),
+        ("g.tdl", "g.tdl"),
+        ("g.inc", "g.inc"),
+        ("d/g.", "d/g."),
+        ("d.e/g", "d.e/g.tdl"),
+        ("../g", "../g.tdl"),
+    ];
+    for (name, want) in rows {
+        assert_eq!(rt; with_ending(rt.alloc(), name)?.as_str(), want);
+    }
+    Ok(())
+}
+
+#[test]
+fn included_names_stand_in_the_folder_of_their_file(rt: HostRuntime) -> Result<(), Fail> {
+    let rows = [
+        ("g.tdl", "m", "m.tdl"),
+        ("d/g.tdl", "m", "d/m.tdl"),
+        ("d/e/g.tdl", "m.inc", "d/e/m.inc"),
+        ("d/g.tdl", "e/m", "d/e/m.tdl"),
+        ("d/g.tdl", "../m", "d/../m.tdl"),
+        ("d/g.tdl", "/m", "/m.tdl"),
+        ("/d/g.tdl", "m", "/d/m.tdl"),
+        ("d.e/g", "m", "d.e/m.tdl"),
+    ];
+    for (from, file, want) in rows {
+        assert_eq!(rt; included_in(rt.alloc(), from, file)?.as_str(), want);
+    }
     Ok(())
 }

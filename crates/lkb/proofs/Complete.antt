@@ -11,7 +11,8 @@ use Rattle.lkb.specs.declared.faults.Fault.TheVariants.{Usage, File, Found, Stop
 use Rattle.lkb.specs.declared.faults.FileFault.{FileFault}
 use Rattle.lkb.specs.declared.faults.FileFault.TheVariants.{Shelf, TooLong as FileTooLong, NotBuilt}
 use Rattle.lkb.specs.declared.faults.Status.TheVariants.{ReadFault, NoMemory as NoMemoryStatus}
-use Rattle.lkb.specs.Words.{Form, help, version, parse, types, file_of}
+use Rattle.grammar_model.specs.FileNames.{with_ending}
+use Rattle.lkb.specs.Words.{Form, help, version, parse, types}
 use Rattle.lkb.specs.Readings.{AreLines, AreShort, AreReadable, ReadsAll, ReadsPart, Reads}
 use Rattle.lkb.specs.Files.{Shelves, IsGrammarOf, FileFails}
 use Rattle.lkb.specs.Reports.{Streams, IsServed, IsServedTo, IsServedToLast}
@@ -98,7 +99,7 @@ abbrev IsSettled : Shelves → Streams → (unread idle : Type 0) → Form → R
 IsSettled h o unread idle form end = ((status_of end ≡ NoMemoryStatus) ⊎ ((refused : Bool) × (end ≡ Ok refused) × Ran h o unread idle form (Ok refused))) ⊎ ((status_of end ≡ ReadFault) × StopsLate h o form)
 
 no-fault : (h : Shelves) (form : Form) (fault : Fault) (files : List ℕ → Option (List ℕ)) → Outcomes → h.files ≡ Some files → IsLoadable h.files form → FormFails h form fault → (HasRisen h.faults_old h.faults_new → ⊥) → ⊥
-no-fault h (parse name) (File cause) files laws e is fails none = no-file-fault h files (file_of name) is.0 cause e is.1 fails none
+no-fault h (parse name) (File cause) files laws e is fails none = no-file-fault h files (with_ending name) is.0 cause e is.1 fails none
 no-fault h (types name options) (Found file at why) files laws e is fails none = no-types-fault h files name options.settings is.0 (fault_at file at why) laws e is.1 fails none
 no-fault h form fault files laws e is fails none = absurd fails
 

@@ -1,7 +1,6 @@
 pub mod Readings
 pub mod Exits
 pub mod Pieces
-pub mod Endings
 pub mod Telling
 pub mod Runs
 pub mod OutcomeLemmas

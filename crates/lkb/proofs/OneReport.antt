@@ -3,7 +3,8 @@ use Rattle.std.proofs.Common.{suc, ◌≡◌, ℕ, ◌∙◌, sym, ap, refl, Lis
 use Rattle.first_grammar.specs.Grammar.{Grammar}
 use Rattle.first_grammar.specs.File.{IsFirstGrammar}
 use Rattle.first_parse.specs.Report.{IsAnswer, HasOneAnswer}
-use Rattle.lkb.specs.Words.{Form, help, version, parse, types, file_of}
+use Rattle.grammar_model.specs.FileNames.{with_ending}
+use Rattle.lkb.specs.Words.{Form, help, version, parse, types}
 use Rattle.lkb.specs.Reports.{AreAnswers, no_line, a_line}
 use Rattle.type_hierarchy.specs.Table.{TypeTable}
 use Rattle.lkb.specs.Grammars.{HasTypes}
@@ -30,7 +31,7 @@ pub one-report : ((text : List ℕ) (g h : Grammar) → IsFirstGrammar text g �
 one-report grammars answers tables files help lines pieces others refused may p q = (p.0 ∙ sym q.0, p.1 ∙ sym q.1)
 one-report grammars answers tables files version lines pieces others refused may p q = (p.0 ∙ sym q.0, p.1 ∙ sym q.1)
 one-report grammars answers tables files (parse name) lines pieces others refused may p q =
-    let text = some-same (files (file_of name)) p.1.0 q.1.0 p.1.1.0 q.1.1.0 in
+    let text = some-same (files (with_ending name)) p.1.0 q.1.0 p.1.1.0 q.1.1.0 in
     let same : p.0 ≡ q.0 = grammars q.1.0 p.0 q.0 (subst (λ t. IsFirstGrammar t p.0) text p.1.2) q.1.2 in
     one-answers (IsAnswer q.0) (λ n line own other b c. answers q.0 n line own other b c) 1 lines pieces others refused may
     (subst (λ g. AreAnswers (IsAnswer g) 1 lines pieces refused) same p.2) q.2

@@ -5,7 +5,8 @@ use Rattle.first_parse.specs.Report.{IsAnswer}
 use Rattle.lkb.specs.declared.lines.Stop.{Stop}
 use Rattle.lkb.specs.declared.lines.Stop.TheVariants.{Read, TooLong, TooMany, Write, NoMemory}
 use Rattle.lkb.specs.declared.faults.Fault.TheVariants.{Stopped}
-use Rattle.lkb.specs.Words.{parse, file_of}
+use Rattle.grammar_model.specs.FileNames.{with_ending}
+use Rattle.lkb.specs.Words.{parse}
 use Rattle.lkb.specs.Files.{Shelves, IsGrammarOf}
 use Rattle.lkb.specs.Reports.{AreAnswers, Streams, Served, IsServedTo, IsServedInPart}
 use Rattle.lkb.specs.Endings.{IsReport, Ended}
@@ -24,7 +25,7 @@ served-map R T o f TooMany r = record { lines = r.lines; part = r.part; pieces =
 served-map R T o f Write s = (in_part R T o f s.0, s.1)
 served-map R T o f NoMemory s = in_part R T o f s
 
-pub stopped : (h : Shelves) (o : Streams) (unread idle untouched : Type 0) (name : List ℕ) (grammar : Grammar) → IsGrammarOf h.files (file_of name) grammar → (stop : Stop) → Served (AreAnswers (IsAnswer grammar) 1) o (Err stop)
+pub stopped : (h : Shelves) (o : Streams) (unread idle untouched : Type 0) (name : List ℕ) (grammar : Grammar) → IsGrammarOf h.files (with_ending name) grammar → (stop : Stop) → Served (AreAnswers (IsAnswer grammar) 1) o (Err stop)
     → Ended h o unread idle untouched (Some (parse name)) (Err (Stopped stop))
 stopped h o unread idle untouched name grammar is stop s = by_cases stop (served-map (AreAnswers (IsAnswer grammar) 1) (IsReport h.files (parse name)) o (λ lines pieces refused r. (grammar, is, r)) stop s)
   where

@@ -3,7 +3,8 @@ use Rattle.std.proofs.Common.{◌≡◌, ℕ, ◌∙◌, sym, ap, List, [], ◌�
 use Rattle.lkb.specs.declared.faults.Fault.{Fault}
 use Rattle.lkb.specs.declared.faults.Fault.TheVariants.{File}
 use Rattle.lkb.specs.declared.faults.FileFault.{FileFault}
-use Rattle.lkb.specs.Words.{Form, has_ending, file_of, name_in}
+use Rattle.grammar_model.specs.FileNames.{has_ending, with_ending}
+use Rattle.lkb.specs.Words.{Form, name_in}
 use Rattle.lkb.specs.Texts.{ending_of_name, file_fault_line, file_fault_name, fault_text}
 
 regroup : (a n e b f : List ℕ) → (a ++ n) ++ (e ++ (b ++ f ++ 10 ∷ [])) ≡ a ++ (n ++ e) ++ b ++ f ++ 10 ∷ []
@@ -19,5 +20,5 @@ pub file-text : (form : Option Form) (fault : Fault) (cause : FileFault) (name :
     → (codes "lkb: " ++ name) ++ (ending_of_name name ++ file_fault_line cause) ≡ fault_text form (Err fault)
 file-text form fault cause name e n =
     parts (has_ending name) (codes "lkb: ") name (file_fault_name cause)
-    ∙ ap (λ t. codes "lkb: " ++ file_of t ++ codes ": " ++ file_fault_name cause ++ 10 ∷ []) n
+    ∙ ap (λ t. codes "lkb: " ++ with_ending t ++ codes ": " ++ file_fault_name cause ++ 10 ∷ []) n
     ∙ ap (λ f. fault_text form (Err f)) (sym e)

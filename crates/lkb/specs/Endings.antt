@@ -12,7 +12,8 @@ use Rattle.lkb.specs.declared.faults.Fault.TheVariants.{Usage, File, Found, Stop
 use Rattle.lkb.specs.declared.faults.Status.{Status}
 use Rattle.lkb.specs.declared.faults.Status.TheVariants.{Done, Items, Usage as UsageStatus, Grammar as GrammarStatus, ReadFault, WriteFault, NoMemory as NoMemoryStatus}
 use Rattle.lkb.specs.declared.lines.Stop.TheVariants.{Read, TooLong, TooMany}
-use Rattle.lkb.specs.Words.{Form, help, version, parse, types, file_of}
+use Rattle.grammar_model.specs.FileNames.{with_ending}
+use Rattle.lkb.specs.Words.{Form, help, version, parse, types}
 use Rattle.lkb.specs.Files.{Shelves, IsGrammarOf, FileFails}
 use Rattle.lkb.specs.Reports.{AreAnswers, Streams, Served, IsServedTo, IsServedToLast, IsServedInPart}
 use Rattle.type_hierarchy.specs.Table.{TypeTable}
@@ -24,7 +25,7 @@ use Rattle.lkb.specs.TypeReports.{type_lines}
 abbrev pub IsReport : Option (List ℕ → Option (List ℕ)) → Form → List (List ℕ) → List (List ℕ) → Bool → Type 0
 IsReport files help lines pieces refused = (pieces ≡ usage_line ∷ []) × (refused ≡ false)
 IsReport files version lines pieces refused = (pieces ≡ version_line ∷ []) × (refused ≡ false)
-IsReport files (parse name) lines pieces refused = (grammar : Grammar) × IsGrammarOf files (file_of name) grammar × AreAnswers (IsAnswer grammar) 1 lines pieces refused
+IsReport files (parse name) lines pieces refused = (grammar : Grammar) × IsGrammarOf files (with_ending name) grammar × AreAnswers (IsAnswer grammar) 1 lines pieces refused
 IsReport files (types name options) lines pieces refused = (table : TypeTable) × HasTypes files name options.settings table × (pieces ≡ type_lines table) × (refused ≡ false)
 
 -- The whole report of a command that reads no lines was written and flushed.
@@ -96,7 +97,7 @@ IsFaultless h o = (HasRisen h.faults_old h.faults_new → ⊥) × (HasRisen o.in
 abbrev pub IsLoadable : Option (List ℕ → Option (List ℕ)) → Form → Type 0
 IsLoadable files help = Unit {0}
 IsLoadable files version = Unit {0}
-IsLoadable files (parse name) = (grammar : Grammar) × IsGrammarOf files (file_of name) grammar
+IsLoadable files (parse name) = (grammar : Grammar) × IsGrammarOf files (with_ending name) grammar
 IsLoadable files (types name options) = (table : TypeTable) × HasTypes files name options.settings table
 
 -- The input was read to its end, where the command reads it.
@@ -108,7 +109,7 @@ IsReadThrough (types name options) left = Unit {0}
 
 -- whether the form's files have this fault
 abbrev pub FormFails : Shelves → Form → Fault → Type 0
-FormFails h (parse name) (File cause) = FileFails h (file_of name) cause
+FormFails h (parse name) (File cause) = FileFails h (with_ending name) cause
 FormFails h (types name options) (Found file at why) = TypesFail h name options.settings (fault_at file at why)
 FormFails h form fault = ⊥
 

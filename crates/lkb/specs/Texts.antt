@@ -17,7 +17,8 @@ use Rattle.type_hierarchy.specs.declared.decl.TypeFault.TheVariants.{Duplicate, 
 use Rattle.grammar_model.specs.declared.fault.Why.{Why}
 use Rattle.grammar_model.specs.declared.fault.Why.TheVariants.{Settings, Shelf as ShelfFailed, TooLong as FileTooLong, IncludeLoop, TooManyFiles, Lex, Read as Misread, Environment, Typing, TooManyTypes, Arity, Orthography}
 use Rattle.grammar_model.specs.Faults.{FoundFault}
-use Rattle.lkb.specs.Words.{Form, file_of, name_in, has_ending}
+use Rattle.grammar_model.specs.FileNames.{has_ending, with_ending}
+use Rattle.lkb.specs.Words.{Form, name_in}
 use Rattle.lkb.specs.Grammars.{fault_at}
 use Rattle.lkb.specs.TypeReports.{spaced}
 
@@ -110,7 +111,7 @@ found_text f = (codes "lkb: " ++ f.file) ++ (place_text f.why f.at ++ cause_text
 abbrev pub fault_text : Option Form → Result Bool Fault → List ℕ
 fault_text form (Ok refused) = []
 fault_text form (Err Usage) = usage_line
-fault_text form (Err (File cause)) = codes "lkb: " ++ file_of (name_in form) ++ codes ": " ++ file_fault_name cause ++ 10 ∷ []
+fault_text form (Err (File cause)) = codes "lkb: " ++ with_ending (name_in form) ++ codes ": " ++ file_fault_name cause ++ 10 ∷ []
 fault_text form (Err (Found file at why)) = found_text (fault_at file at why)
 fault_text form (Err (Stopped stop)) = stop_text stop
 

@@ -1,5 +1,5 @@
 -- The forms of the command line.
-use Rattle.std.specs.Prelude.{◌≡◌, ℕ, ◌≤◌, List, [], ◌∷◌, ◌++◌, Option, None, Some, Bool, true, false, ◌&&◌, ◌||◌, not, ◌==◌, if◌then◌else◌, codes}
+use Rattle.std.specs.Prelude.{◌≡◌, ℕ, ◌≤◌, List, [], ◌∷◌, ◌++◌, Option, None, Some, Bool, true, false, not, ◌==◌, codes}
 use Rattle.std.specs.Str.Parse.{IsNumeral, digits_value, without_leading_plus}
 use Rattle.lkb.specs.declared.options.OptionName.{OptionName}
 use Rattle.lkb.specs.declared.options.OptionName.TheVariants.{Workers, Edges, Readings, Lexical, Unary, Empty, Settings, Mrs, Lattice}
@@ -158,17 +158,3 @@ abbrev pub name_in : Option Form → List ℕ
 name_in (Some (parse file)) = file
 name_in (Some (types file options)) = file
 name_in other = []
-
--- no `/` stands in these bytes
-abbrev pub has_no_slash : List ℕ → Bool
-has_no_slash [] = true
-has_no_slash (b ∷ bs) = not (b == 47) && has_no_slash bs
-
--- a `.` stands after the last `/`
-abbrev pub has_ending : List ℕ → Bool
-has_ending [] = false
-has_ending (b ∷ bs) = has_ending bs || ((b == 46) && has_no_slash bs)
-
--- The file of a grammar: its name, and `.tdl` after it where no `.` stands after the last `/`.
-abbrev pub file_of : List ℕ → List ℕ
-file_of file = if has_ending file then file else file ++ codes ".tdl"

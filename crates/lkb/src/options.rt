@@ -164,8 +164,12 @@ pub fn is_name(word: &str) -> bool
 fn number(word: &str, least: u32, greatest: u32) -> Option<u32>
     ensures { result ≡ (if is_number least greatest word.now then Some (number_of word.now) else None) }
 {
-    match word.parse::<u32>() {
-        Ok(number) if least <= number && number <= greatest => Some(number),
-        _ => None,
+    let Ok(number) = word.parse::<u32>() else {
+        return None;
+    };
+    if least <= number && number <= greatest {
+        Some(number)
+    } else {
+        None
     }
 }

@@ -1,7 +1,7 @@
 //! The texts that the program writes besides the answers to lines.
 ghost use Rattle.std.specs.Prelude.{◌≡◌, ◌≤◌, ◌++◌, codes, map, option_map, Err, OnOk, OnErr};
 ghost use Rattle.lkb_io.specs.Outside.{HasRisen, Adds, AddsFront};
-ghost use Rattle.lkb.specs.Words.{has_ending};
+ghost use Rattle.grammar_model.specs.FileNames.{has_ending};
 ghost use Rattle.lkb.specs.Reader.{form};
 ghost use Rattle.lkb.specs.Texts.{stop_text, fault_text, Tells, ending_of_name, file_fault_line, lex_fault_name, read_fault_name, type_fault_words, why_words, has_place, place_text, cause_text};
 ghost use Rattle.lkb.specs.TypeReports.{spaced};
@@ -9,8 +9,9 @@ ghost use Rattle.lkb.specs.Endings.{status_of};
 
 use crate::faults::{Fault, FileFault, Status};
 use crate::lines::Stop;
-use crate::words::{Command, has_ending, name_of};
+use crate::words::{Command, name_of};
 use grammar_model::Why;
+use grammar_model::file_names::has_ending;
 use itoa::Buffer;
 use lkb_io::{Failed, Sink, put_all};
 use tdl_lexer::LexFault;

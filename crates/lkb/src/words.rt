@@ -1,10 +1,9 @@
-//! The words of the command line, and the file that they name.
-ghost use Rattle.std.specs.Prelude.{◌≡◌, ◌==◌, ◌||◌, ◌&&◌, not, IfOk, map, option_map, string_bytes};
-ghost use Rattle.lkb.specs.Words.{name_in, has_ending, file_of};
+//! The words of the command line.
+ghost use Rattle.std.specs.Prelude.{◌≡◌, map, option_map, string_bytes};
+ghost use Rattle.lkb.specs.Words.{name_in};
 ghost use Rattle.lkb.specs.Reader.{form, form_of, read_in, nothing_read, with_option, with_positional, with_plain, with_word, types_form, types_of, parse_of, alone, form_by};
 
 use crate::options::{OptionName, Options, is_name, option_of};
-use std::alloc::{AllocError, Global};
 
 /// What the words of the command line ask for.
 #[derive(Clone, Copy, Debug, PartialEq, Eq)]
@@ -186,33 +185,4 @@ pub fn name_of<'a>(command: &Option<Command<'a>>) -> &'a str
         Some(Command::Parse(name)) | Some(Command::Types(name, _)) => name,
         _ => "",
     }
-}
-
-/// The file of a grammar: its name, and `.tdl` after it where no `.` stands after the last `/`.
-pub fn file_name(alloc: Global, name: &str) -> Result<String, AllocError>
-    ensures { IfOk result (λ file. string_bytes file ≡ file_of name.now) }
-{
-    let mut file = String::from_str(alloc, name)?;
-    if !has_ending(name) {
-        file.push_str(".tdl")?;
-    }
-    Ok(file)
-}
-
-/// Whether a `.` stands after the last `/`.
-pub fn has_ending(name: &str) -> bool
-    ensures { result ≡ has_ending name.now }
-{
-    let mut ending = false;
-    for byte in name.as_bytes() {
-        ending = has_ending_after(ending, *byte);
-    }
-    ending
-}
-
-// Whether a `.` stands after the last `/` of a text with one byte more.
-fn has_ending_after(ending: bool, byte: u8) -> bool
-    ensures { result ≡ ((byte == 46) || (ending && not (byte == 47))) }
-{
-    byte == b'.' || (ending && byte != b'/')
 }

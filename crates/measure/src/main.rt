@@ -3,6 +3,7 @@
 //! of a subject the same of that subject alone.
 #![tactic(auto)]
 
+mod charts;
 mod hierarchies;
 mod lexing;
 mod report;
@@ -19,6 +20,9 @@ fn main(rt: HostRuntime) -> io::Result<()> {
     }
     if is_asked(asked.as_str(), "lexing") {
         lexing::measure(&rt, rt.alloc(), timed)?;
+    }
+    if is_asked(asked.as_str(), "charts") {
+        charts::measure(&rt, rt.alloc(), timed)?;
     }
     Ok(())
 }

@@ -17,6 +17,7 @@ ghost use Rattle.tdl_lexer.specs.declared.LexFault.{LexFault};
 
 use crate::pieces::{fault, piece};
 use crate::scan::first;
+pub use scan::is_name;
 use std::alloc::{AllocError, AllocFailed, Global};
 use std::str;
 pub use values::{spelled, value};

@@ -35,9 +35,10 @@ fn in_name(category: GeneralCategory) -> bool
     )
 }
 
-/// Whether a character stands in names.
+/// Whether a character stands in names: an ASCII letter or digit, one of `*+-_?@~`, or a character past ASCII that isn't
+/// white space, a control, a surrogate, of private use or unassigned, by its general category in Unicode.
 #[tactic(auto, unfolding(crate::specs::Characters::is_name))]
-pub(crate) fn is_name(c: char) -> bool
+pub fn is_name(c: char) -> bool
     ensures { result ≡ is_name c }
 {
     if (c as u32) < 128 {

@@ -29,8 +29,8 @@ pub fn first_cycle(
     Ok(None)
 }
 
-// Whether a name is `glbtype` followed by digits alone.
-fn is_glb_name(name: &str) -> bool
+/// Whether a name is `glbtype` followed by one or more digits, the names that added types have.
+pub fn is_glb_name(name: &str) -> bool
     ensures { result ≡ is_glb_name name.now }
 {
     let bytes = name.as_bytes();

@@ -15,6 +15,7 @@ mod supertypes;
 mod types;
 
 pub use decl::{Decl, TypeFault};
+pub use faults::is_glb_name;
 pub use hierarchy::{Hierarchy, MOST_TYPES};
 pub use types::{NoMemory, Ty, TypeCounts, Types};
 

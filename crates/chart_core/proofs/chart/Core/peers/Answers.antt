@@ -26,3 +26,6 @@ returns-clause-hosts g c =
     peers_are G (g.met.S.Shapes.laws s) core c.requires.core.sound c.args.cover.now c.args.level hosts
     (rw c.deref.ensures.value at c.in_ok-hosts.ensures.rows ∙ ap (filter t) cell)
     (rw c.deref.ensures.value at c.in_ok-hosts.ensures.copies)
+
+pub returns-clause-belongs : goal.returns-clause-belongs
+returns-clause-belongs g c = λ k d l. (c.in_ok-hosts.ensures.copies k d l).belongs_too
