@@ -1,0 +1,11 @@
+pub mod ChaseLemmas
+pub mod ChaseSet
+pub mod ChainLemmas
+pub mod NodeLemmas
+pub mod HasLemmas
+pub mod WorkLemmas
+pub mod KeepsLemmas
+pub mod RangeLemmas
+pub mod StepLemmas
+pub mod ClosingLemmas
+pub mod LevelLemmas

@@ -1,0 +1,429 @@
+-- What the steps of the code do.
+use Rattle.std.proofs.Common.{ℕ, zero, suc, ◌≡◌, ◌≢◌, ◌≤◌, ◌<◌, ◌+◌, ◌==◌, ◌⊎◌, inl, inr, Bool, true, false, Some, None, List, [], ◌∷◌, ◌++◌, length, map, drop, slice_index_or, refl, sym, ◌∙◌, ap, subst, arith, eq-eqb}
+use Rattle.std.specs.List.{range_with_len}
+use Rattle.std.proofs.Math.ListN.{set, get_or-append}
+use Rattle.std.proofs.Math.Seq.{get_or-append_seam}
+use Rattle.std.proofs.lemmas.Bool.{cases_lt, eqb-true}
+use Rattle.std.proofs.lemmas.List.{get_or-set_same, get_or-set_other, length-set, length-map, get_or-map, drop_all}
+use Rattle.std.proofs.Math.Seq.{drop-cons}
+use Rattle.std.specs.Prelude.{All}
+use Rattle.fs_paths.specs.declared.facts.Feat.{Feat}
+use Rattle.fs_paths.specs.Facts.{path_of}
+use Rattle.fs_closing.specs.declared.nodes.Nodes.{Nodes}
+use Rattle.fs_model.specs.Claims.{Path, Claim, System, IsBare, Has, here}
+use Rattle.fs_model.specs.Sources.{Told}
+use Rattle.fs_model.specs.Table.{NodeClaim, is_there, is_same, is_under, from, by_node, by_merge, by_type, Follows, stated, same_back, under_same, under_higher}
+use Rattle.fs_model.specs.Steps.{Grows, Links, Merges, Lowers}
+use Rattle.fs_model.proofs.StepLemmas.{Closes-drop}
+use Rattle.fs_model.proofs.Ends.{clash}
+use Rattle.type_hierarchy.specs.Table.{is_below}
+use Rattle.fs_closing.specs.declared.nodes.Cell.{Cell}
+use Rattle.fs_closing.specs.declared.tasks.Entry.{Entry}
+use Rattle.fs_closing.specs.Cells.{chase, live_of, chain, find_arc, Falls}
+use Rattle.fs_closing.specs.NodeTable.{table_from, AreWhole}
+use Rattle.fs_closing.specs.Joined.{IsJoined}
+use Rattle.fs_closing.specs.Rules.{Rule, Grammar, no_rule, facts_in, rules_above, system_of}
+use Rattle.fs_closing.specs.declared.tasks.Tasks.{Tasks}
+use Rattle.fs_closing.specs.Work.{entry_claims, work_of}
+use Rattle.fs_closing.specs.Keeps.{Deep, Turns, Refutes, IsSameWork, begin, arc_claims, PushesFacts, deep_of, Leads, StepsTo, Reaches}
+use Rattle.fs_closing.proofs.ChaseLemmas.{next, chase_stays, chase_goes, live_step}
+use Rattle.fs_closing.proofs.ChaseSet.{live-set, Falls-set}
+use Rattle.fs_closing.proofs.ChainLemmas.{find_arc-has, found_of_once}
+use Rattle.fs_closing.proofs.HasLemmas.{Has-left, Has-right, Has-either, Has-one, Has-map, Has-of_map}
+use Rattle.fs_closing.proofs.RangeLemmas.{Has-filter, Has-of_filter, Has-range, Has-of_range}
+use Rattle.fs_closing.proofs.KeepsLemmas.{same_itself, same_beside, same_swapped, joined_same, Turns-on, Turns-order, Turns-beside, Turns-advance, Turns-links, Turns-grows, Turns-back, Refutes-order}
+
+pub attach_found : (s : System) (x : Deep) (n f m to : ℕ) (work work' : List NodeClaim) → x.table.live n ≡ n → Some m ≡ x.table.arc n f →
+    IsJoined (is_same m [] to [] ∷ []) work work' → Turns s x (is_same n (f ∷ []) to [] ∷ work) x work'
+attach_found s x n f m to work work' stays arc joined =
+    Turns-order s x x _ _ work' _ (same_itself (is_same n (f ∷ []) to [] ∷ work))
+    (Turns-advance s x n f m [] (is_same 0 [] to []) work (ap (λ k. x.table.arc k f) stays ∙ sym arc)) (joined_same _ work work' joined)
+
+pub attach_linked : (s : System) (x y : Deep) (n f to intro : ℕ) (work work' : List NodeClaim) → x.table.live n ≡ n → None ≡ x.table.arc n f →
+    Links x.table y.table n f to → ((k : ℕ) → y.depth k ≡ x.depth k) → intro ≡ s.introducer f →
+    IsJoined (is_under n [] intro ∷ []) work work' → Turns s x (is_same n (f ∷ []) to [] ∷ work) y work'
+attach_linked s x y n f to intro work work' stays none links depth is joined =
+    Turns-order s x y _ _ work' _ (same_itself (is_same n (f ∷ []) to [] ∷ work))
+    (Turns-links s x y n f to work stays (sym none) links depth)
+    (subst (λ i. IsSameWork (is_under n [] i ∷ work) work') is (joined_same _ work work' joined))
+
+-- one claim of several is worked off
+pub turn_one : (s : System) (x y z : Deep) (start : List NodeClaim) (k : NodeClaim) (rest a b : List NodeClaim) →
+    Turns s x start y ((k ∷ rest) ++ a) → Turns s y (k ∷ a) z b → Turns s x start z (rest ++ b)
+turn_one s x y z start k rest a b one two =
+    Turns-on s x y z start ((k ∷ rest) ++ a) (rest ++ b) one
+    (Turns-order s y z ((k ∷ rest) ++ a) ((k ∷ a) ++ rest) (rest ++ b) (b ++ rest)
+    (same_beside (k ∷ []) (k ∷ []) (rest ++ a) (a ++ rest) (same_itself (k ∷ [])) (same_swapped rest a))
+    (Turns-beside s y z (k ∷ a) b rest two) (same_swapped b rest))
+
+pub grown_joined : (s : System) (x y : Deep) (n l f m intro : ℕ) (p : Path) (c : NodeClaim) (work work' : List NodeClaim) → IsBare s →
+    l ≡ x.table.live n → None ≡ x.table.arc l f → Grows s.top x.table y.table l f → m ≡ x.table.size →
+    ((k : ℕ) → k < x.table.size → y.depth k ≡ x.depth k) → y.depth m ≡ x.depth l + 1 → intro ≡ s.introducer f →
+    IsJoined (is_under l [] intro ∷ []) work work' → Turns s x (begin n (f ∷ p) c ∷ work) y (begin m p c ∷ work')
+grown_joined s x y n l f m intro p c work work' bare is_l none grows is_m old new is joined =
+    Turns-order s x y _ _ (begin m p c ∷ work') _ (same_itself (begin n (f ∷ p) c ∷ work))
+    (Turns-grows s bare x y n l f m p c work (sym is_l) (sym none) grows is_m old new)
+    (same_beside (begin m p c ∷ []) (begin m p c ∷ []) (is_under l [] (s.introducer f) ∷ work) work' (same_itself _)
+    (subst (λ i. IsSameWork (is_under l [] i ∷ work) work') is (joined_same _ work work' joined)))
+
+pub live_le : (fs : List ℕ) → Falls fs → (n : ℕ) → live_of fs n ≤ n
+live_le fs falls n = go fs falls n n
+  where
+    go : (fs : List ℕ) → Falls fs → (k n : ℕ) → chase fs k n ≤ n
+    go fs falls zero n = omega arith
+    go fs falls (suc k) n = more (cases_lt (next fs n) n) (go fs falls k (next fs n))
+      where
+        more : (next fs n < n) ⊎ (n ≤ next fs n) → chase fs k (next fs n) ≤ next fs n → chase fs (suc k) n ≤ n
+        more (inl a) r = omega (arith, chase_goes fs k n (λ e. omega arith))
+        more (inr a) r = omega (arith, chase_stays fs (suc k) n (omega (arith, falls n)))
+
+pub live_next : (fs : List ℕ) → Falls fs → (n : ℕ) → live_of fs n ≡ n → next fs n ≡ n
+live_next fs falls n e = go (cases_lt (next fs n) n)
+  where
+    go : (next fs n < n) ⊎ (n ≤ next fs n) → next fs n ≡ n
+    go (inl a) = absurd (omega (arith, live_step fs falls n (λ d. omega arith), live_le fs falls (next fs n), e))
+    go (inr a) = omega (arith, falls n)
+
+-- a node is forwarded to another
+module _ (types fs ds firsts : List ℕ) (cells : List Cell) (whole : AreWhole types fs ds firsts cells) (a b : ℕ) (order : a < b)
+    (b_in : b < length types) (a_stays : live_of fs a ≡ a) (b_stays : live_of fs b ≡ b) where
+  fs_in : b < length fs
+  fs_in = omega (arith, whole.forwards_even)
+
+  pub whole_merged : AreWhole types (set fs b a) ds firsts cells
+  whole_merged = record {
+    forwards_even = length-set fs b a ∙ whole.forwards_even;
+    depths_even = whole.depths_even;
+    firsts_even = whole.firsts_even;
+    small = whole.small;
+    few = whole.few;
+    falls = Falls-set fs whole.falls a b order fs_in (live_next fs whole.falls a a_stays) (live_next fs whole.falls b b_stays);
+    places = whole.places;
+    first_in = whole.first_in;
+    once = whole.once;
+    to_in = whole.to_in;
+  }
+
+  moved : (k : ℕ) → (live_of fs k ≡ b → live_of (set fs b a) k ≡ a) × (live_of fs k ≢ b → live_of (set fs b a) k ≡ live_of fs k)
+  moved k = live-set fs whole.falls a b order fs_in (live_next fs whole.falls a a_stays) (live_next fs whole.falls b b_stays) k
+
+  pub a_still : live_of (set fs b a) a ≡ a
+  a_still = (moved a).1 (λ e. omega (arith, a_stays)) ∙ a_stays
+
+  abbrev arcs_b : List Cell
+  arcs_b = chain cells (slice_index_or firsts b 0)
+
+  pub table_merged : (work pushed extra : List NodeClaim) → IsJoined (is_under a [] (slice_index_or types b 0) ∷ []) work pushed →
+      Merges (table_from types fs firsts cells) (table_from types (set fs b a) firsts cells) (work ++ extra)
+      ((arc_claims a (chain cells (slice_index_or firsts b 0)) ++ pushed) ++ extra) a b
+  table_merged work pushed extra joined = record {
+    size_is = refl;
+    live_b = λ k e. (moved k).0 e;
+    live_other = λ k e. (moved k).1 e;
+    arc_is = λ k g h. refl;
+    type_is = λ k h. refl;
+    work_type = Has-left _ _ extra (Has-right _ (arc_claims a arcs_b) pushed (joined.from_new _ here));
+    work_arcs = λ f m e.
+        let x = find_arc-has arcs_b f m e in
+        Has-left _ _ extra (Has-left _ (arc_claims a arcs_b) pushed
+        (subst (λ y. Has y (arc_claims a arcs_b))
+        (ap (λ y. is_same a (y ∷ []) x.0.to []) x.2 ∙ ap (λ y. is_same a (f ∷ []) y []) x.3)
+        (Has-map (λ c. is_same a (c.feat ∷ []) c.to []) x.0 arcs_b x.1)));
+    work_rest = λ c h. rest c (Has-either c work extra h);
+    work_only = λ c h. only c (Has-either c (arc_claims a arcs_b ++ pushed) extra h);
+  }
+    where
+      rest : (c : NodeClaim) → Has c work ⊎ Has c extra → Has c ((arc_claims a arcs_b ++ pushed) ++ extra)
+      rest c (inl h) = Has-left c _ extra (Has-right c (arc_claims a arcs_b) pushed (joined.from_old c h))
+      rest c (inr h) = Has-right c (arc_claims a arcs_b ++ pushed) extra h
+
+      only : (c : NodeClaim) → Has c (arc_claims a arcs_b ++ pushed) ⊎ Has c extra →
+          (c ≡ is_under a [] (slice_index_or types b 0)) ⊎ ((f : ℕ) × (m : ℕ) × (find_arc arcs_b f ≡ Some m) × (c ≡ is_same a (f ∷ []) m [])) ⊎ Has c (work ++ extra)
+      only c (inr h) = inr (inr (Has-right c work extra h))
+      only c (inl h) = go (Has-either c (arc_claims a arcs_b) pushed h)
+        where
+          more : Has c (is_under a [] (slice_index_or types b 0) ∷ []) ⊎ Has c work →
+              (c ≡ is_under a [] (slice_index_or types b 0)) ⊎ ((f : ℕ) × (m : ℕ) × (find_arc arcs_b f ≡ Some m) × (c ≡ is_same a (f ∷ []) m [])) ⊎ Has c (work ++ extra)
+          more (inl x) = inl (Has-one c _ x)
+          more (inr x) = inr (inr (Has-left c work extra x))
+
+          go : Has c (arc_claims a arcs_b) ⊎ Has c pushed →
+              (c ≡ is_under a [] (slice_index_or types b 0)) ⊎ ((f : ℕ) × (m : ℕ) × (find_arc arcs_b f ≡ Some m) × (c ≡ is_same a (f ∷ []) m [])) ⊎ Has c (work ++ extra)
+          go (inl x) = let r = Has-of_map (λ c. is_same a (c.feat ∷ []) c.to []) c arcs_b x in inr (inl (r.0.feat, r.0.to, found_of_once arcs_b (whole.once b b_in) r.0 r.1, r.2))
+          go (inr x) = more (joined.only c x)
+
+-- a fact of a type stands in a rule of the type
+pub facts_of_rule : (rules : List Rule) (t : ℕ) (c : Claim) → Has c (facts_in rules t) →
+    (j : ℕ) × (j < length rules) × ((slice_index_or rules j no_rule).ty ≡ t) × Has c (slice_index_or rules j no_rule).claims
+facts_of_rule [] t c h = elim h [ ]
+facts_of_rule (r ∷ rules) t c h = go (r.ty == t) refl h (facts_of_rule rules t c)
+  where
+    later : ((j : ℕ) × (j < length rules) × ((slice_index_or rules j no_rule).ty ≡ t) × Has c (slice_index_or rules j no_rule).claims) →
+        (j : ℕ) × (j < length (r ∷ rules)) × ((slice_index_or (r ∷ rules) j no_rule).ty ≡ t) × Has c (slice_index_or (r ∷ rules) j no_rule).claims
+    later (j, a, b, d) = (suc j, omega arith, b, d)
+
+    go : (b : Bool) → (r.ty == t) ≡ b → Has c (facts_in (r ∷ rules) t) →
+        (Has c (facts_in rules t) → (j : ℕ) × (j < length rules) × ((slice_index_or rules j no_rule).ty ≡ t) × Has c (slice_index_or rules j no_rule).claims) →
+        (j : ℕ) × (j < length (r ∷ rules)) × ((slice_index_or (r ∷ rules) j no_rule).ty ≡ t) × Has c (slice_index_or (r ∷ rules) j no_rule).claims
+    go true is i rest = which (Has-either c r.claims (facts_in rules t)
+        (subst (Has c) (ap (λ b. elim b [ true ↦ r.claims ++ facts_in rules t | false ↦ facts_in rules t ]) is) i))
+      where
+        which : Has c r.claims ⊎ Has c (facts_in rules t) →
+            (j : ℕ) × (j < length (r ∷ rules)) × ((slice_index_or (r ∷ rules) j no_rule).ty ≡ t) × Has c (slice_index_or (r ∷ rules) j no_rule).claims
+        which (inl x) = (0, omega arith, eqb-true r.ty t is, x)
+        which (inr x) = later (rest x)
+    go false is i rest = later (rest (subst (Has c) (ap (λ b. elim b [ true ↦ r.claims ++ facts_in rules t | false ↦ facts_in rules t ]) is) i))
+
+pub rule_of_fact : (rules : List Rule) (j : ℕ) (c : Claim) → j < length rules → Has c (slice_index_or rules j no_rule).claims →
+    Has c (facts_in rules (slice_index_or rules j no_rule).ty)
+rule_of_fact [] j c h i = absurd (omega arith)
+rule_of_fact (r ∷ rules) zero c h i =
+    subst (Has c) (sym (ap (λ b. elim b [ true ↦ r.claims ++ facts_in rules r.ty | false ↦ facts_in rules r.ty ]) (eq-eqb r.ty r.ty refl)))
+    (Has-left c r.claims _ i)
+rule_of_fact (r ∷ rules) (suc j) c h i = go (r.ty == (slice_index_or rules j no_rule).ty) refl (rule_of_fact rules j c (omega arith) i)
+  where
+    t : ℕ
+    t = (slice_index_or rules j no_rule).ty
+
+    go : (b : Bool) → (r.ty == (slice_index_or rules j no_rule).ty) ≡ b → Has c (facts_in rules (slice_index_or rules j no_rule).ty) →
+        Has c (facts_in (r ∷ rules) (slice_index_or rules j no_rule).ty)
+    go true is x = subst (Has c)
+        (sym (ap (λ b. elim b [ true ↦ r.claims ++ facts_in rules (slice_index_or rules j no_rule).ty | false ↦ facts_in rules (slice_index_or rules j no_rule).ty ]) is))
+        (Has-right c r.claims _ x)
+    go false is x = subst (Has c)
+        (sym (ap (λ b. elim b [ true ↦ r.claims ++ facts_in rules (slice_index_or rules j no_rule).ty | false ↦ facts_in rules (slice_index_or rules j no_rule).ty ]) is)) x
+
+-- the rules of a list were taken, each pushed unless an old type is at or below its type
+pub record TakesRules (g : Grammar) (node old : ℕ) (taken : List ℕ) (work work' : List NodeClaim) : Type 0 where
+  pub facts : (j : ℕ) → Has j taken → (is_below g.types old (slice_index_or g.rules j no_rule).ty ≡ true) ⊎
+      ((c : Claim) → Has c (slice_index_or g.rules j no_rule).claims → Has (from node c) work')
+  pub rest : (c : NodeClaim) → Has c work → Has c work'
+  pub only : (c : NodeClaim) → Has c work' →
+      ((j : ℕ) × (d : Claim) × Has j taken × Has d (slice_index_or g.rules j no_rule).claims × (c ≡ from node d)) ⊎ Has c work
+
+pub takes_none : (g : Grammar) (node old : ℕ) (work : List NodeClaim) → TakesRules g node old [] work work
+takes_none g node old work = record { facts = λ j h. elim h [ ]; rest = λ c h. h; only = λ c h. inr h }
+
+drop_none : {X : Type 0} (xs : List X) → drop 0 xs ≡ xs
+drop_none [] = refl
+drop_none (x ∷ xs) = refl
+
+pub takes_more : (g : Grammar) (node old j : ℕ) (taken taken' : List ℕ) (work now work' : List NodeClaim) (entry : Entry) →
+    taken' ≡ taken ++ j ∷ [] → entry.node ≡ node → entry.rule ≡ j → entry.from ≡ 0 → TakesRules g node old taken work now →
+    ((is_below g.types old (slice_index_or g.rules j no_rule).ty ≡ true) × (work' ≡ now)) ⊎ IsJoined (entry_claims g.rules entry) now work' →
+    TakesRules g node old taken' work work'
+takes_more g node old j taken taken' work now work' entry is en er ef before step = record {
+  facts = λ k h. facts step k (Has-either k taken (j ∷ []) (subst (Has k) is h));
+  rest = λ c h. kept step c (before.rest c h);
+  only = λ c h. only step c h;
+}
+  where
+    claims_are : entry_claims g.rules entry ≡ map (from node) (slice_index_or g.rules j no_rule).claims
+    claims_are =
+        ap (λ n. map (from n) (drop entry.from (slice_index_or g.rules entry.rule no_rule).claims)) en
+        ∙ ap (λ i. map (from node) (drop entry.from (slice_index_or g.rules i no_rule).claims)) er
+        ∙ ap (λ i. map (from node) (drop i (slice_index_or g.rules j no_rule).claims)) ef
+        ∙ ap (map (from node)) (drop_none (slice_index_or g.rules j no_rule).claims)
+
+    kept : ((is_below g.types old (slice_index_or g.rules j no_rule).ty ≡ true) × (work' ≡ now)) ⊎ IsJoined (entry_claims g.rules entry) now work' →
+        (c : NodeClaim) → Has c now → Has c work'
+    kept (inl e) c h = subst (Has c) (sym e.1) h
+    kept (inr e) c h = e.from_old c h
+
+    facts : ((is_below g.types old (slice_index_or g.rules j no_rule).ty ≡ true) × (work' ≡ now)) ⊎ IsJoined (entry_claims g.rules entry) now work' →
+        (k : ℕ) → Has k taken ⊎ Has k (j ∷ []) → (is_below g.types old (slice_index_or g.rules k no_rule).ty ≡ true) ⊎
+        ((c : Claim) → Has c (slice_index_or g.rules k no_rule).claims → Has (from node c) work')
+    facts st k (inl h) = go (before.facts k h)
+      where
+        go : (is_below g.types old (slice_index_or g.rules k no_rule).ty ≡ true) ⊎ ((c : Claim) → Has c (slice_index_or g.rules k no_rule).claims → Has (from node c) now) →
+            (is_below g.types old (slice_index_or g.rules k no_rule).ty ≡ true) ⊎ ((c : Claim) → Has c (slice_index_or g.rules k no_rule).claims → Has (from node c) work')
+        go (inl a) = inl a
+        go (inr a) = inr (λ c i. kept st (from node c) (a c i))
+    facts (inl e) k (inr h) = inl (subst (λ i. is_below g.types old (slice_index_or g.rules i no_rule).ty ≡ true) (sym (Has-one k j h)) e.0)
+    facts (inr e) k (inr h) =
+        inr (λ c i. e.from_new (from node c) (subst (Has (from node c)) (sym claims_are)
+        (Has-map (from node) c _ (subst (λ i. Has c (slice_index_or g.rules i no_rule).claims) (Has-one k j h) i))))
+
+    wider : (c : NodeClaim) → ((k : ℕ) × (d : Claim) × Has k taken × Has d (slice_index_or g.rules k no_rule).claims × (c ≡ from node d)) ⊎ Has c work →
+        ((k : ℕ) × (d : Claim) × Has k taken' × Has d (slice_index_or g.rules k no_rule).claims × (c ≡ from node d)) ⊎ Has c work
+    wider c (inl (k, d, a, b, e)) = inl (k, d, subst (Has k) (sym is) (Has-left k taken (j ∷ []) a), b, e)
+    wider c (inr h) = inr h
+
+    only : ((is_below g.types old (slice_index_or g.rules j no_rule).ty ≡ true) × (work' ≡ now)) ⊎ IsJoined (entry_claims g.rules entry) now work' →
+        (c : NodeClaim) → Has c work' →
+        ((k : ℕ) × (d : Claim) × Has k taken' × Has d (slice_index_or g.rules k no_rule).claims × (c ≡ from node d)) ⊎ Has c work
+    only (inl e) c h = wider c (before.only c (subst (Has c) e.1 h))
+    only (inr e) c h = go (e.only c h)
+      where
+        go : Has c (entry_claims g.rules entry) ⊎ Has c now →
+            ((k : ℕ) × (d : Claim) × Has k taken' × Has d (slice_index_or g.rules k no_rule).claims × (c ≡ from node d)) ⊎ Has c work
+        go (inl x) =
+            let r = Has-of_map (from node) c _ (subst (Has c) claims_are x) in
+            inl (j, r.0, subst (Has j) (sym is) (Has-right j taken (j ∷ []) here), r.1, r.2)
+        go (inr x) = wider c (before.only c x)
+
+-- all rules above a type were taken
+pub takes_all : (g : Grammar) (node ty old : ℕ) (work work' : List NodeClaim) → TakesRules g node old (rules_above g.types g.rules ty) work work' →
+    PushesFacts (system_of g) node ty old work work'
+takes_all g node ty old work work' all = record {
+  facts = λ x c below has. facts x c below (facts_of_rule g.rules x c has);
+  rest = all.rest;
+  only = λ c h. only c (all.only c h);
+}
+  where
+    test : ℕ → Bool
+    test = λ j. is_below g.types ty (slice_index_or g.rules j no_rule).ty
+
+    facts : (x : ℕ) (c : Claim) → is_below g.types ty x ≡ true →
+        ((j : ℕ) × (j < length g.rules) × ((slice_index_or g.rules j no_rule).ty ≡ x) × Has c (slice_index_or g.rules j no_rule).claims) →
+        (is_below g.types old x ≡ true) ⊎ Has (from node c) work'
+    facts x c below (j, h, is, has) =
+        go (all.facts j (Has-filter (λ j. is_below g.types ty (slice_index_or g.rules j no_rule).ty) (range_with_len 0 (length g.rules)) j
+        (Has-range (length g.rules) j h) (ap (is_below g.types ty) is ∙ below)))
+      where
+        go : (is_below g.types old (slice_index_or g.rules j no_rule).ty ≡ true) ⊎ ((c : Claim) → Has c (slice_index_or g.rules j no_rule).claims → Has (from node c) work') →
+            (is_below g.types old x ≡ true) ⊎ Has (from node c) work'
+        go (inl a) = inl (ap (is_below g.types old) (sym is) ∙ a)
+        go (inr a) = inr (a c has)
+
+    only : (c : NodeClaim) →
+        ((j : ℕ) × (d : Claim) × Has j (rules_above g.types g.rules ty) × Has d (slice_index_or g.rules j no_rule).claims × (c ≡ from node d)) ⊎ Has c work →
+        ((x : ℕ) × (d : Claim) × (is_below g.types ty x ≡ true) × Has d (facts_in g.rules x) × (c ≡ from node d)) ⊎ Has c work
+    only c (inr h) = inr h
+    only c (inl (j, d, a, b, e)) =
+        let r = Has-of_filter (λ j. is_below g.types ty (slice_index_or g.rules j no_rule).ty) (range_with_len 0 (length g.rules)) j a in
+        inl ((slice_index_or g.rules j no_rule).ty, d, r.1, rule_of_fact g.rules j d (Has-of_range (length g.rules) j r.0) b, e)
+
+-- a type is written
+pub table_lowered : (s : System) (types fs ds firsts : List ℕ) (cells : List Cell) (n u v : ℕ) (work work' extra : List NodeClaim) → n < length types →
+    s.meet (slice_index_or types n 0) u ≡ Some v → PushesFacts s n v (slice_index_or types n 0) work work' →
+    Lowers s (table_from types fs firsts cells) (table_from (set types n v) fs firsts cells) (work ++ extra) (work' ++ extra) n u v
+table_lowered s types fs ds firsts cells n u v work work' extra h meet pushed = record {
+  size_is = length-set types n v;
+  live_is = λ k. refl;
+  arc_is = λ k g i. refl;
+  type_here = get_or-set_same types n v 0 h;
+  meet_is = meet;
+  type_other = λ k i e. get_or-set_other types n k v 0 e;
+  work_facts = λ x c below has. facts x c (pushed.facts x c below has);
+  work_rest = λ c i. rest c (Has-either c work extra i);
+  work_only = λ c i. only c (Has-either c work' extra i);
+}
+  where
+    facts : (x : ℕ) (c : Claim) → (s.is_below (slice_index_or types n 0) x ≡ true) ⊎ Has (from n c) work' →
+        (s.is_below (slice_index_or types n 0) x ≡ true) ⊎ Has (from n c) (work' ++ extra)
+    facts x c (inl a) = inl a
+    facts x c (inr a) = inr (Has-left _ work' extra a)
+
+    rest : (c : NodeClaim) → Has c work ⊎ Has c extra → Has c (work' ++ extra)
+    rest c (inl a) = Has-left c work' extra (pushed.rest c a)
+    rest c (inr a) = Has-right c work' extra a
+
+    only : (c : NodeClaim) → Has c work' ⊎ Has c extra →
+        ((x : ℕ) × (d : Claim) × (s.is_below v x ≡ true) × Has d (s.facts_of x) × (c ≡ from n d)) ⊎ Has c (work ++ extra)
+    only c (inr a) = inr (Has-right c work extra a)
+    only c (inl a) = go (pushed.only c a)
+      where
+        go : ((x : ℕ) × (d : Claim) × (s.is_below v x ≡ true) × Has d (s.facts_of x) × (c ≡ from n d)) ⊎ Has c work →
+            ((x : ℕ) × (d : Claim) × (s.is_below v x ≡ true) × Has d (s.facts_of x) × (c ≡ from n d)) ⊎ Has c (work ++ extra)
+        go (inl x) = inl x
+        go (inr x) = inr (Has-left c work extra x)
+
+-- the depths with one more
+pub depth_pushed : (ds ds' : List ℕ) (size d : ℕ) → ds' ≡ ds ++ d ∷ [] → length ds ≡ size →
+    ((k : ℕ) → k < size → slice_index_or ds' k 0 ≡ slice_index_or ds k 0) × ((m : ℕ) → m ≡ size → slice_index_or ds' m 0 ≡ d)
+depth_pushed ds ds' size d is even = (
+  (λ k h. ap (λ l. slice_index_or l k 0) is ∙ get_or-append ds (d ∷ []) 0 k (omega arith)),
+  (λ m e. ap (λ l. slice_index_or l m 0) is ∙ ap (λ i. slice_index_or (ds ++ d ∷ []) i 0) (e ∙ sym even) ∙ get_or-append_seam ds d [] 0),
+)
+
+-- what a call that pushes a rule says, of work
+pub takes_step : (g : Grammar) (old j : ℕ) (tasks tasks' : Tasks) (entry : Entry) →
+    ((is_below g.types old (slice_index_or g.rules j no_rule).ty ≡ true) × (tasks' ≡ tasks)) ⊎
+    IsJoined (entry_claims g.rules entry) (work_of g.rules tasks) (work_of g.rules tasks') →
+    ((is_below g.types old (slice_index_or g.rules j no_rule).ty ≡ true) × (work_of g.rules tasks' ≡ work_of g.rules tasks)) ⊎
+    IsJoined (entry_claims g.rules entry) (work_of g.rules tasks) (work_of g.rules tasks')
+takes_step g old j tasks tasks' entry (inl e) = inl (e.0, ap (work_of g.rules) e.1)
+takes_step g old j tasks tasks' entry (inr e) = inr e
+
+-- a type at or below another
+pub Turns-below : (s : System) (x : Deep) (n l u : ℕ) (work : List NodeClaim) → l ≡ x.table.live n → s.is_below (x.table.type_of l) u ≡ true →
+    Turns s x (is_under n [] u ∷ work) x work
+Turns-below s x n l u work is below extra g w old =
+    let in_table = old.closes.in_table _ here in
+    let merge = subst (λ k. Follows s x.table (work ++ extra) (is_same n [] k [])) (sym is) (stated _ (by_merge n in_table)) in
+    let l_in = subst (λ k. k < x.table.size) (sym is) (old.closes.table.live_in n in_table) in
+    let l_live : x.table.live l ≡ l = ap x.table.live is ∙ old.closes.table.live_twice n ∙ sym is in (
+      w,
+      record {
+        closes = Closes-drop s (Told g) x.table (is_under n [] u) (work ++ extra) w
+            (under_same l n u [] [] (same_back _ _ _ _ merge) (under_higher l (x.table.type_of l) u [] (stated _ (by_type l l_in l_live)) below)) old.closes;
+        deep = old.deep;
+      },
+    )
+
+pub Turns-there : (s : System) (x : Deep) (n : ℕ) (work : List NodeClaim) → Turns s x (is_there n [] ∷ work) x work
+Turns-there s x n work extra g w old = (
+  w,
+  record {
+    closes = Closes-drop s (Told g) x.table (is_there n []) (work ++ extra) w (stated _ (by_node n (old.closes.in_table _ here))) old.closes;
+    deep = old.deep;
+  },
+)
+
+pub Refutes-types : (s : System) (x : Deep) (n l u : ℕ) (work : List NodeClaim) → l ≡ x.table.live n → s.meet (x.table.type_of l) u ≡ None →
+    Refutes s x (is_under n [] u ∷ work)
+Refutes-types s x n l u work is none extra g w old ok =
+    clash s (Told g) x.table (work ++ extra) w n u (old.closes.in_table _ here) old.closes
+    (subst (λ k. s.meet (x.table.type_of k) u ≡ None) is none) ok
+
+-- a path from its next feature on
+pub path_step : (path : List Feat) (i : ℕ) (d : Feat) → i < length path →
+    drop i (path_of path) ≡ (slice_index_or path i d).0 ∷ drop (i + 1) (path_of path)
+path_step path i d h =
+    let within : i < length (path_of path) = omega (arith, length-map path (λ f. f.0)) in
+    let at = get_or-map (λ (f : Feat). f.0) path i d 0 h in
+    drop-cons (path_of path) i 0 within ∙ ap (λ x. x ∷ drop (suc i) (path_of path)) at
+    ∙ ap (λ j. (slice_index_or path i d).0 ∷ drop j (path_of path)) (let e : suc i ≡ i + 1 = omega arith in e)
+
+pub path_feature : (path : List Feat) (i n : ℕ) (d : Feat) → i < length path → All (λ f. f < n) (path_of path) → (slice_index_or path i d).0 < n
+path_feature path i n d h all =
+    let within : i < length (path_of path) = omega (arith, length-map path (λ f. f.0)) in
+    let at = get_or-map (λ (f : Feat). f.0) path i d 0 h in
+    omega (arith, at, all i 0 within)
+
+-- the claims of a rule from a place on
+pub entry_step : (rules : List Rule) (n r i : ℕ) (d : Claim) → i < length (slice_index_or rules r no_rule).claims →
+    entry_claims rules (record { node = n; rule = r; from = i })
+    ≡ from n (slice_index_or (slice_index_or rules r no_rule).claims i d) ∷ entry_claims rules (record { node = n; rule = r; from = i + 1 })
+entry_step rules n r i d h =
+    ap (map (from n)) (drop-cons (slice_index_or rules r no_rule).claims i d h)
+    ∙ ap (λ j. from n (slice_index_or (slice_index_or rules r no_rule).claims i d) ∷ map (from n) (drop j (slice_index_or rules r no_rule).claims))
+    (let e : suc i ≡ i + 1 = omega arith in e)
+
+pub entry_ends : (rules : List Rule) (n r i : ℕ) → length (slice_index_or rules r no_rule).claims ≤ i →
+    entry_claims rules (record { node = n; rule = r; from = i }) ≡ []
+entry_ends rules n r i h = ap (map (from n)) (drop_all i (slice_index_or rules r no_rule).claims h)
+
+-- a step on the same work in another order
+pub steps_order : (g : Grammar) (nodes : Nodes) (a a' : List NodeClaim) (nodes' : Nodes) (tasks' : Tasks) (b : Bool) → IsSameWork a a' →
+    StepsTo g nodes a' nodes' tasks' b → StepsTo g nodes a nodes' tasks' b
+steps_order g nodes a a' nodes' tasks' true same (x, y) =
+    (Turns-order (system_of g) (deep_of nodes) (deep_of nodes') a a' _ _ same x (same_itself (work_of g.rules tasks')), y)
+steps_order g nodes a a' nodes' tasks' false same x = Refutes-order (system_of g) (deep_of nodes) a a' same x
+
+-- the next claim of a rule, with the rest pushed again
+pub entry_same : (c : NodeClaim) (rest claims work pushed : List NodeClaim) → claims ≡ c ∷ rest → IsJoined rest work pushed →
+    IsSameWork (claims ++ work) (c ∷ pushed)
+entry_same c rest claims work pushed is joined =
+    subst (λ l. IsSameWork (l ++ work) (c ∷ pushed)) (sym is)
+    (same_beside (c ∷ []) (c ∷ []) (rest ++ work) pushed (same_itself (c ∷ [])) (joined_same rest work pushed joined))
+
+-- an equality of two paths from a node: the first path is followed, then the second one
+pub follow_first : (g : Grammar) (nodes : Nodes) (tasks : Tasks) (n : ℕ) (p q : Path) (nodes' : Nodes) (tasks' : Tasks) (m : ℕ) →
+    Reaches g nodes tasks n p nodes' tasks' (Some m) →
+    Leads g nodes (is_same n p n q ∷ work_of g.rules tasks) nodes' (is_same n q m [] ∷ work_of g.rules tasks')
+follow_first g nodes tasks n p q nodes' tasks' m r =
+    Turns-on (system_of g) (deep_of nodes) (deep_of nodes') (deep_of nodes') (is_same n p n q ∷ work_of g.rules tasks) (is_same m [] n q ∷ work_of g.rules tasks')
+    (is_same n q m [] ∷ work_of g.rules tasks') (r.0 (is_same 0 [] n q))
+    (Turns-back (system_of g) (deep_of nodes') m n [] q (work_of g.rules tasks'))

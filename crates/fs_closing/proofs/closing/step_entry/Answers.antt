@@ -1,0 +1,30 @@
+use Rattle.std.proofs.Common.{◌<◌, ◌+◌, ◌∷◌, [], length, sym, ◌∙◌, ap, arith}
+use Rattle.fs_model.specs.Claims.{Claim, exists_at}
+use Rattle.fs_model.specs.Table.{from}
+use Rattle.fs_paths.specs.Facts.{claim_of}
+use Rattle.fs_closing.specs.declared.tasks.Entry.{Entry}
+use Rattle.fs_closing.specs.Work.{entry_claims, work_of}
+use Rattle.fs_closing.proofs.ClosingLemmas.{fact_at, fact_has}
+use Rattle.fs_closing.proofs.StepLemmas.{entry_step, entry_same, steps_order}
+use Rattle.fs_closing.proofs.closing.step_entry.Goals as goal
+
+pub apply-requires-clause-fact : goal.apply-requires-clause-fact
+apply-requires-clause-fact c =
+    let within : c.args.entry.from < length c.facts-facts.result.now = omega (arith, c.if-entry-facts.false) in
+    c.facts-facts.ensures.within (claim_of c.index-facts-entry.result)
+    (fact_has c.facts-facts.result.now c.args.entry.from c.index-facts-entry.result within c.index-facts-entry.is)
+
+pub returns : goal.returns
+returns c =
+    let g = c.args.system.now in
+    let n = c.args.entry.node in
+    let r = c.args.entry.rule in
+    let i = c.args.entry.from in
+    let none : Claim = exists_at [] in
+    let within : i < length c.facts-facts.result.now = omega (arith, c.if-entry-facts.false) in
+    let fact = fact_at c.facts-facts.result.now i c.index-facts-entry.result _ none c.facts-facts.ensures.value within c.index-facts-entry.is in
+    let next : Entry = record { node = n; rule = r; from = i + 1 } in
+    let is = entry_step g.rules n r i none fact.1 ∙ ap (λ k. from n k ∷ entry_claims g.rules next) (sym fact.0) in
+    steps_order g c.args.nodes.now _ (from n (claim_of c.index-facts-entry.result) ∷ work_of g.rules c.push_entry.new.self) c.apply.new.nodes c.apply.new.tasks c.in_ok-ok.ok
+    (entry_same (from n (claim_of c.index-facts-entry.result)) (entry_claims g.rules next) (entry_claims g.rules c.args.entry) (work_of g.rules c.args.tasks.now)
+    (work_of g.rules c.push_entry.new.self) is (c.in_ok-push_entry.ensures.work g.rules)) c.in_ok-ok.ensures.steps

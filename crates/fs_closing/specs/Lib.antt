@@ -1,0 +1,9 @@
+pub mod Cells
+pub mod NodeTable
+pub mod NodeSteps
+pub mod Rules
+pub mod Joined
+pub mod Work
+pub mod Keeps
+pub mod Systems
+pub mod Levels

@@ -1,0 +1,23 @@
+-- A new node alone, and arcs alone.
+use Rattle.std.specs.Prelude.{ℕ, ◌≡◌, ◌<◌, ◌≤◌, ◌+◌, None, length}
+use Rattle.fs_model.specs.Table.{Table}
+use Rattle.fs_closing.specs.declared.nodes.Nodes.{Nodes}
+use Rattle.fs_closing.specs.Cells.{chain}
+
+-- a node without arcs is added
+pub record AddsNode (ty : ℕ) (t t' : Table) : Type 0 where
+  pub size_is : t'.size ≡ t.size + 1
+  pub live_old : (k : ℕ) → k < t.size → t'.live k ≡ t.live k
+  pub live_new : (k : ℕ) → t.size ≤ k → t'.live k ≡ k
+  pub arc_old : (k g : ℕ) → k < t.size → t'.arc k g ≡ t.arc k g
+  pub arc_new : (g : ℕ) → t'.arc t.size g ≡ None
+  pub type_old : (k : ℕ) → k < t.size → t'.type_of k ≡ t.type_of k
+  pub type_new : t'.type_of t.size ≡ ty
+
+-- nothing but arcs is added
+pub record AddsArcs (nodes nodes' : Nodes) : Type 0 where
+  pub types : nodes'.types.items ≡ nodes.types.items
+  pub forwards : nodes'.forwards.items ≡ nodes.forwards.items
+  pub depths : nodes'.depths.items ≡ nodes.depths.items
+  pub more : length nodes.cells.items ≤ length nodes'.cells.items
+  pub chains : (place : ℕ) → place ≤ length nodes.cells.items → chain nodes'.cells.items place ≡ chain nodes.cells.items place

@@ -1,0 +1,234 @@
+//! The closing of nodes: tasks are worked off until none is left or a clash is met.
+
+ghost use Rattle.std.specs.Prelude.{◌≡◌, ℕ, ◌+◌, ◌<◌, ◌≤◌, length, List, [], ◌∷◌, ◌++◌, All, IfOk, OnOk, Some, None, true, false};
+ghost use Rattle.type_hierarchy.specs.Table.{count_of};
+ghost use Rattle.fs_model.specs.Claims.{IsBare, IsOrder};
+ghost use Rattle.fs_model.specs.Table.{is_same, is_under, from};
+ghost use Rattle.fs_paths.specs.Facts.{path_of, claim_of};
+ghost use Rattle.fs_closing.specs.Rules.{system_of, IsClaimIn};
+ghost use Rattle.fs_closing.specs.Work.{work_of, pair_claim, bound_claim, entry_claims};
+ghost use Rattle.fs_closing.specs.Keeps.{AreSound, Leads, Clashes, StepsTo, Reaches, Progresses, Closed};
+
+use crate::fault::NoMemory;
+use crate::nodes::{Nodes, live};
+use crate::steps::{go, lower, merge};
+use crate::system::TypeSystem;
+use crate::tasks::{Bound, Entry, Pair, Tasks};
+use fs_paths::{Fact, Feat};
+use type_hierarchy::Ty;
+
+/// What one turn of a closing did.
+#[derive(Clone, Copy, Debug, PartialEq, Eq)]
+pub enum Progress {
+    Stepped,
+    Clashed,
+    Ended,
+}
+
+/// The node at the end of a path from a node; nodes are made where they aren't there. `None` where a path gets too long.
+pub fn reach(
+    nodes: &mut Nodes,
+    tasks: &mut Tasks,
+    system: &TypeSystem,
+    node: u32,
+    path: &[Feat],
+) -> Result<Option<u32>, NoMemory>
+    requires bare { IsBare (system_of system.now) }
+    requires sound { AreSound system.now nodes.old tasks.old }
+    requires node { node < length nodes.old.types.items }
+    requires feats { All (λ f. f < length system.now.introducers) (path_of path.now) }
+    ensures { IfOk result (Reaches system.now nodes.old tasks.old node (path_of path.now) nodes.new tasks.new) }
+{
+    let mut at = node;
+    for feat in path {
+        match go(nodes, tasks, system, at, feat.0)? {
+            Some(to) => at = to,
+            None => return Ok(None),
+        }
+    }
+    Ok(Some(at))
+}
+
+// Two nodes become one.
+fn step_pair(
+    nodes: &mut Nodes,
+    tasks: &mut Tasks,
+    system: &TypeSystem,
+    pair: Pair,
+) -> Result<(), NoMemory>
+    requires sound { AreSound system.now nodes.old tasks.old }
+    requires node { pair.node < length nodes.old.types.items }
+    requires other { pair.other < length nodes.old.types.items }
+    ensures leads { OnOk result (Leads system.now nodes.old (pair_claim pair ∷ work_of system.now.rules tasks.old) nodes.new (work_of system.now.rules tasks.new)) }
+    ensures sound { OnOk result (AreSound system.now nodes.new tasks.new) }
+{
+    let a = live(&nodes.forwards, pair.node);
+    let b = live(&nodes.forwards, pair.other);
+    if a < b {
+        merge(nodes, tasks, system, a, b)?;
+        return Ok(());
+    }
+    if b < a {
+        merge(nodes, tasks, system, b, a)?;
+        return Ok(());
+    }
+    Ok(())
+}
+
+// A node's type is put at or below a type. The answer is false where the two have no common subtype.
+fn step_bound(
+    nodes: &mut Nodes,
+    tasks: &mut Tasks,
+    system: &TypeSystem,
+    bound: Bound,
+) -> Result<bool, NoMemory>
+    requires order { IsOrder (system_of system.now) }
+    requires sound { AreSound system.now nodes.old tasks.old }
+    requires node { bound.node < length nodes.old.types.items }
+    requires ty_in { bound.ty < count_of system.now.types }
+    ensures { IfOk result (StepsTo system.now nodes.old (bound_claim bound ∷ work_of system.now.rules tasks.old) nodes.new tasks.new) }
+{
+    let n = live(&nodes.forwards, bound.node);
+    let old = Ty(nodes.types[n as usize]);
+    let ty = Ty(bound.ty);
+    let types = system.types();
+    if types.at_or_below(old, ty) {
+        return Ok(true);
+    }
+    types.laws();
+    let Some(met) = types.meet(old, ty) else {
+        return Ok(false);
+    };
+    lower(nodes, tasks, system, n, met.0)?;
+    Ok(true)
+}
+
+/// A fact is put at a node. The answer is false where a path gets too long.
+pub fn apply(
+    nodes: &mut Nodes,
+    tasks: &mut Tasks,
+    system: &TypeSystem,
+    node: u32,
+    fact: &Fact,
+) -> Result<bool, NoMemory>
+    requires bare { IsBare (system_of system.now) }
+    requires sound { AreSound system.now nodes.old tasks.old }
+    requires node { node < length nodes.old.types.items }
+    requires fact { IsClaimIn (count_of system.now.types) (length system.now.introducers) (claim_of fact.now) }
+    ensures more { IfOk result (λ ok. ok ≡ true → length nodes.old.types.items ≤ length nodes.new.types.items) }
+    ensures steps { IfOk result (StepsTo system.now nodes.old (from node (claim_of fact.now) ∷ work_of system.now.rules tasks.old) nodes.new tasks.new) }
+{
+    match fact {
+        Fact::Exists { path } => match reach(nodes, tasks, system, node, path)? {
+            Some(_) => Ok(true),
+            None => Ok(false),
+        },
+        Fact::Below { path, ty } => match reach(nodes, tasks, system, node, path)? {
+            Some(at) => {
+                tasks.push_bound(at, ty.0)?;
+                Ok(true)
+            }
+            None => Ok(false),
+        },
+        Fact::Same { a, b } => {
+            let ok = apply_same(nodes, tasks, system, node, a, b)?;
+            Ok(ok)
+        }
+    }
+}
+
+// Two paths from a node are to lead to one node.
+fn apply_same(
+    nodes: &mut Nodes,
+    tasks: &mut Tasks,
+    system: &TypeSystem,
+    node: u32,
+    a: &[Feat],
+    b: &[Feat],
+) -> Result<bool, NoMemory>
+    requires bare { IsBare (system_of system.now) }
+    requires sound { AreSound system.now nodes.old tasks.old }
+    requires node { node < length nodes.old.types.items }
+    requires a_in { All (λ f. f < length system.now.introducers) (path_of a.now) }
+    requires b_in { All (λ f. f < length system.now.introducers) (path_of b.now) }
+    ensures more { IfOk result (λ ok. ok ≡ true → length nodes.old.types.items ≤ length nodes.new.types.items) }
+    ensures steps { IfOk result (StepsTo system.now nodes.old (is_same node (path_of a.now) node (path_of b.now) ∷ work_of system.now.rules tasks.old) nodes.new tasks.new) }
+{
+    let Some(one) = reach(nodes, tasks, system, node, a)? else {
+        return Ok(false);
+    };
+    let Some(other) = reach(nodes, tasks, system, node, b)? else {
+        return Ok(false);
+    };
+    tasks.push_pair(other, one)?;
+    Ok(true)
+}
+
+// The next fact of a rule is put at a node.
+fn step_entry(
+    nodes: &mut Nodes,
+    tasks: &mut Tasks,
+    system: &TypeSystem,
+    entry: Entry,
+) -> Result<bool, NoMemory>
+    requires bare { IsBare (system_of system.now) }
+    requires sound { AreSound system.now nodes.old tasks.old }
+    requires node { entry.node < length nodes.old.types.items }
+    requires rule { entry.rule < length system.now.rules }
+    ensures { IfOk result (StepsTo system.now nodes.old (entry_claims system.now.rules entry ++ work_of system.now.rules tasks.old) nodes.new tasks.new) }
+{
+    let facts = system.facts(entry.rule);
+    if entry.from as usize >= facts.len() {
+        return Ok(true);
+    }
+    if entry.from == u32::MAX {
+        return Err(NoMemory);
+    }
+    tasks.push_entry(entry.node, entry.rule, entry.from + 1)?;
+    let fact = &facts[entry.from as usize];
+    let ok = apply(nodes, tasks, system, entry.node, fact)?;
+    Ok(ok)
+}
+
+// One task.
+fn step(nodes: &mut Nodes, tasks: &mut Tasks, system: &TypeSystem) -> Result<Progress, NoMemory>
+    requires order { IsOrder (system_of system.now) }
+    requires bare { IsBare (system_of system.now) }
+    requires sound { AreSound system.now nodes.old tasks.old }
+    ensures { IfOk result (Progresses system.now nodes.old tasks.old nodes.new tasks.new) }
+{
+    if let Some(pair) = tasks.pop_pair() {
+        step_pair(nodes, tasks, system, pair)?;
+        return Ok(Progress::Stepped);
+    }
+    if let Some(bound) = tasks.pop_bound() {
+        return match step_bound(nodes, tasks, system, bound)? {
+            true => Ok(Progress::Stepped),
+            false => Ok(Progress::Clashed),
+        };
+    }
+    if let Some(entry) = tasks.pop_entry() {
+        return match step_entry(nodes, tasks, system, entry)? {
+            true => Ok(Progress::Stepped),
+            false => Ok(Progress::Clashed),
+        };
+    }
+    Ok(Progress::Ended)
+}
+
+/// Works off all tasks. The answer is false where a clash was met: then there is no structure.
+pub fn close(nodes: &mut Nodes, tasks: &mut Tasks, system: &TypeSystem) -> Result<bool, NoMemory>
+    requires order { IsOrder (system_of system.now) }
+    requires bare { IsBare (system_of system.now) }
+    requires sound { AreSound system.now nodes.old tasks.old }
+    ensures { IfOk result (Closed system.now nodes.old tasks.old nodes.new) }
+{
+    for _ in 0..u64::MAX {
+        match step(nodes, tasks, system)? {
+            Progress::Stepped => {}
+            Progress::Clashed => return Ok(false),
+            Progress::Ended => return Ok(true),
+        }
+    }
+    Err(NoMemory)
+}

@@ -1,0 +1,11 @@
+//! Facts of types.
+
+use fs_paths::Fact;
+use type_hierarchy::Ty;
+
+/// The facts of a type's definition and addenda.
+#[derive(Debug, Drop)]
+pub struct TypeFacts {
+    pub ty: Ty,
+    pub facts: Vec<Fact>,
+}

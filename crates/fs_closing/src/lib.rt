@@ -1,0 +1,15 @@
+//! The closing of tables of nodes, by the types of a grammar (Copestake 2002: well-formed typed feature structures).
+#![tactic(auto)]
+
+pub mod closing;
+pub mod facts;
+pub mod fault;
+pub mod levels;
+pub mod nodes;
+pub mod steps;
+pub mod system;
+pub mod tasks;
+
+pub use facts::TypeFacts;
+pub use fault::NoMemory;
+pub use system::TypeSystem;

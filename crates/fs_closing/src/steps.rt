@@ -1,0 +1,196 @@
+//! Steps of a closing: arcs, merged nodes, lowered types.
+
+ghost use Rattle.std.specs.Prelude.{◌≡◌, ℕ, ◌+◌, ◌<◌, ◌≤◌, ◌⊎◌, length, List, [], ◌∷◌, ◌++◌, IfOk, OnOk, MatchOption, IfSome, Some, None, true, slice_index_or};
+ghost use Rattle.type_hierarchy.specs.Table.{count_of, is_below, meet_of};
+ghost use Rattle.fs_model.specs.Claims.{Path, IsBare, IsOrder};
+ghost use Rattle.fs_model.specs.Table.{NodeClaim, is_same, is_under};
+ghost use Rattle.fs_closing.specs.Cells.{live_of, chain};
+ghost use Rattle.fs_closing.specs.NodeTable.{table_of, IsWhole};
+ghost use Rattle.fs_closing.specs.NodeSteps.{AddsArcs};
+ghost use Rattle.fs_closing.specs.Rules.{system_of, no_rule};
+ghost use Rattle.fs_closing.specs.Joined.{IsJoined};
+ghost use Rattle.fs_closing.specs.Work.{work_of, entry_claims, AreReady};
+ghost use Rattle.fs_closing.specs.Keeps.{AreSound, Leads, Clashes, begin, arc_claims, PushesFacts};
+
+use crate::fault::NoMemory;
+use crate::nodes::{Nodes, add_arc, grow, live, look_up};
+use crate::system::TypeSystem;
+use crate::tasks::Tasks;
+use type_hierarchy::Ty;
+
+// The arc of a node with a feature.
+fn arc_of(nodes: &Nodes, n: u32, feat: u32) -> Option<u32>
+    requires node { n < length nodes.now.types.items }
+    requires sound { IsWhole nodes.now }
+    ensures value { result ≡ (table_of nodes.now).arc n feat }
+    ensures within { IfSome result (λ m. m < length nodes.now.types.items) }
+{
+    look_up(&nodes.cells, nodes.firsts[n as usize], feat)
+}
+
+/// A node that isn't merged is to have an arc.
+pub fn attach(
+    nodes: &mut Nodes,
+    tasks: &mut Tasks,
+    system: &TypeSystem,
+    n: u32,
+    feat: u32,
+    to: u32,
+) -> Result<(), NoMemory>
+    requires sound { AreSound system.now nodes.old tasks.old }
+    requires node { n < length nodes.old.types.items }
+    requires to_in { to < length nodes.old.types.items }
+    requires feat_in { feat < length system.now.introducers }
+    requires stays { live_of nodes.old.forwards.items n ≡ n }
+    ensures leads { OnOk result (Leads system.now nodes.old (is_same n (feat ∷ []) to [] ∷ work_of system.now.rules tasks.old) nodes.new (work_of system.now.rules tasks.new)) }
+    ensures arcs { OnOk result (AddsArcs nodes.old nodes.new) }
+    ensures sound { OnOk result (AreSound system.now nodes.new tasks.new) }
+{
+    if let Some(found) = arc_of(nodes, n, feat) {
+        tasks.push_pair(found, to)?;
+        return Ok(());
+    }
+    tasks.push_bound(n, system.introducer(feat))?;
+    add_arc(nodes, n, feat, to)?;
+    Ok(())
+}
+
+/// A node that isn't merged is to have the arcs from a place on.
+pub fn attach_all(
+    nodes: &mut Nodes,
+    tasks: &mut Tasks,
+    system: &TypeSystem,
+    n: u32,
+    first: u32,
+) -> Result<(), NoMemory>
+    requires sound { AreSound system.now nodes.old tasks.old }
+    requires node { n < length nodes.old.types.items }
+    requires first_in { first ≤ length nodes.old.cells.items }
+    requires stays { live_of nodes.old.forwards.items n ≡ n }
+    ensures leads { OnOk result (Leads system.now nodes.old (arc_claims n (chain nodes.old.cells.items first) ++ work_of system.now.rules tasks.old) nodes.new (work_of system.now.rules tasks.new)) }
+    ensures sound { OnOk result (AreSound system.now nodes.new tasks.new) }
+{
+    let mut place = first;
+    while place != 0 {
+        let cell = nodes.cells[place as usize - 1];
+        attach(nodes, tasks, system, n, cell.feat, cell.to)?;
+        place = cell.next;
+    }
+    Ok(())
+}
+
+/// Merges b into a: b's type and arcs are to be a's.
+pub fn merge(
+    nodes: &mut Nodes,
+    tasks: &mut Tasks,
+    system: &TypeSystem,
+    a: u32,
+    b: u32,
+) -> Result<(), NoMemory>
+    requires sound { AreSound system.now nodes.old tasks.old }
+    requires order { a < b }
+    requires b_in { b < length nodes.old.types.items }
+    requires a_stays { live_of nodes.old.forwards.items a ≡ a }
+    requires b_stays { live_of nodes.old.forwards.items b ≡ b }
+    ensures leads { OnOk result ((n m : ℕ) → live_of nodes.old.forwards.items n ≡ a → live_of nodes.old.forwards.items m ≡ b → Leads system.now nodes.old (is_same n [] m [] ∷ work_of system.now.rules tasks.old) nodes.new (work_of system.now.rules tasks.new)) }
+    ensures sound { OnOk result (AreSound system.now nodes.new tasks.new) }
+{
+    tasks.push_bound(a, nodes.types[b as usize])?;
+    nodes.forwards[b as usize] = a;
+    let first = nodes.firsts[b as usize];
+    attach_all(nodes, tasks, system, a, first)?;
+    Ok(())
+}
+
+// The facts of a rule are to hold at a node, unless they hold at a type already.
+fn push_rule(
+    tasks: &mut Tasks,
+    system: &TypeSystem,
+    node: u32,
+    old: u32,
+    rule: u32,
+) -> Result<(), NoMemory>
+    requires rule_in { rule < length system.now.rules }
+    requires old_in { old < count_of system.now.types }
+    ensures work { OnOk result (((is_below system.now.types old (slice_index_or system.now.rules rule no_rule).ty ≡ true) × (tasks.new ≡ tasks.old)) ⊎ IsJoined (entry_claims system.now.rules (record { node = node; rule = rule; from = 0 })) (work_of system.now.rules tasks.old) (work_of system.now.rules tasks.new)) }
+    ensures ready { OnOk result ((size types : ℕ) → node < size → AreReady size types (length system.now.rules) tasks.old → AreReady size types (length system.now.rules) tasks.new) }
+{
+    if system
+        .types()
+        .at_or_below(Ty(old), Ty(system.rule_type(rule)))
+    {
+        return Ok(());
+    }
+    tasks.push_entry(node, rule, 0)?;
+    Ok(())
+}
+
+/// The facts of the types at or above a type are to hold at a node, but for those of types that an old type is at or below.
+pub fn push_rules(
+    tasks: &mut Tasks,
+    system: &TypeSystem,
+    node: u32,
+    ty: u32,
+    old: u32,
+) -> Result<(), NoMemory>
+    requires ty_in { ty < count_of system.now.types }
+    requires old_in { old < count_of system.now.types }
+    ensures work { OnOk result (PushesFacts (system_of system.now) node ty old (work_of system.now.rules tasks.old) (work_of system.now.rules tasks.new)) }
+    ensures ready { OnOk result ((size types : ℕ) → node < size → AreReady size types (length system.now.rules) tasks.old → AreReady size types (length system.now.rules) tasks.new) }
+{
+    for rule in system.rules_above(ty) {
+        push_rule(tasks, system, node, old, *rule)?;
+    }
+    Ok(())
+}
+
+/// A node's type becomes its meet with another type.
+pub fn lower(
+    nodes: &mut Nodes,
+    tasks: &mut Tasks,
+    system: &TypeSystem,
+    n: u32,
+    ty: u32,
+) -> Result<(), NoMemory>
+    requires order { IsOrder (system_of system.now) }
+    requires sound { AreSound system.now nodes.old tasks.old }
+    requires node { n < length nodes.old.types.items }
+    requires ty_in { ty < count_of system.now.types }
+    ensures leads { OnOk result ((m u : ℕ) → live_of nodes.old.forwards.items m ≡ n → meet_of system.now.types (slice_index_or nodes.old.types.items n 0) u ≡ Some ty → Leads system.now nodes.old (is_under m [] u ∷ work_of system.now.rules tasks.old) nodes.new (work_of system.now.rules tasks.new)) }
+    ensures sound { OnOk result (AreSound system.now nodes.new tasks.new) }
+{
+    let old = nodes.types[n as usize];
+    nodes.types[n as usize] = ty;
+    push_rules(tasks, system, n, ty, old)?;
+    Ok(())
+}
+
+/// The node one arc on, which is made where it isn't there. `None` where a path gets too long.
+pub fn go(
+    nodes: &mut Nodes,
+    tasks: &mut Tasks,
+    system: &TypeSystem,
+    node: u32,
+    feat: u32,
+) -> Result<Option<u32>, NoMemory>
+    requires bare { IsBare (system_of system.now) }
+    requires sound { AreSound system.now nodes.old tasks.old }
+    requires node { node < length nodes.old.types.items }
+    requires feat_in { feat < length system.now.introducers }
+    ensures leads { IfOk result (λ o. MatchOption o ((c : NodeClaim) (p : Path) → Clashes system.now nodes.old (begin node (feat ∷ p) c ∷ work_of system.now.rules tasks.old)) (λ m. (c : NodeClaim) (p : Path) → Leads system.now nodes.old (begin node (feat ∷ p) c ∷ work_of system.now.rules tasks.old) nodes.new (begin m p c ∷ work_of system.now.rules tasks.new))) }
+    ensures within { IfOk result (λ o. MatchOption o (Unit {0}) (λ m. m < length nodes.new.types.items)) }
+    ensures more { OnOk result (length nodes.old.types.items ≤ length nodes.new.types.items) }
+    ensures sound { IfOk result (λ o. MatchOption o (Unit {0}) (λ m. AreSound system.now nodes.new tasks.new)) }
+{
+    let from = live(&nodes.forwards, node);
+    if let Some(to) = arc_of(nodes, from, feat) {
+        return Ok(Some(to));
+    }
+    let depth = nodes.depths[from as usize];
+    if depth >= system.path_limit() {
+        return Ok(None);
+    }
+    tasks.push_bound(from, system.introducer(feat))?;
+    let to = grow(nodes, from, feat, 0, depth + 1)?;
+    Ok(Some(to))
+}

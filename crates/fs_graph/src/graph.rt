@@ -1,0 +1,127 @@
+//! Graphs, their nodes and arcs.
+
+ghost use Rattle.std.specs.Prelude.{◌≡◌, ℕ, ◌+◌, ◌<◌, ◌≤◌, ◌↔◌, length, List, Some, None, IsTrue, option_map};
+ghost use Rattle.fs_model.specs.Sources.{IsSameStructure};
+ghost use Rattle.fs_paths.specs.Facts.{path_of};
+ghost use Rattle.fs_graph.specs.GraphMap.{arc_to};
+
+use fs_paths::Feat;
+use std::marker::Model;
+use type_hierarchy::Ty;
+
+/// A node by number. The root is 0, and the nodes are numbered in depth-first order.
+#[derive(Clone, Copy, Debug, PartialEq, Eq, PartialOrd, Ord, Hash)]
+pub struct Node(pub u32);
+
+/// An arc of a node: its feature, and the node to which it leads.
+#[derive(Clone, Copy, Debug, PartialEq, Eq)]
+pub struct GraphArc {
+    pub feat: Feat,
+    pub to: Node,
+}
+
+/// A structure: nodes with types, and arcs by feature (Copestake 2002: typed feature structures). No node reaches itself,
+/// and the root reaches each node. Two graphs that are one structure are equal.
+#[derive(Debug, Drop)]
+pub struct Graph {
+    pub(crate) types: Vec<Ty>,
+    pub(crate) starts: Vec<u32>,
+    pub(crate) arcs: Vec<GraphArc>,
+}
+
+impl Model for Graph {
+    ghost use Rattle.fs_graph.specs.GraphMap.{GraphMap};
+
+    ghost Value = { GraphMap };
+
+    ghost use Rattle.fs_graph.specs.Inside.{graph_map, IsGraphInside};
+
+    ghost view = { λ g. graph_map g.types.items g.starts.items g.arcs.items };
+
+    ghost invariant = { λ g. IsGraphInside g.types.items g.starts.items g.arcs.items };
+}
+
+// Where an arc leads.
+fn find_arc(arcs: &[GraphArc], feat: Feat) -> Option<Node>
+    ensures { option_map (λ n. n.0) result ≡ arc_to arcs.now feat.0 }
+{
+    arcs.iter().find(|arc| arc.feat == feat).map(|arc| arc.to)
+}
+
+impl Graph {
+    ghost use Rattle.fs_graph.specs.GraphMap.{node_at, type_at, arcs_at, reader_of, IsGraph, IsSameNode};
+
+    /// How many nodes there are.
+    pub fn nodes(&self) -> u32
+        ensures count { result ≡ length self.now.types }
+        ensures graph { IsGraph self.now }
+    {
+        self.types.len() as u32
+    }
+
+    // The root, with what every graph keeps.
+    fn root(&self) -> Node
+        ensures root { result.0 ≡ 0 }
+        ensures graph { IsGraph self.now }
+    {
+        let _ = &self.types;
+        Node(0)
+    }
+
+    /// The type of a node.
+    pub fn ty(&self, n: Node) -> Ty
+        requires { n.0 < length self.now.types }
+        ensures { result.0 ≡ type_at self.now n.0 }
+    {
+        self.types[n.0 as usize]
+    }
+
+    /// The arcs of a node, by rising feature.
+    pub fn arcs(&self, n: Node) -> &[GraphArc]
+        requires { n.0 < length self.now.types }
+        ensures { result.now ≡ arcs_at self.now n.0 }
+    {
+        let from = self.starts[n.0 as usize] as usize;
+        let end = self.starts[n.0 as usize + 1] as usize;
+        &self.arcs[from..end]
+    }
+
+    /// Whether the two graphs are one structure: the same paths, the same equalities of paths, and the same types.
+    pub fn same(&self, other: &Graph) -> bool
+        ensures { IsTrue result ↔ IsSameStructure (reader_of self.now) (reader_of other.now) }
+    {
+        let nodes = self.nodes();
+        if nodes != other.nodes() {
+            return false;
+        }
+        for n in 0..nodes {
+            if !self.same_node(other, Node(n)) {
+                return false;
+            }
+        }
+        true
+    }
+
+    // Whether a node has the same type and the same arcs in both graphs.
+    fn same_node(&self, other: &Graph, n: Node) -> bool
+        requires here { n.0 < length self.now.types }
+        requires there { n.0 < length other.now.types }
+        ensures { IsTrue result ↔ IsSameNode self.now other.now n.0 }
+    {
+        self.ty(n) == other.ty(n) && self.arcs(n) == other.arcs(n)
+    }
+
+    /// The node at a path, and `None` exactly where the path doesn't exist.
+    pub fn at(&self, path: &[Feat]) -> Option<Node>
+        ensures { option_map (λ n. n.0) result ≡ node_at self.now (path_of path.now) }
+    {
+        let mut node = self.root();
+        for feat in path {
+            match find_arc(self.arcs(node), *feat) {
+                Some(to) => node = to,
+                None => return None,
+            }
+        }
+        Some(node)
+    }
+}

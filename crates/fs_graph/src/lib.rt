@@ -1,0 +1,18 @@
+//! Typed feature structures as graphs (Copestake 2002).
+#![tactic(auto)]
+
+mod builder;
+mod clash;
+mod graph;
+mod laws;
+mod lines;
+mod order;
+#[cfg(test)]
+mod tests;
+mod visit;
+
+pub use builder::Builder;
+pub use clash::{Clash, NoMemory};
+pub use graph::{Graph, GraphArc, Node};
+pub use laws::path_laws;
+pub use order::ordered;

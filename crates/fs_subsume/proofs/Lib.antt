@@ -1,0 +1,3 @@
+pub mod MeetLemmas
+pub mod MarkLemmas
+pub mod ArcLemmas

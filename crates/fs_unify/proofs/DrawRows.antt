@@ -1,0 +1,154 @@
+-- Rows of arcs, drawn one by one.
+use Rattle.std.proofs.Common.{ℕ, zero, suc, ◌≡◌, ◌≤◌, ◌<◌, ◌+◌, ◌-◌, ◌⊎◌, inl, inr, None, List, [], ◌∷◌, ◌++◌, length, map, take, drop, slice_index, refl, sym, ◌∙◌, ap, subst, arith, length-append}
+use Rattle.std.specs.List.{between, insert}
+use Rattle.std.proofs.lemmas.Bool.{cases_lt}
+use Rattle.std.proofs.lemmas.List.{length-map, length_push, get_or_push, get_or_append_left, drop_at, take-append-le, drop-append-le, length-drop}
+use Rattle.type_hierarchy.specs.declared.types.Ty.{Ty}
+use Rattle.fs_model.specs.Table.{Table}
+use Rattle.fs_graph.specs.declared.graph.GraphArc.{GraphArc}
+use Rattle.fs_graph.specs.GraphMap.{arc_to, Rises}
+use Rattle.fs_graph.specs.Inside.{AreRows, row, graph_map}
+use Rattle.fs_graph.specs.Orders.{ArePlan}
+use Rattle.fs_graph.specs.Visits.{feats_of, targets_of}
+use Rattle.fs_graph.proofs.DrawLemmas.{insert_rises, insert_bounded, insert_here, insert_other}
+use Rattle.fs_graph.proofs.RowLemmas.{row_at}
+use Rattle.fs_closing.specs.declared.nodes.Nodes.{Nodes}
+use Rattle.fs_closing.specs.NodeTable.{table_of, IsWhole}
+use Rattle.fs_unify.specs.Drawing.{PutsArc, DrawsRow, DrawsRows, IsPicture}
+
+pub puts_arc : (xs ys : List GraphArc) (i : ℕ) (a : GraphArc) → ys ≡ insert xs i a → i ≤ length xs → Rises xs → arc_to xs a.feat.0 ≡ None →
+    ((k : ℕ) → k < i → slice_index (feats_of xs) k < a.feat.0) → (i < length xs → a.feat.0 ≤ slice_index (feats_of xs) i) → PutsArc a.feat.0 a.to.0 xs ys
+puts_arc xs ys i a is within rises new before found =
+    subst (PutsArc a.feat.0 a.to.0 xs) (sym is)
+    (record {
+      rises = insert_rises xs i a within rises new before found;
+      here = insert_here xs i a within rises new before found;
+      others = λ f e. insert_other xs i a within rises new before found f e;
+      to_in = λ m low all. insert_bounded xs i a within rises new before found m low all;
+    })
+
+pub rises_none : (xs : List GraphArc) → xs ≡ [] → Rises xs
+rises_none xs is i j a b = absurd (let e = ap length is in omega arith)
+
+pub to_in_none : (xs : List GraphArc) (m : ℕ) → xs ≡ [] → (k : ℕ) → k < length xs → slice_index (targets_of xs) k < m
+to_in_none xs m is k h = absurd (let e = ap length is in omega arith)
+
+-- a part of a list with more at its end
+between_old : {X : Type 0} (xs ys : List X) (i j : ℕ) → i ≤ j → j ≤ length xs → between i j (xs ++ ys) ≡ between i j xs
+between_old xs ys i j a b =
+    ap (take (j - i)) (drop-append-le i xs ys (omega arith))
+    ∙ take-append-le (j - i) (drop i xs) ys (omega (arith, a, b, length-drop i xs))
+
+between_new : {X : Type 0} (xs ys : List X) (i j : ℕ) → i ≡ length xs → j ≡ length xs + length ys → between i j (xs ++ ys) ≡ ys
+between_new xs ys i j a b =
+    ap (take (j - i)) (drop_at xs ys i (sym a)) ∙ all ys (j - i) (omega arith)
+  where
+    all : {X : Type 0} (ys : List X) (n : ℕ) → n ≡ length ys → take n ys ≡ ys
+    all [] zero e = refl
+    all [] (suc n) e = refl
+    all (y ∷ ys) zero e = absurd (omega arith)
+    all (y ∷ ys) (suc n) e = ap (λ l. y ∷ l) (all ys n (omega arith))
+
+pub rows_begin : (t : Table) (starts : List ℕ) (arcs : List GraphArc) → starts ≡ 0 ∷ [] → arcs ≡ [] → DrawsRows t 0 starts arcs
+rows_begin t starts arcs s_is a_is = record {
+  rows = record {
+    one_more = ap length s_is;
+    rise = λ n h. absurd (omega arith);
+    inside = λ n h.
+        let z : n ≡ 0 = omega arith in
+        let s : slice_index starts n ≡ 0 = ap (slice_index starts) z ∙ ap (λ l. slice_index l 0) s_is in
+        omega arith;
+  };
+  ends = ap (λ l. slice_index l 0) s_is ∙ sym (ap length a_is);
+  each = λ n h. absurd (omega arith);
+}
+
+pub rows_more : (t : Table) (n at : ℕ) (r : List GraphArc) (starts starts' : List ℕ) (arcs arcs' : List GraphArc) → DrawsRows t n starts arcs → DrawsRow t n r →
+    arcs' ≡ arcs ++ r → starts' ≡ starts ++ at ∷ [] → at ≡ length arcs' → DrawsRows t (n + 1) starts' arcs'
+rows_more t n at r starts starts' arcs arcs' d one a_is s_is at_is = record {
+  rows = record { one_more = ap length s_is ∙ length_push starts at ∙ ap (λ k. k + 1) size; rise = λ k h. rise k h (cases_lt k n); inside = λ k h. inside k h (cases_lt n k) };
+  ends = last ∙ at_is;
+  each = λ k h. each k h (cases_lt k n);
+}
+  where
+    size : length starts ≡ n + 1
+    size = d.rows.one_more
+
+    longer : length arcs' ≡ length arcs + length r
+    longer = ap length a_is ∙ length-append arcs r
+
+    old : (k : ℕ) → k ≤ n → slice_index starts' k ≡ slice_index starts k
+    old k h = ap (λ l. slice_index l k) s_is ∙ get_or_append_left starts (at ∷ []) 0 k (omega (arith, size))
+
+    last : slice_index starts' (n + 1) ≡ at
+    last = ap (λ l. slice_index l (n + 1)) s_is ∙ get_or_push starts at 0 (n + 1) size
+
+    rise : (k : ℕ) → k < n + 1 → (k < n) ⊎ (n ≤ k) → slice_index starts' k ≤ slice_index starts' (k + 1)
+    rise k h (inl a) =
+        let p = old k (omega arith) in
+        let q = old (k + 1) (omega arith) in
+        let b = d.rows.rise k a in
+        omega arith
+    rise k h (inr a) =
+        let e : k ≡ n = omega arith in
+        let p = old n (omega arith) in
+        let b = d.ends in
+        let f = longer in
+        let z = last in
+        let s : slice_index starts' n ≤ slice_index starts' (n + 1) = omega (arith, at_is) in
+        subst (λ i. slice_index starts' i ≤ slice_index starts' (i + 1)) (sym e) s
+
+    inside : (k : ℕ) → k ≤ n + 1 → (n < k) ⊎ (k ≤ n) → slice_index starts' k ≤ length arcs'
+    inside k h (inl a) =
+        let e : k ≡ n + 1 = omega arith in
+        let z = last in
+        subst (λ i. slice_index starts' i ≤ length arcs') (sym e) (omega (arith, at_is))
+    inside k h (inr a) =
+        let p = old k a in
+        let b = d.rows.inside k a in
+        let f = longer in
+        omega arith
+
+    each : (k : ℕ) → k < n + 1 → (k < n) ⊎ (n ≤ k) → DrawsRow t k (row starts' arcs' k)
+    each k h (inl a) =
+        let p = old k (omega arith) in
+        let q = old (k + 1) (omega arith) in
+        let same = ap (λ i. between i (slice_index starts' (k + 1)) arcs') p ∙ ap (λ j. between (slice_index starts k) j arcs') q
+        ∙ ap (between (slice_index starts k) (slice_index starts (k + 1))) a_is
+        ∙ between_old arcs r (slice_index starts k) (slice_index starts (k + 1)) (d.rows.rise k a) (d.rows.inside (k + 1) (omega arith)) in
+        subst (DrawsRow t k) (sym same) (d.each k a)
+    each k h (inr a) =
+        let e : k ≡ n = omega arith in
+        let p = old n (omega arith) ∙ d.ends in
+        let same = ap (between (slice_index starts' n) (slice_index starts' (n + 1))) a_is
+        ∙ between_new arcs r (slice_index starts' n) (slice_index starts' (n + 1)) p (last ∙ at_is ∙ longer) in
+        subst (λ i. DrawsRow t i (row starts' arcs' i)) (sym e) (subst (DrawsRow t n) (sym same) one)
+
+-- the rows of all nodes are a plan, which shows the table
+pub drawn_plan : (nodes : Nodes) (types : List Ty) (starts : List ℕ) (arcs : List GraphArc) → IsWhole nodes → 0 < length nodes.types.items →
+    map (λ t. t.0) types ≡ nodes.types.items → DrawsRows (table_of nodes) (length nodes.types.items) starts arcs →
+    ArePlan types starts arcs × IsPicture (table_of nodes) (graph_map types starts arcs)
+drawn_plan nodes types starts arcs whole filled is d = (
+  record {
+    filled = omega (arith, size, filled);
+    few = omega (arith, size, whole.small);
+    rows = subst (λ k. AreRows k starts (length arcs)) (sym size) d.rows;
+    rises = λ n h. (d.each n (omega (arith, size))).rises;
+    to_in = λ n k h l. let low = (d.each n (omega (arith, size))).to_in k l in omega (arith, size, low);
+  },
+  record {
+    size = ap length is;
+    types = λ n. ap (λ l. slice_index l n) is;
+    arcs = λ n f h stays. ap (λ l. arc_to l f) (row_at types starts arcs n (omega (arith, size))) ∙ (d.each n h).here f stays;
+  },
+)
+  where
+    size : length types ≡ length nodes.types.items
+    size = sym (length-map types (λ t. t.0)) ∙ ap length is
+
+pub draw_by : (nodes : Nodes) (types types' : List Ty) (starts starts' : List ℕ) (arcs arcs' : List GraphArc) → types' ≡ types → starts' ≡ starts → arcs' ≡ arcs →
+    ArePlan types starts arcs × IsPicture (table_of nodes) (graph_map types starts arcs) → ArePlan types' starts' arcs' × IsPicture (table_of nodes) (graph_map types' starts' arcs')
+draw_by nodes types types' starts starts' arcs arcs' t s a p =
+    subst (λ z. ArePlan z starts' arcs' × IsPicture (table_of nodes) (graph_map z starts' arcs')) (sym t)
+    (subst (λ z. ArePlan types z arcs' × IsPicture (table_of nodes) (graph_map types z arcs')) (sym s)
+    (subst (λ z. ArePlan types starts z × IsPicture (table_of nodes) (graph_map types starts z)) (sym a) p))

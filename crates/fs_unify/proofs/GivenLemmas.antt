@@ -1,0 +1,177 @@
+-- The first node, facts at it, and the answer.
+use Rattle.std.proofs.Common.{ℕ, suc, ◌≡◌, ◌<◌, ◌+◌, Bool, true, false, Option, Some, None, List, [], ◌∷◌, ◌++◌, length, map, drop, slice_index_or, append-nil, refl, sym, ◌∙◌, ap, subst, arith}
+use Rattle.std.proofs.Math.Seq.{drop-cons}
+use Rattle.fs_model.specs.Claims.{Path, Claim, exists_at, same, below, System, IsOrder, IsBare, Has, here}
+use Rattle.fs_model.specs.Closure.{Closure, IsConsistent, given_claim, same_exists, below_exists, prefix}
+use Rattle.fs_model.specs.Sources.{Reader, Source, Told, told_claim, told_part}
+use Rattle.fs_model.specs.Table.{Table, NodeClaim, from}
+use Rattle.fs_model.specs.Steps.{Starts}
+use Rattle.fs_model.proofs.Ends.{Closes-starts}
+use Rattle.fs_closing.specs.declared.nodes.Nodes.{Nodes}
+use Rattle.fs_closing.specs.declared.tasks.Tasks.{Tasks}
+use Rattle.fs_closing.specs.NodeTable.{AreWhole, AreWithin, table_of, IsWhole, IsWithin}
+use Rattle.type_hierarchy.specs.Laws.{HasTypeLaws}
+use Rattle.fs_closing.specs.NodeSteps.{AddsNode}
+use Rattle.fs_closing.specs.Rules.{Grammar, system_of}
+use Rattle.fs_closing.specs.Work.{work_of}
+use Rattle.fs_unify.specs.Given.{facts_source, StandsFor, StandsForSome, Gathers, Decides, Settles}
+use Rattle.fs_unify.specs.Drawing.{Answers}
+use Rattle.fs_unify.specs.Entering.{IsGraphIn}
+use Rattle.fs_unify.proofs.DrawLemmas.{answer_long, consistent_closed}
+use Rattle.std.specs.Prelude.{IfSome, IsTrue, ◌↔◌}
+use Rattle.fs_graph.specs.GraphMap.{GraphMap}
+use Rattle.type_hierarchy.specs.Table.{count_of}
+use Rattle.fs_closing.specs.Levels.{BoundsPaths}
+use Rattle.fs_closing.specs.Keeps.{Deep, deep_of, Stands, Turns, Refutes, Leads, Clashes, StepsTo}
+use Rattle.fs_closing.proofs.HasLemmas.{Has-map, Has-of_map}
+use Rattle.fs_closing.proofs.KeepsLemmas.{Refutes-after, Refutes-order, Refutes-beside, same_beside, same_itself, same_swapped}
+
+pub whole_none : AreWhole [] [] [] [] []
+whole_none = record {
+  forwards_even = refl;
+  depths_even = refl;
+  firsts_even = refl;
+  small = omega arith;
+  few = omega arith;
+  falls = λ k. omega arith;
+  places = λ k h. absurd (omega arith);
+  first_in = λ n h. absurd (omega arith);
+  once = λ n h. absurd (omega arith);
+  to_in = λ c h. elim h [ ];
+}
+
+pub within_none : (types feats : ℕ) → AreWithin types feats [] []
+within_none types feats = record { type_in = λ n h. absurd (omega arith); feat_in = λ c h. elim h [ ] }
+
+-- one node of the top type
+pub starts_one : (s : System) (t t' : Table) → t.size ≡ 0 → s.top ≡ 0 → AddsNode 0 t t' → Starts s t'
+starts_one s t t' none top adds = record {
+  size_is = omega (arith, adds.size_is);
+  live_is = λ k. adds.live_new k (omega arith);
+  arc_is = λ f. ap (λ n. t'.arc n f) (sym none) ∙ adds.arc_new f;
+  type_is = ap t'.type_of (sym none) ∙ adds.type_new ∙ sym top;
+}
+
+-- the root exists where something is given
+root_there : (s : System) (g : Claim → Type 0) (c : Claim) → Closure s g c → Closure s g (exists_at [])
+root_there s g (exists_at p) h = prefix [] p h
+root_there s g (same p q) h = prefix [] p (same_exists p q h)
+root_there s g (below p t) h = prefix [] p (below_exists p t h)
+
+told_only : (claims : List Claim) (c : Claim) → Told (facts_source claims) c → Has c claims
+told_only claims _ (told_claim c h) = h
+told_only claims _ (told_part part c h i) = elim h [ ]
+
+first_of_list : (claims : List Claim) → 0 < length claims → (c : Claim) × Has c claims
+first_of_list [] h = absurd (omega arith)
+first_of_list (c ∷ claims) h = (c, here)
+
+pub stands_one : (s : System) (claims : List Claim) (x : Deep) → IsBare s → 0 < length claims → Starts s x.table → ((n : ℕ) → n < 1 → x.depth n ≡ 0) →
+    Stands s (Told (facts_source claims)) x (map (from 0) claims) (λ _. [])
+stands_one s claims x bare some starts flat = record {
+  closes = Closes-starts s (Told (facts_source claims)) x.table starts root bare (map (from 0) claims)
+      (λ c h. Has-map (from 0) c claims (told_only claims c h))
+      (λ k h. let r = Has-of_map (from 0) k claims h in (r.0, told_claim r.0 r.1, r.2));
+  deep = λ n h. omega (arith, flat n (omega (arith, starts.size_is)));
+}
+  where
+    root : Closure s (Told (facts_source claims)) (exists_at [])
+    root = let c = first_of_list claims some in root_there s (Told (facts_source claims)) c.0 (given_claim c.0 (told_claim c.0 c.1))
+
+-- with no other work beside it
+pub padded : (s : System) (g : Claim → Type 0) (x : Deep) (work : List NodeClaim) (w : ℕ → Path) → Stands s g x work w → Stands s g x (work ++ []) w
+padded s g x work w st = subst (λ l. Stands s g x l w) (sym (append-nil work)) st
+
+pub unpadded : (s : System) (g : Claim → Type 0) (x : Deep) (work : List NodeClaim) (w : ℕ → Path) → Stands s g x (work ++ []) w → Stands s g x work w
+unpadded s g x work w st = subst (λ l. Stands s g x l w) (append-nil work) st
+
+pub stands_beside : (s : System) (g : Claim → Type 0) (x : Deep) (work none : List NodeClaim) (w : ℕ → Path) → none ≡ [] → Stands s g x work w →
+    Stands s g x (work ++ none) w
+stands_beside s g x work none w is st = subst (λ l. Stands s g x (work ++ l) w) (sym is) (padded s g x work w st)
+
+-- where nodes stand for a source, what comes after a step does, or shows that the source is inconsistent
+pub gathers : (g : Grammar) (source : Source) (one : Nodes) (work : List NodeClaim) (two : Nodes) (tasks : Tasks) (w : ℕ → Path) (b : Bool) →
+    Stands (system_of g) (Told source) (deep_of one) work w → StepsTo g one work two tasks b → Gathers g source two tasks b
+gathers g source one work two tasks w true st p =
+    let r = p.0 [] source w (padded (system_of g) (Told source) (deep_of one) work w st) in
+    (record { paths = r.0; stands = unpadded (system_of g) (Told source) (deep_of two) (work_of g.rules tasks) r.0 r.1 }, p.1)
+gathers g source one work two tasks w false st clash = λ ok. clash [] source w (padded (system_of g) (Told source) (deep_of one) work w st) ok
+
+-- nodes that were closed stand for the same
+pub closed_stands : (g : Grammar) (nodes : Nodes) (tasks : Tasks) (nodes' : Nodes) (source : Source) → StandsFor g source nodes tasks →
+    Leads g nodes (work_of g.rules tasks) nodes' [] → (w : ℕ → Path) × Stands (system_of g) (Told source) (deep_of nodes') [] w
+closed_stands g nodes tasks nodes' source st leads =
+    leads [] source st.paths (padded (system_of g) (Told source) (deep_of nodes) (work_of g.rules tasks) st.paths st.stands)
+
+pub closed_filled : (g : Grammar) (nodes : Nodes) (tasks : Tasks) (nodes' : Nodes) → StandsForSome g nodes tasks → Leads g nodes (work_of g.rules tasks) nodes' [] →
+    0 < length nodes'.types.items
+closed_filled g nodes tasks nodes' some leads = (closed_stands g nodes tasks nodes' some.0 some.1 leads).1.closes.filled
+
+pub decides_by : (g : Grammar) (nodes : Nodes) (tasks : Tasks) (nodes' : Nodes) (limit : ℕ) (b : Bool) → IsOrder (system_of g) → limit ≡ g.path_limit →
+    Leads g nodes (work_of g.rules tasks) nodes' [] → IsWhole nodes' → IsWithin (count_of g.types) (length g.introducers) nodes' → 0 < length nodes'.types.items →
+    BoundsPaths (table_of nodes') limit b → Decides g nodes tasks nodes' b
+decides_by g nodes tasks nodes' limit true order is leads whole within filled bounds =
+    (leads, whole, within, subst (λ l. BoundsPaths (table_of nodes') l true) is bounds, filled)
+decides_by g nodes tasks nodes' limit false order is leads whole within filled bounds = λ source st ok.
+    let r = closed_stands g nodes tasks nodes' source st leads in
+    answer_long (deep_of nodes') limit bounds (system_of g) source r.0 order (sym is) r.1 ok
+
+pub decides_clash : (g : Grammar) (nodes : Nodes) (tasks : Tasks) (nodes' : Nodes) → Clashes g nodes (work_of g.rules tasks) → Decides g nodes tasks nodes' false
+decides_clash g nodes tasks nodes' clash source st ok =
+    clash [] source st.paths (padded (system_of g) (Told source) (deep_of nodes) (work_of g.rules tasks) st.paths st.stands) ok
+
+-- the test alone
+pub decided : (g : Grammar) (nodes : Nodes) (tasks : Tasks) (nodes' : Nodes) (source : Source) (b : Bool) → IsOrder (system_of g) → StandsFor g source nodes tasks →
+    Decides g nodes tasks nodes' b → IsTrue b ↔ IsConsistent (system_of g) (Told source)
+decided g nodes tasks nodes' source true order st d = (
+  λ _.
+      let r = closed_stands g nodes tasks nodes' source st d.0 in
+      consistent_closed (deep_of nodes') g.path_limit d.3 (system_of g) source r.0 order refl r.1,
+  λ _. refl,
+)
+decided g nodes tasks nodes' source false order st d = (λ e. absurd cc, λ ok. absurd (d source st ok))
+
+pub settles_by : (g : Grammar) (nodes : Nodes) (tasks : Tasks) (nodes' : Nodes) (o : Option Reader) → IsOrder (system_of g) →
+    Leads g nodes (work_of g.rules tasks) nodes' [] → Answers (deep_of nodes') g.path_limit o → Settles g nodes tasks o
+settles_by g nodes tasks nodes' o order leads answers source st =
+    let r = closed_stands g nodes tasks nodes' source st leads in
+    answers (system_of g) source r.0 order refl r.1
+
+-- the types and features of an answer
+pub inside_at : (o : Option GraphMap) (nodes : Nodes) (types feats : ℕ) → IsWithin types feats nodes →
+    IfSome o (λ g. (ts fs : ℕ) → IsWithin ts fs nodes → IsGraphIn ts fs g) → IfSome o (IsGraphIn types feats)
+inside_at None nodes types feats within h = h
+inside_at (Some g) nodes types feats within h = h types feats within
+
+-- a claim of several shows a clash
+pub refute_one : (s : System) (x y : Deep) (start : List NodeClaim) (k : NodeClaim) (rest a : List NodeClaim) → Turns s x start y ((k ∷ rest) ++ a) →
+    Refutes s y (k ∷ a) → Refutes s x start
+refute_one s x y start k rest a one clash =
+    Refutes-after s x y start ((k ∷ rest) ++ a) one
+    (Refutes-order s y ((k ∷ rest) ++ a) ((k ∷ a) ++ rest)
+    (same_beside (k ∷ []) (k ∷ []) (rest ++ a) (a ++ rest) (same_itself (k ∷ [])) (same_swapped rest a))
+    (Refutes-beside s y (k ∷ a) rest clash))
+
+-- one claim of several at the root
+pub claims_step : (claims : List Claim) (i : ℕ) (d : Claim) → i < length claims →
+    map (from 0) (drop i claims) ≡ from 0 (slice_index_or claims i d) ∷ map (from 0) (drop (i + 1) claims)
+claims_step claims i d h =
+    ap (map (from 0)) (drop-cons claims i d h)
+    ∙ ap (λ j. from 0 (slice_index_or claims i d) ∷ map (from 0) (drop j claims)) (let e : suc i ≡ i + 1 = omega arith in e)
+
+pub flat_one : (ds ds' : List ℕ) → ds' ≡ ds ++ 0 ∷ [] → ds ≡ [] → (n : ℕ) → n < 1 → ◌≡◌ {A = ℕ} (slice_index_or ds' n 0) 0
+flat_one ds ds' is none n h =
+    let zero_is : n ≡ 0 = omega arith in
+    ap (λ l. slice_index_or l n 0) (is ∙ ap (λ l. l ++ 0 ∷ []) none) ∙ ap (λ i. slice_index_or (0 ∷ []) i 0) zero_is
+
+-- the laws of types are those of the order
+pub order_of_laws : (g : Grammar) → HasTypeLaws g.types → IsOrder (system_of g)
+order_of_laws g laws = record {
+  reflexive = laws.reflexive;
+  transitive = laws.transitive;
+  antisymmetric = laws.antisymmetric;
+  below_top = laws.below_top;
+  meet_below = laws.meet_below;
+  meet_greatest = laws.meet_greatest;
+  meet_exists = laws.meet_exists;
+}

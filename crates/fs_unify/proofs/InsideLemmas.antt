@@ -1,0 +1,79 @@
+-- A graph that was drawn has the types and features of its nodes.
+use Rattle.std.proofs.Common.{ℕ, ◌≡◌, ◌<◌, Option, Some, None, [], ◌∷◌, ◌++◌, length, slice_index_or, refl, sym, ◌∙◌, ap, subst, arith}
+use Rattle.std.proofs.lemmas.List.{get_or_default}
+use Rattle.std.specs.Prelude.{IfSome}
+use Rattle.std.specs.Option.{option_map}
+use Rattle.type_hierarchy.specs.Table.{count_of}
+use Rattle.fs_model.specs.Claims.{Path, Has}
+use Rattle.fs_model.specs.Sources.{Source, Told, IsSameStructure, IsUnified}
+use Rattle.fs_model.specs.Table.{Table, IsTable, walk}
+use Rattle.fs_model.proofs.TableLemmas.{walk-append, walk-step, walk_ends}
+use Rattle.fs_graph.specs.declared.graph.GraphArc.{GraphArc}
+use Rattle.fs_graph.specs.GraphMap.{GraphMap, IsGraph, table_of as graph_table, type_at, arcs_at, reader_of}
+use Rattle.fs_closing.specs.declared.nodes.Nodes.{Nodes}
+use Rattle.fs_closing.specs.Cells.{chain}
+use Rattle.fs_closing.specs.NodeTable.{table_of, IsWhole, IsWithin}
+use Rattle.fs_closing.specs.Rules.{Grammar, system_of}
+use Rattle.fs_closing.proofs.ChainLemmas.{find_arc-has, chain-has}
+use Rattle.fs_closing.proofs.LevelLemmas.{table_whole}
+use Rattle.fs_unify.specs.Entering.{IsGraphIn}
+use Rattle.fs_unify.specs.Drawing.{IsPicture}
+use Rattle.fs_unify.specs.Placing.{IsAnswerIn}
+use Rattle.fs_unify.proofs.EnterLemmas.{rises_found}
+use Rattle.fs_unify.proofs.DrawLemmas.{picture_walk, well_formed}
+
+module _ (nodes : Nodes) (whole : IsWhole nodes) (filled : 0 < length nodes.types.items) (root : (table_of nodes).live 0 ≡ 0) (types feats : ℕ)
+    (within : IsWithin types feats nodes) where
+  abbrev t : Table
+  t = table_of nodes
+
+  ok : IsTable (table_of nodes)
+  ok = table_whole nodes.types.items nodes.forwards.items nodes.depths.items nodes.firsts.items nodes.cells.items whole
+
+  arc_feature : (n f m : ℕ) → walk (table_of nodes) n (f ∷ []) ≡ Some m → f < feats
+  arc_feature n f m e = go ((table_of nodes).arc ((table_of nodes).live n) f) refl
+    where
+      go : (o : Option ℕ) → (table_of nodes).arc ((table_of nodes).live n) f ≡ o → f < feats
+      go None is =
+          let stops : None ≡ walk (table_of nodes) n (f ∷ []) = ap (λ o. elim o as (λ _. Option ℕ) [ None ↦ None | Some i ↦ walk (table_of nodes) i [] ]) (sym is) in
+          absurd (let d : None ≡ Some m = stops ∙ e in cc)
+      go (Some i) is =
+          let first = slice_index_or nodes.firsts.items ((table_of nodes).live n) 0 in
+          let r = find_arc-has (chain nodes.cells.items first) f i is in
+          let low = within.feat_in r.0 (chain-has nodes.cells.items first r.0 r.1) in
+          omega (arith, low, r.2)
+
+  pub graph_inside : (plan graph : GraphMap) → IsPicture (table_of nodes) plan → IsSameStructure (reader_of plan) (reader_of graph) → IsGraph graph → IsGraphIn types feats graph
+  graph_inside plan graph shows same gi = record {
+    types_in = λ k d h. subst (λ x. x < types) (get_or_default graph.types k 0 d h) (type_in k h);
+    feats_in = feats_in;
+  }
+    where
+      in_table : (p : Path) (n : ℕ) → walk (graph_table plan) 0 p ≡ Some n → walk (table_of nodes) 0 p ≡ Some n
+      in_table p n e = sym (picture_walk (table_of nodes) ok plan shows 0 p filled root) ∙ e
+
+      type_in : (k : ℕ) → k < length graph.types → type_at graph k < types
+      type_in k h =
+          let e = (gi.numbered.is_least k h).leads in
+          let back = same.there_back (gi.least k) k e in
+          let ends = walk_ends (table_of nodes) ok 0 back.0 (gi.least k) filled (in_table (gi.least k) back.0 back.1) in
+          let is = sym (shows.types back.0) ∙ same.types (gi.least k) back.0 k back.1 e in
+          subst (λ x. x < types) is (within.type_in back.0 ends.0)
+
+      feats_in : (k : ℕ) (a : GraphArc) → k < length graph.types → Has a (arcs_at graph k) → a.feat.0 < feats
+      feats_in k a h has =
+          let p = gi.least k in
+          let f = a.feat.0 in
+          let e = (gi.numbered.is_least k h).leads in
+          let found = rises_found (arcs_at graph k) a (gi.rises k h) has in
+          let one = walk-append (graph_table graph) gi.numbered.table 0 k p (f ∷ []) e ∙ walk-step (graph_table graph) k a.to.0 f [] found in
+          let here_is = same.there_back p k e in
+          let there_is = same.there_back (p ++ f ∷ []) a.to.0 one in
+          let on = sym (walk-append (table_of nodes) ok 0 here_is.0 p (f ∷ []) (in_table p here_is.0 here_is.1)) ∙ in_table (p ++ f ∷ []) there_is.0 there_is.1 in
+          arc_feature here_is.0 f there_is.0 on
+
+-- what is known of an answer
+pub known_some : (g : Grammar) (source : Source) (o : Option GraphMap) → IsUnified (system_of g) source (option_map reader_of o) →
+    IfSome o (IsGraphIn (count_of g.types) (length g.introducers)) → IfSome o (IsAnswerIn g)
+known_some g source None u i = i
+known_some g source (Some graph) u i = record { graph_in = i; well_formed = well_formed (system_of g) (Told source) (reader_of graph) u.1 }

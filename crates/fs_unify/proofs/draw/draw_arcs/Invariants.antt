@@ -1,0 +1,20 @@
+use Rattle.std.proofs.Common.{ℕ, ◌≤◌, ◌<◌, length, slice_index_or, slice_index}
+use Rattle.fs_graph.specs.GraphMap.{arc_to, Rises}
+use Rattle.fs_graph.specs.Visits.{targets_of}
+use Rattle.fs_closing.specs.Cells.{chain, AreOnce}
+use Rattle.fs_unify.proofs.DrawCells.{DrawsCells}
+use Rattle.fs_unify.proofs.draw.draw_arcs.Given as goal
+
+abbrev pub invariant-loop-place : goal.invariant-loop-place
+invariant-loop-place l =
+    record {
+      draws : DrawsCells l.nodes.forwards.items (chain l.nodes.cells.items (slice_index_or l.nodes.firsts.items l.n 0)) (chain l.nodes.cells.items l.place)
+          (λ f. arc_to l.row.items f);
+      once : AreOnce (chain l.nodes.cells.items l.place);
+      rises : Rises l.row.items;
+      to_in : (k : ℕ) → k < length l.row.items → slice_index (targets_of l.row.items) k < length l.nodes.types.items;
+      place_in : l.place ≤ length l.nodes.cells.items;
+    }
+
+abbrev pub decreases-loop-place : goal.decreases-loop-place
+decreases-loop-place l = l.place

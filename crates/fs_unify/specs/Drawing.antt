@@ -1,0 +1,40 @@
+-- Graphs of closed nodes.
+use Rattle.std.specs.Prelude.{ℕ, ◌≡◌, ◌≢◌, ◌<◌, Option, Some, option_map, List, [], length, slice_index}
+use Rattle.fs_model.specs.Claims.{Path, System, IsOrder}
+use Rattle.fs_model.specs.Sources.{Reader, Source, Told, IsUnified}
+use Rattle.fs_model.specs.Table.{Table}
+use Rattle.fs_graph.specs.declared.graph.GraphArc.{GraphArc}
+use Rattle.fs_graph.specs.GraphMap.{GraphMap, table_of, type_at, arc_to, Rises}
+use Rattle.fs_graph.specs.Inside.{AreRows, row}
+use Rattle.fs_graph.specs.Visits.{targets_of}
+use Rattle.fs_closing.specs.Keeps.{Deep, Stands}
+
+-- a row gets one arc more
+pub record PutsArc (feat to : ℕ) (old new : List GraphArc) : Type 0 where
+  pub rises : Rises new
+  pub here : arc_to new feat ≡ Some to
+  pub others : (f : ℕ) → f ≢ feat → arc_to new f ≡ arc_to old f
+  pub to_in : (m : ℕ) → to < m → ((k : ℕ) → k < length old → slice_index (targets_of old) k < m) → (k : ℕ) → k < length new → slice_index (targets_of new) k < m
+
+-- the arcs of a node that wasn't merged, by rising feature, each to the node that stands for its end
+pub record DrawsRow (t : Table) (n : ℕ) (arcs : List GraphArc) : Type 0 where
+  pub rises : Rises arcs
+  pub here : (f : ℕ) → t.live n ≡ n → arc_to arcs f ≡ option_map t.live (t.arc n f)
+  pub to_in : (k : ℕ) → k < length arcs → slice_index (targets_of arcs) k < t.size
+
+-- the rows of a table's first nodes
+pub record DrawsRows (t : Table) (count : ℕ) (starts : List ℕ) (arcs : List GraphArc) : Type 0 where
+  pub rows : AreRows count starts (length arcs)
+  pub ends : slice_index starts count ≡ length arcs
+  pub each : (n : ℕ) → n < count → DrawsRow t n (row starts arcs n)
+
+-- a graph shows a table's nodes that weren't merged
+pub record IsPicture (t : Table) (g : GraphMap) : Type 0 where
+  pub size : length g.types ≡ t.size
+  pub types : (n : ℕ) → type_at g n ≡ t.type_of n
+  pub arcs : (n f : ℕ) → n < t.size → t.live n ≡ n → (table_of g).arc n f ≡ option_map t.live (t.arc n f)
+
+-- the answer of unification, for all given claims for which nodes without work stand
+abbrev pub Answers : Deep → ℕ → Option Reader → Type 0
+Answers x limit o =
+    (s : System) (source : Source) (w : ℕ → Path) → IsOrder s → s.path_limit ≡ limit → Stands s (Told source) x [] w → IsUnified s source o

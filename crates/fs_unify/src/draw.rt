@@ -1,0 +1,134 @@
+//! The graph of closed nodes.
+
+ghost use Rattle.std.specs.Prelude.{◌≡◌, ℕ, ◌<◌, ◌≤◌, ◌∷◌, [], length, map, true, None, IfOk, IfSome, OnOk, option_map, slice_index};
+ghost use Rattle.fs_graph.specs.GraphMap.{arc_to, Rises, reader_of};
+ghost use Rattle.fs_graph.specs.Visits.{feats_of, targets_of};
+ghost use Rattle.fs_closing.specs.NodeTable.{table_of, IsWhole, IsWithin};
+ghost use Rattle.fs_closing.specs.Levels.{BoundsPaths};
+ghost use Rattle.fs_closing.specs.Keeps.{deep_of};
+ghost use Rattle.fs_unify.specs.Entering.{IsGraphIn};
+ghost use Rattle.fs_unify.specs.Drawing.{PutsArc, DrawsRow, DrawsRows, Answers};
+
+use crate::NoMemory;
+use fs_closing::nodes::{Nodes, live};
+use fs_graph::{Clash, Graph, GraphArc, Node, ordered};
+use fs_paths::Feat;
+use std::alloc::Global;
+use type_hierarchy::Ty;
+
+// The place of a feature among arcs by rising feature.
+fn place_of(arcs: &[GraphArc], feat: Feat) -> usize
+    ensures within { result ≤ length arcs.now }
+    ensures before { (k : ℕ) → k < result → slice_index (feats_of arcs.now) k < feat.0 }
+    ensures found { result < length arcs.now → feat.0 ≤ slice_index (feats_of arcs.now) result }
+{
+    for (i, arc) in arcs.iter().enumerate() {
+        if arc.feat.0 >= feat.0 {
+            return i;
+        }
+    }
+    arcs.len()
+}
+
+// A row gets an arc that it hasn't.
+fn put_arc(row: &mut Vec<GraphArc>, feat: Feat, to: Node) -> Result<(), NoMemory>
+    requires rises { Rises row.old.items }
+    requires new { arc_to row.old.items feat.0 ≡ None }
+    ensures { OnOk result (PutsArc feat.0 to.0 row.old.items row.new.items) }
+{
+    let place = place_of(row, feat);
+    row.insert(place, GraphArc { feat, to })?;
+    Ok(())
+}
+
+// An empty row gets the arcs of a node.
+fn draw_arcs(row: &mut Vec<GraphArc>, nodes: &Nodes, n: u32) -> Result<(), NoMemory>
+    requires whole { IsWhole nodes.now }
+    requires node { n < length nodes.now.types.items }
+    requires empty { row.old.items ≡ [] }
+    ensures rises { OnOk result (Rises row.new.items) }
+    ensures here { OnOk result ((f : ℕ) → arc_to row.new.items f ≡ option_map (table_of nodes.now).live ((table_of nodes.now).arc n f)) }
+    ensures to_in { OnOk result ((k : ℕ) → k < length row.new.items → slice_index (targets_of row.new.items) k < length nodes.now.types.items) }
+{
+    let mut place = nodes.firsts[n as usize];
+    while place != 0 {
+        let cell = nodes.cells[place as usize - 1];
+        let to = live(&nodes.forwards, cell.to);
+        put_arc(row, Feat(cell.feat), Node(to))?;
+        place = cell.next;
+    }
+    Ok(())
+}
+
+// A row becomes that of a node: its arcs, and none where it was merged.
+fn draw_row(row: &mut Vec<GraphArc>, nodes: &Nodes, n: u32) -> Result<(), NoMemory>
+    requires whole { IsWhole nodes.now }
+    requires node { n < length nodes.now.types.items }
+    ensures { OnOk result (DrawsRow (table_of nodes.now) n row.new.items) }
+{
+    row.clear();
+    if nodes.forwards[n as usize] == n {
+        draw_arcs(row, nodes, n)?;
+    }
+    Ok(())
+}
+
+// The place of the next arc, where a u32 holds it.
+fn place(arcs: &Vec<GraphArc>) -> Result<u32, NoMemory>
+    ensures { IfOk result (λ n. n ≡ length arcs.now.items) }
+{
+    u32::try_from(arcs.len()).map_err(|_| NoMemory)
+}
+
+// The rows of all nodes, one after another. Each row's arcs end where those of the next begin.
+fn draw_rows(
+    alloc: Global,
+    nodes: &Nodes,
+    starts: &mut Vec<u32>,
+    arcs: &mut Vec<GraphArc>,
+) -> Result<(), NoMemory>
+    requires whole { IsWhole nodes.now }
+    requires starts { starts.old.items ≡ 0 ∷ [] }
+    requires arcs { arcs.old.items ≡ [] }
+    ensures { OnOk result (DrawsRows (table_of nodes.now) (length nodes.now.types.items) starts.new.items arcs.new.items) }
+{
+    let mut row = Vec::new(alloc);
+    for n in 0..nodes.types.len() as u32 {
+        draw_row(&mut row, nodes, n)?;
+        arcs.extend_from_slice(&row)?;
+        starts.push(place(arcs)?)?;
+    }
+    Ok(())
+}
+
+// The types of all nodes.
+fn draw_types(alloc: Global, nodes: &Nodes) -> Result<Vec<Ty>, NoMemory>
+    ensures { IfOk result (λ types. map (λ t. t.0) types.items ≡ nodes.now.types.items) }
+{
+    let mut types = Vec::with_capacity(alloc, nodes.types.len())?;
+    for ty in &nodes.types {
+        types.push(Ty(*ty))?;
+    }
+    Ok(types)
+}
+
+/// What closed nodes answer, where no path is longer than the limit: their graph.
+pub fn answer(alloc: Global, nodes: &Nodes) -> Result<Option<Graph>, NoMemory>
+    requires whole { IsWhole nodes.now }
+    requires filled { 0 < length nodes.now.types.items }
+    ensures answers { IfOk result (λ o. (limit : ℕ) → BoundsPaths (table_of nodes.now) limit true → Answers (deep_of nodes.now) limit (option_map reader_of o)) }
+    ensures inside { IfOk result (λ o. IfSome o (λ g. (types feats : ℕ) → IsWithin types feats nodes.now → IsGraphIn types feats g)) }
+{
+    let types = draw_types(alloc, nodes)?;
+    let mut starts = vec![in alloc; 0u32]?;
+    let mut arcs = Vec::new(alloc);
+    draw_rows(alloc, nodes, &mut starts, &mut arcs)?;
+    match ordered(alloc, &types, &starts, &arcs) {
+        Ok(graph) => {
+            let _ = graph.nodes();
+            Ok(Some(graph))
+        }
+        Err(Clash::Cycle { node: _ }) => Ok(None),
+        Err(Clash::NoMemory) => Err(NoMemory),
+    }
+}

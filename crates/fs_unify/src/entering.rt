@@ -1,0 +1,154 @@
+//! Graphs that enter as nodes.
+
+ghost use Rattle.std.specs.Prelude.{◌≡◌, ◌≢◌, ℕ, true, ◌+◌, ◌<◌, ◌≤◌, ◌^◌, length, None, IfOk, OnOk, All, slice_index_or};
+ghost use Rattle.fs_model.specs.Claims.{Has, IsBare};
+ghost use Rattle.fs_graph.specs.GraphMap.{Rises, reader_of};
+ghost use Rattle.fs_graph.specs.declared.graph.GraphArc.{GraphArc};
+ghost use Rattle.fs_closing.specs.NodeTable.{table_of, IsWhole, IsWithin};
+ghost use Rattle.fs_unify.specs.Entering.{AddsNodes, AddsRow, AddsRows, AreFlat, IsGraphIn, IsWellFormed, EntersTable, Owes, IsOwed, introducer_claims};
+ghost use Rattle.type_hierarchy.specs.Table.{count_of};
+ghost use Rattle.fs_closing.specs.Rules.{system_of};
+ghost use Rattle.fs_closing.specs.Joined.{IsJoined};
+ghost use Rattle.fs_closing.specs.Work.{work_of, AreReady};
+ghost use Rattle.fs_closing.specs.Keeps.{AreSound};
+
+use fs_closing::fault::NoMemory;
+use fs_closing::nodes::{Nodes, add_arc, add_node};
+use fs_closing::steps::push_rules;
+use fs_closing::system::TypeSystem;
+use fs_closing::tasks::Tasks;
+use fs_graph::{Graph, GraphArc, Node};
+
+/// Adds a graph's nodes, without their arcs.
+pub fn add_nodes(nodes: &mut Nodes, graph: &Graph) -> Result<(), NoMemory>
+    requires { IsWhole nodes.old }
+    ensures adds { OnOk result (AddsNodes graph.now (length graph.now.types) (table_of nodes.old) (table_of nodes.new)) }
+    ensures flat { OnOk result (AreFlat nodes.old.depths.items → AreFlat nodes.new.depths.items) }
+    ensures whole { OnOk result (IsWhole nodes.new) }
+    ensures within { OnOk result ((types feats : ℕ) → All (λ t. t < types) graph.now.types → IsWithin types feats nodes.old → IsWithin types feats nodes.new) }
+{
+    for k in 0..graph.nodes() {
+        add_node(nodes, graph.ty(Node(k)).0, 0)?;
+    }
+    Ok(())
+}
+
+/// Gives a node the arcs of a graph's node, whose nodes begin at an offset.
+pub fn add_row(nodes: &mut Nodes, offset: u32, n: u32, arcs: &[GraphArc]) -> Result<(), NoMemory>
+    requires whole { IsWhole nodes.old }
+    requires node { n < length nodes.old.types.items }
+    requires rises { Rises arcs.now }
+    requires targets { (a : GraphArc) → Has a arcs.now → offset + a.to.0 < length nodes.old.types.items }
+    requires empty { (f : ℕ) → (table_of nodes.old).arc n f ≡ None }
+    ensures row { OnOk result (AddsRow offset n arcs.now (table_of nodes.old) (table_of nodes.new)) }
+    ensures depths { OnOk result (nodes.new.depths.items ≡ nodes.old.depths.items) }
+    ensures whole { OnOk result (IsWhole nodes.new) }
+    ensures within { OnOk result ((types feats : ℕ) → ((a : GraphArc) → Has a arcs.now → a.feat.0 < feats) → IsWithin types feats nodes.old → IsWithin types feats nodes.new) }
+{
+    for arc in arcs {
+        add_arc(nodes, n, arc.feat.0, offset + arc.to.0)?;
+    }
+    Ok(())
+}
+
+/// Gives the nodes from an offset on the arcs of a graph's nodes.
+pub fn add_rows(nodes: &mut Nodes, graph: &Graph, offset: u32) -> Result<(), NoMemory>
+    requires whole { IsWhole nodes.old }
+    requires room { offset + length graph.now.types ≤ length nodes.old.types.items }
+    requires empty { (k f : ℕ) → k < length graph.now.types → (table_of nodes.old).arc (offset + k) f ≡ None }
+    ensures rows { OnOk result (AddsRows graph.now offset (length graph.now.types) (table_of nodes.old) (table_of nodes.new)) }
+    ensures depths { OnOk result (nodes.new.depths.items ≡ nodes.old.depths.items) }
+    ensures whole { OnOk result (IsWhole nodes.new) }
+    ensures within { OnOk result ((types feats : ℕ) → IsGraphIn types feats graph.now → IsWithin types feats nodes.old → IsWithin types feats nodes.new) }
+{
+    for k in 0..graph.nodes() {
+        add_row(nodes, offset, offset + k, graph.arcs(Node(k)))?;
+    }
+    Ok(())
+}
+
+// Puts a node at or below the introducers of its arcs.
+fn push_introducers(
+    tasks: &mut Tasks,
+    system: &TypeSystem,
+    node: u32,
+    arcs: &[GraphArc],
+) -> Result<(), NoMemory>
+    requires { (a : GraphArc) → Has a arcs.now → a.feat.0 < length system.now.introducers }
+    ensures work { OnOk result (IsJoined (introducer_claims (system_of system.now) node arcs.now) (work_of system.now.rules tasks.old) (work_of system.now.rules tasks.new)) }
+    ensures ready { OnOk result ((size rules : ℕ) → node < size → AreReady size (count_of system.now.types) rules tasks.old → AreReady size (count_of system.now.types) rules tasks.new) }
+{
+    for arc in arcs {
+        tasks.push_bound(node, system.introducer(arc.feat.0))?;
+    }
+    Ok(())
+}
+
+/// What the types and arcs of a graph's nodes force becomes work. The nodes begin at an offset.
+pub fn push_nodes(
+    tasks: &mut Tasks,
+    system: &TypeSystem,
+    graph: &Graph,
+    offset: u32,
+) -> Result<(), NoMemory>
+    requires bare { IsBare (system_of system.now) }
+    requires graph { IsGraphIn (count_of system.now.types) (length system.now.introducers) graph.now }
+    requires small { offset + length graph.now.types < 2 ^ 32 }
+    ensures owes { OnOk result (Owes (system_of system.now) offset graph.now (length graph.now.types) (work_of system.now.rules tasks.old) (work_of system.now.rules tasks.new)) }
+    ensures ready { OnOk result ((size : ℕ) → offset + length graph.now.types ≤ size → AreReady size (count_of system.now.types) (length system.now.rules) tasks.old → AreReady size (count_of system.now.types) (length system.now.rules) tasks.new) }
+{
+    let _ = system.path_limit();
+    for k in 0..graph.nodes() {
+        let node = Node(k);
+        push_rules(tasks, system, offset + k, graph.ty(node).0, 0)?;
+        push_introducers(tasks, system, offset + k, graph.arcs(node))?;
+    }
+    Ok(())
+}
+
+// What a graph's nodes force becomes work, unless the graph is known to be well-formed. The nodes begin at an offset.
+fn push_forced(
+    tasks: &mut Tasks,
+    system: &TypeSystem,
+    graph: &Graph,
+    offset: u32,
+    closed: bool,
+) -> Result<(), NoMemory>
+    requires bare { IsBare (system_of system.now) }
+    requires graph { IsGraphIn (count_of system.now.types) (length system.now.introducers) graph.now }
+    requires small { offset + length graph.now.types < 2 ^ 32 }
+    requires closed { closed ≡ true → IsWellFormed (system_of system.now) (reader_of graph.now) }
+    ensures owed { OnOk result (IsOwed (system_of system.now) offset graph.now (work_of system.now.rules tasks.old) (work_of system.now.rules tasks.new)) }
+    ensures ready { OnOk result ((size : ℕ) → offset + length graph.now.types ≤ size → AreReady size (count_of system.now.types) (length system.now.rules) tasks.old → AreReady size (count_of system.now.types) (length system.now.rules) tasks.new) }
+{
+    if closed {
+        return Ok(());
+    }
+    push_nodes(tasks, system, graph, offset)?;
+    Ok(())
+}
+
+/// A graph enters: its nodes, and what their types and arcs force. The answer is the number of its root.
+pub fn enter(
+    nodes: &mut Nodes,
+    tasks: &mut Tasks,
+    system: &TypeSystem,
+    graph: &Graph,
+    closed: bool,
+) -> Result<u32, NoMemory>
+    requires bare { IsBare (system_of system.now) }
+    requires sound { AreSound system.now nodes.old tasks.old }
+    requires graph { IsGraphIn (count_of system.now.types) (length system.now.introducers) graph.now }
+    requires closed { closed ≡ true → IsWellFormed (system_of system.now) (reader_of graph.now) }
+    ensures place { IfOk result (λ o. o ≡ length nodes.old.types.items) }
+    ensures enters { OnOk result (EntersTable graph.now (table_of nodes.old) (table_of nodes.new)) }
+    ensures owed { OnOk result (IsOwed (system_of system.now) (length nodes.old.types.items) graph.now (work_of system.now.rules tasks.old) (work_of system.now.rules tasks.new)) }
+    ensures flat { OnOk result (AreFlat nodes.old.depths.items → AreFlat nodes.new.depths.items) }
+    ensures sound { OnOk result (AreSound system.now nodes.new tasks.new) }
+{
+    let offset = nodes.types.len() as u32;
+    add_nodes(nodes, graph)?;
+    add_rows(nodes, graph, offset)?;
+    push_forced(tasks, system, graph, offset, closed)?;
+    Ok(offset)
+}

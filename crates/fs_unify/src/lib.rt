@@ -1,0 +1,15 @@
+//! Unification of typed feature structures (Copestake 2002).
+#![tactic(auto)]
+
+pub mod draw;
+pub mod entering;
+pub mod parts;
+pub mod scratch;
+pub mod structure;
+pub mod unifier;
+
+pub use fs_closing::{NoMemory, TypeFacts, TypeSystem};
+pub use parts::Parts;
+pub use scratch::Scratch;
+pub use structure::structure_of;
+pub use unifier::{unifies, unify};

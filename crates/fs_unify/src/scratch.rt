@@ -1,0 +1,52 @@
+//! Room for closings.
+
+ghost use Rattle.std.specs.Prelude.{◌≡◌, ◌≤◌, length, OnOk, OnErr};
+ghost use Rattle.std.specs.Borrow.{sem};
+ghost use Rattle.fs_unify.specs.Room.{room_of, LendsMarks};
+
+use fs_closing::fault::NoMemory;
+use fs_closing::nodes::Nodes;
+use fs_closing::tasks::Tasks;
+use std::alloc::Global;
+
+/// Room in which nodes are closed. A call empties it and keeps its memory; no answer depends on what it holds. It has spare
+/// room for a number of nodes, a mark for each.
+#[derive(Debug, Drop)]
+pub struct Scratch {
+    pub(crate) nodes: Nodes,
+    pub(crate) tasks: Tasks,
+    pub(crate) marks: Vec<u32>,
+}
+
+impl Scratch {
+    /// No spare room, and no memory. The scratch grows as it is needed.
+    pub fn new(alloc: Global) -> Scratch
+        ensures { room_of result ≡ 0 }
+    {
+        Scratch {
+            nodes: Nodes::new(alloc),
+            tasks: Tasks::new(alloc),
+            marks: Vec::new(alloc),
+        }
+    }
+
+    /// Makes spare room for so many nodes at least. `NoMemory` comes only for want of memory; the room is as before then.
+    pub fn reserve(&mut self, nodes: u32) -> Result<(), NoMemory>
+        ensures room { OnOk result (nodes ≤ room_of self.new) }
+        ensures kept { room_of self.old ≤ room_of self.new }
+        ensures err { OnErr result (room_of self.new ≡ room_of self.old) }
+    {
+        if self.marks.len() < nodes as usize {
+            self.marks.resize(nodes as usize, 0)?;
+        }
+        Ok(())
+    }
+
+    /// Lends the marks, one for each node that there is spare room for. What they hold is what earlier calls left in them.
+    pub fn marks(&mut self) -> &mut [u32]
+        ensures* lends { sem 𝓛 (LendsMarks self.entry result) }
+        ensures size { length result.now ≡ room_of self.old }
+    {
+        &mut self.marks
+    }
+}

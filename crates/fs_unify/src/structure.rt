@@ -1,0 +1,173 @@
+//! The structure of facts.
+
+ghost use Rattle.std.specs.Prelude.{◌≡◌, ℕ, ◌<◌, ◌≤◌, length, map, [], ◌++◌, IfOk, IfSome, option_map};
+ghost use Rattle.type_hierarchy.specs.Table.{count_of};
+ghost use Rattle.fs_model.specs.Claims.{Claim, IsBare, IsOrder, Has};
+ghost use Rattle.fs_model.specs.Sources.{IsUnified};
+ghost use Rattle.fs_model.specs.Table.{from};
+ghost use Rattle.fs_paths.specs.Facts.{claims_of};
+ghost use Rattle.fs_graph.specs.GraphMap.{reader_of};
+ghost use Rattle.fs_closing.specs.Rules.{system_of, IsClaimIn};
+ghost use Rattle.fs_closing.specs.NodeTable.{IsWhole, IsWithin};
+ghost use Rattle.fs_closing.specs.Work.{work_of, AreReady};
+ghost use Rattle.fs_closing.specs.Keeps.{AreSound, StepsTo};
+ghost use Rattle.fs_unify.specs.Entering.{IsGraphIn};
+ghost use Rattle.fs_unify.specs.Placing.{IsAnswerIn};
+ghost use Rattle.fs_unify.specs.Given.{facts_source, StandsForSome, Gathers, Decides, Settles};
+ghost use Rattle.fs_unify.specs.Room.{room_of};
+
+use crate::draw::answer;
+use crate::scratch::Scratch;
+use fs_closing::closing::{apply, close};
+use fs_closing::fault::NoMemory;
+use fs_closing::levels::is_within;
+use fs_closing::nodes::{Nodes, add_node};
+use fs_closing::system::TypeSystem;
+use fs_closing::tasks::Tasks;
+use fs_graph::Graph;
+use fs_paths::Fact;
+use std::alloc::Global;
+
+// Puts facts at the root.
+fn apply_all(
+    nodes: &mut Nodes,
+    tasks: &mut Tasks,
+    system: &TypeSystem,
+    facts: &[Fact],
+) -> Result<bool, NoMemory>
+    requires bare { IsBare (system_of system.now) }
+    requires sound { AreSound system.now nodes.old tasks.old }
+    requires filled { 0 < length nodes.old.types.items }
+    requires facts { (c : Claim) → Has c (claims_of facts.now) → IsClaimIn (count_of system.now.types) (length system.now.introducers) c }
+    ensures { IfOk result (StepsTo system.now nodes.old (map (from 0) (claims_of facts.now) ++ work_of system.now.rules tasks.old) nodes.new tasks.new) }
+{
+    for fact in facts {
+        match apply(nodes, tasks, system, 0, fact)? {
+            true => {}
+            false => return Ok(false),
+        }
+    }
+    Ok(true)
+}
+
+// Facts are put at the root, from no nodes on. The answer is false where a path gets too long.
+fn gather_facts(
+    nodes: &mut Nodes,
+    tasks: &mut Tasks,
+    system: &TypeSystem,
+    facts: &[Fact],
+) -> Result<bool, NoMemory>
+    requires bare { IsBare (system_of system.now) }
+    requires whole { IsWhole nodes.old }
+    requires no_nodes { nodes.old.types.items ≡ [] }
+    requires no_depths { nodes.old.depths.items ≡ [] }
+    requires within { (types feats : ℕ) → IsWithin types feats nodes.old }
+    requires no_work { work_of system.now.rules tasks.old ≡ [] }
+    requires ready { (size types rules : ℕ) → AreReady size types rules tasks.old }
+    requires some { 0 < length facts.now }
+    requires facts { (c : Claim) → Has c (claims_of facts.now) → IsClaimIn (count_of system.now.types) (length system.now.introducers) c }
+    ensures { IfOk result (Gathers system.now (facts_source (claims_of facts.now)) nodes.new tasks.new) }
+{
+    let _ = system.path_limit();
+    add_node(nodes, 0, 0)?;
+    let applied = apply_all(nodes, tasks, system, facts)?;
+    Ok(applied)
+}
+
+/// Closes nodes with their tasks. The answer is true exactly where what they stand for is consistent.
+pub fn close_within(
+    alloc: Global,
+    nodes: &mut Nodes,
+    tasks: &mut Tasks,
+    system: &TypeSystem,
+) -> Result<bool, NoMemory>
+    requires order { IsOrder (system_of system.now) }
+    requires bare { IsBare (system_of system.now) }
+    requires sound { AreSound system.now nodes.old tasks.old }
+    requires stands { StandsForSome system.now nodes.old tasks.old }
+    ensures { IfOk result (Decides system.now nodes.old tasks.old nodes.new) }
+{
+    let limit = system.path_limit();
+    let closed = close(nodes, tasks, system)?;
+    if closed {
+        let within = is_within(alloc, nodes, limit)?;
+        return Ok(within);
+    }
+    Ok(false)
+}
+
+/// Closes nodes with their tasks, and gives the graph of their root, or `None` exactly where what they stand for is
+/// inconsistent.
+pub fn settle(
+    alloc: Global,
+    nodes: &mut Nodes,
+    tasks: &mut Tasks,
+    system: &TypeSystem,
+) -> Result<Option<Graph>, NoMemory>
+    requires order { IsOrder (system_of system.now) }
+    requires bare { IsBare (system_of system.now) }
+    requires sound { AreSound system.now nodes.old tasks.old }
+    requires stands { StandsForSome system.now nodes.old tasks.old }
+    ensures answer { IfOk result (λ o. Settles system.now nodes.old tasks.old (option_map reader_of o)) }
+    ensures inside { IfOk result (λ o. IfSome o (IsGraphIn (count_of system.now.types) (length system.now.introducers))) }
+{
+    let consistent = close_within(alloc, nodes, tasks, system)?;
+    if consistent {
+        let graph = answer(alloc, nodes)?;
+        return Ok(graph);
+    }
+    Ok(None)
+}
+
+// The structure of facts, from no nodes on.
+fn structure(
+    alloc: Global,
+    nodes: &mut Nodes,
+    tasks: &mut Tasks,
+    system: &TypeSystem,
+    facts: &[Fact],
+) -> Result<Option<Graph>, NoMemory>
+    requires order { IsOrder (system_of system.now) }
+    requires bare { IsBare (system_of system.now) }
+    requires whole { IsWhole nodes.old }
+    requires no_nodes { nodes.old.types.items ≡ [] }
+    requires no_depths { nodes.old.depths.items ≡ [] }
+    requires within { (types feats : ℕ) → IsWithin types feats nodes.old }
+    requires no_work { work_of system.now.rules tasks.old ≡ [] }
+    requires ready { (size types rules : ℕ) → AreReady size types rules tasks.old }
+    requires some { 0 < length facts.now }
+    requires facts { (c : Claim) → Has c (claims_of facts.now) → IsClaimIn (count_of system.now.types) (length system.now.introducers) c }
+    ensures answer { IfOk result (λ o. IsUnified (system_of system.now) (facts_source (claims_of facts.now)) (option_map reader_of o)) }
+    ensures known { IfOk result (λ o. IfSome o (IsAnswerIn system.now)) }
+{
+    let gathered = gather_facts(nodes, tasks, system, facts)?;
+    if gathered {
+        let graph = settle(alloc, nodes, tasks, system)?;
+        return Ok(graph);
+    }
+    Ok(None)
+}
+
+/// The structure of facts: that of the closure of the facts, with the facts of all types that it comes below, or `None` exactly
+/// where this closure is inconsistent (Copestake 2002: well-formed typed feature structures). There is one fact at least.
+/// Whatever the scratch holds, the answer is the same. `NoMemory` comes only for want of memory, or of numbers for nodes,
+/// arcs and turns.
+pub fn structure_of(
+    alloc: Global,
+    scratch: &mut Scratch,
+    system: &TypeSystem,
+    facts: &[Fact],
+) -> Result<Option<Graph>, NoMemory>
+    requires bare { IsBare (system_of system.now) }
+    requires some { 0 < length facts.now }
+    requires facts { (c : Claim) → Has c (claims_of facts.now) → IsClaimIn (count_of system.now.types) (length system.now.introducers) c }
+    ensures room { room_of scratch.old ≤ room_of scratch.new }
+    ensures answer { IfOk result (λ o. IsUnified (system_of system.now) (facts_source (claims_of facts.now)) (option_map reader_of o)) }
+    ensures known { IfOk result (λ o. IfSome o (IsAnswerIn system.now)) }
+{
+    scratch.nodes.clear();
+    scratch.tasks.clear();
+    let types = system.types();
+    types.laws();
+    structure(alloc, &mut scratch.nodes, &mut scratch.tasks, system, facts)
+}

@@ -1,0 +1,219 @@
+//! Unification of graphs.
+
+ghost use Rattle.std.specs.Prelude.{◌≡◌, ◌↔◌, ℕ, ◌<◌, ◌≤◌, length, map, [], ◌++◌, IfOk, IfSome, IsTrue, OnOk, option_map};
+ghost use Rattle.fs_model.specs.Claims.{IsBare, IsOrder, Has};
+ghost use Rattle.fs_model.specs.Closure.{IsConsistent};
+ghost use Rattle.fs_model.specs.Sources.{Told, IsUnified};
+ghost use Rattle.fs_graph.specs.GraphMap.{reader_of};
+ghost use Rattle.fs_unify.specs.declared.parts.Placed.{Placed};
+ghost use Rattle.fs_closing.specs.Rules.{system_of};
+ghost use Rattle.fs_closing.specs.NodeTable.{IsWhole, IsWithin};
+ghost use Rattle.fs_closing.specs.Work.{work_of, AreReady};
+ghost use Rattle.fs_closing.specs.Keeps.{AreSound, StepsTo};
+ghost use Rattle.fs_unify.specs.Given.{Gathers};
+ghost use Rattle.fs_unify.specs.Placing.{PlacedGraph, placed, part_in, source_of, source_in, joints, HasEntered, IsPlacedIn, IsAnswerIn};
+ghost use Rattle.fs_unify.specs.Room.{room_of};
+
+use crate::entering::enter;
+use crate::parts::{Parts, Placed};
+use crate::scratch::Scratch;
+use crate::structure::{close_within, settle};
+use fs_closing::closing::reach;
+use fs_closing::fault::NoMemory;
+use fs_closing::nodes::{Nodes, add_node};
+use fs_closing::system::TypeSystem;
+use fs_closing::tasks::Tasks;
+use fs_graph::Graph;
+use std::alloc::Global;
+
+// All graphs enter; `offsets` gets the numbers of their roots.
+fn enter_all(
+    nodes: &mut Nodes,
+    tasks: &mut Tasks,
+    system: &TypeSystem,
+    parts: &[Placed<'_>],
+    offsets: &mut Vec<u32>,
+) -> Result<(), NoMemory>
+    requires bare { IsBare (system_of system.now) }
+    requires sound { AreSound system.now nodes.old tasks.old }
+    requires parts { (p : Placed) → Has p parts.now → IsPlacedIn system.now (placed p) }
+    requires begun { HasEntered system.now parts.now [] offsets.old.items nodes.old tasks.old }
+    ensures entered { OnOk result (HasEntered system.now parts.now parts.now offsets.new.items nodes.new tasks.new) }
+    ensures sound { OnOk result (AreSound system.now nodes.new tasks.new) }
+{
+    for part in parts {
+        let _ = part.graph.nodes();
+        let offset = enter(nodes, tasks, system, part.graph, part.closed)?;
+        offsets.push(offset)?;
+    }
+    Ok(())
+}
+
+// Each graph's root is put at its path.
+fn connect(
+    nodes: &mut Nodes,
+    tasks: &mut Tasks,
+    system: &TypeSystem,
+    parts: &[Placed<'_>],
+    offsets: &[u32],
+) -> Result<bool, NoMemory>
+    requires bare { IsBare (system_of system.now) }
+    requires sound { AreSound system.now nodes.old tasks.old }
+    requires filled { 0 < length nodes.old.types.items }
+    requires parts { (p : Placed) → Has p parts.now → IsPlacedIn system.now (placed p) }
+    requires even { length offsets.now ≡ length parts.now }
+    requires offsets { (o : ℕ) → Has o offsets.now → o < length nodes.old.types.items }
+    ensures { IfOk result (StepsTo system.now nodes.old (joints (map part_in parts.now) offsets.now ++ work_of system.now.rules tasks.old) nodes.new tasks.new) }
+{
+    for i in 0..parts.len() {
+        match reach(nodes, tasks, system, 0, &parts[i].place)? {
+            Some(end) => tasks.push_pair(end, offsets[i])?,
+            None => return Ok(false),
+        }
+    }
+    Ok(true)
+}
+
+// All graphs enter, from no nodes on, and each is put at its path. The answer is false where a path gets too long.
+fn gather(
+    alloc: Global,
+    nodes: &mut Nodes,
+    tasks: &mut Tasks,
+    system: &TypeSystem,
+    parts: &[Placed<'_>],
+) -> Result<bool, NoMemory>
+    requires bare { IsBare (system_of system.now) }
+    requires whole { IsWhole nodes.old }
+    requires no_nodes { nodes.old.types.items ≡ [] }
+    requires no_depths { nodes.old.depths.items ≡ [] }
+    requires within { (types feats : ℕ) → IsWithin types feats nodes.old }
+    requires no_work { work_of system.now.rules tasks.old ≡ [] }
+    requires ready { (size types rules : ℕ) → AreReady size types rules tasks.old }
+    requires some { 0 < length parts.now }
+    requires parts { (p : Placed) → Has p parts.now → IsPlacedIn system.now (placed p) }
+    ensures { IfOk result (Gathers system.now (source_in parts.now) nodes.new tasks.new) }
+{
+    let _ = system.path_limit();
+    let first = &parts[0];
+    let _ = first.graph.nodes();
+    add_node(nodes, 0, 0)?;
+    let mut offsets = Vec::new(alloc);
+    enter_all(nodes, tasks, system, parts, &mut offsets)?;
+    let connected = connect(nodes, tasks, system, parts, &offsets)?;
+    Ok(connected)
+}
+
+// The unification of graphs, from no nodes on.
+fn unified(
+    alloc: Global,
+    nodes: &mut Nodes,
+    tasks: &mut Tasks,
+    system: &TypeSystem,
+    parts: &[Placed<'_>],
+) -> Result<Option<Graph>, NoMemory>
+    requires order { IsOrder (system_of system.now) }
+    requires bare { IsBare (system_of system.now) }
+    requires whole { IsWhole nodes.old }
+    requires no_nodes { nodes.old.types.items ≡ [] }
+    requires no_depths { nodes.old.depths.items ≡ [] }
+    requires within { (types feats : ℕ) → IsWithin types feats nodes.old }
+    requires no_work { work_of system.now.rules tasks.old ≡ [] }
+    requires ready { (size types rules : ℕ) → AreReady size types rules tasks.old }
+    requires some { 0 < length parts.now }
+    requires parts { (p : Placed) → Has p parts.now → IsPlacedIn system.now (placed p) }
+    ensures answer { IfOk result (λ o. IsUnified (system_of system.now) (source_in parts.now) (option_map reader_of o)) }
+    ensures known { IfOk result (λ o. IfSome o (IsAnswerIn system.now)) }
+{
+    let gathered = gather(alloc, nodes, tasks, system, parts)?;
+    if gathered {
+        let graph = settle(alloc, nodes, tasks, system)?;
+        return Ok(graph);
+    }
+    Ok(None)
+}
+
+// Whether graphs unify, from no nodes on.
+fn consistent(
+    alloc: Global,
+    nodes: &mut Nodes,
+    tasks: &mut Tasks,
+    system: &TypeSystem,
+    parts: &[Placed<'_>],
+) -> Result<bool, NoMemory>
+    requires order { IsOrder (system_of system.now) }
+    requires bare { IsBare (system_of system.now) }
+    requires whole { IsWhole nodes.old }
+    requires no_nodes { nodes.old.types.items ≡ [] }
+    requires no_depths { nodes.old.depths.items ≡ [] }
+    requires within { (types feats : ℕ) → IsWithin types feats nodes.old }
+    requires no_work { work_of system.now.rules tasks.old ≡ [] }
+    requires ready { (size types rules : ℕ) → AreReady size types rules tasks.old }
+    requires some { 0 < length parts.now }
+    requires parts { (p : Placed) → Has p parts.now → IsPlacedIn system.now (placed p) }
+    ensures { IfOk result (λ b. IsTrue b ↔ IsConsistent (system_of system.now) (Told (source_in parts.now))) }
+{
+    let gathered = gather(alloc, nodes, tasks, system, parts)?;
+    if gathered {
+        let consistent = close_within(alloc, nodes, tasks, system)?;
+        return Ok(consistent);
+    }
+    Ok(false)
+}
+
+/// The unification of graphs, each at its path: the structure of the closure of all that they tell, or `None` exactly where
+/// that is inconsistent (Copestake 2002: unification of well-formed typed feature structures). There is one graph at least.
+/// Whatever the scratch holds, the answer is the same. `NoMemory` comes only for want of memory, or of numbers for nodes,
+/// arcs and turns.
+pub fn unify(
+    alloc: Global,
+    scratch: &mut Scratch,
+    system: &TypeSystem,
+    parts: &Parts<'_>,
+) -> Result<Option<Graph>, NoMemory>
+    requires bare { IsBare (system_of system.now) }
+    requires some { 0 < length parts.now }
+    requires parts { (p : PlacedGraph) → Has p parts.now → IsPlacedIn system.now p }
+    ensures room { room_of scratch.old ≤ room_of scratch.new }
+    ensures answer { IfOk result (λ o. IsUnified (system_of system.now) (source_of parts.now) (option_map reader_of o)) }
+    ensures known { IfOk result (λ o. IfSome o (IsAnswerIn system.now)) }
+{
+    scratch.nodes.clear();
+    scratch.tasks.clear();
+    let types = system.types();
+    types.laws();
+    unified(
+        alloc,
+        &mut scratch.nodes,
+        &mut scratch.tasks,
+        system,
+        &parts.items,
+    )
+}
+
+/// Whether graphs unify, each at its path: true exactly where the closure of all that they tell is consistent. There is one
+/// graph at least. Whatever the scratch holds, the answer is the same. No graph is made. `NoMemory` comes only for want of
+/// memory, or of numbers for nodes, arcs and turns.
+pub fn unifies(
+    alloc: Global,
+    scratch: &mut Scratch,
+    system: &TypeSystem,
+    parts: &Parts<'_>,
+) -> Result<bool, NoMemory>
+    requires bare { IsBare (system_of system.now) }
+    requires some { 0 < length parts.now }
+    requires parts { (p : PlacedGraph) → Has p parts.now → IsPlacedIn system.now p }
+    ensures room { room_of scratch.old ≤ room_of scratch.new }
+    ensures answer { IfOk result (λ b. IsTrue b ↔ IsConsistent (system_of system.now) (Told (source_of parts.now))) }
+{
+    scratch.nodes.clear();
+    scratch.tasks.clear();
+    let types = system.types();
+    types.laws();
+    consistent(
+        alloc,
+        &mut scratch.nodes,
+        &mut scratch.tasks,
+        system,
+        &parts.items,
+    )
+}
