@@ -1,1 +1,15 @@
 pub mod Placings
+pub mod Statements
+pub mod Texts
+pub mod Conditions
+pub mod Features
+pub mod Introducers
+pub mod Introduced
+pub mod Systems
+pub mod Unknowns
+pub mod Books
+pub mod Faults
+pub mod Kinds
+pub mod Notes
+pub mod Found
+pub mod Shaped

@@ -1,6 +1,25 @@
-//! The statements of a grammar with the environments in which they stand.
+//! Constraints of types and structures of instances, from the statements of a grammar (Copestake 2002; DELPH-IN TDL).
 #![tactic(auto)]
 
+mod books;
+mod expansion;
+mod fault;
+mod features;
+mod introducers;
+mod missing;
+mod notes;
+mod numbers;
+mod rules;
+mod splits;
+mod statements;
+mod structures;
+mod unknown;
+mod writers;
+
+pub use body_facts::Names;
+pub use books::{Book, BookNames, Instance};
+pub use expansion::expand;
+pub use fault::ExpandFault;
 use tdl_reader::{Statement, Status};
 
 /// A definition or an addendum of a grammar (DELPH-IN TDL): the statement, what its environment makes of it, and

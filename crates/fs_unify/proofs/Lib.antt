@@ -6,3 +6,4 @@ pub mod EnterLemmas
 pub mod InsideLemmas
 pub mod PartModel
 pub mod PlaceLemmas
+pub mod SampleLemmas

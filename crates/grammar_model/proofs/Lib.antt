@@ -16,3 +16,6 @@ pub mod SettleFaults
 pub mod SettlePlaces
 pub mod SettleTables
 pub mod SettleOne
+pub mod ExpandLists
+pub mod ExpandTypes
+pub mod ExpandFits

@@ -27,14 +27,14 @@ found_at {X = X} q (x ∷ xs) (suc k) d h e = go (bools (q x)) (found_at q xs k 
     go (inr f) r = (r.0, ap (λ b. cond b (Some x) (find q xs)) f ∙ r.1)
 
 -- the place among all of the one at a place among those that pass a test
-record Stands {X : Type 0} (f : X → Bool) (xs kept : List X) (k : ℕ) (d : X) : Type 0 where
+pub record Stands {X : Type 0} (f : X → Bool) (xs kept : List X) (k : ℕ) (d : X) : Type 0 where
   pub place : ℕ
   pub inside : place < length xs
   pub passes : f (get_or xs place d) ≡ true
   pub same : get_or kept k d ≡ get_or xs place d
   pub before : take k kept ≡ filter f (take place xs)
 
-stands_at : {X : Type 0} (f : X → Bool) (xs : List X) (k : ℕ) (d : X) → k < length (filter f xs) → Stands f xs (filter f xs) k d
+pub stands_at : {X : Type 0} (f : X → Bool) (xs : List X) (k : ℕ) (d : X) → k < length (filter f xs) → Stands f xs (filter f xs) k d
 stands_at f [] k d h = absurd (omega arith)
 stands_at {X = X} f (x ∷ xs) k d h = go k (f x) refl (λ j g. stands_at f xs j d g) h
   where
@@ -61,10 +61,10 @@ stands_at {X = X} f (x ∷ xs) k d h = go k (f x) refl (λ j g. stands_at f xs j
         }
 
 -- a declaration's place among the definitions of types
-within : (ps : List PlacedTree) (k : ℕ) → k < length (decls_in ps) → k < length (type_definitions ps)
+pub within : (ps : List PlacedTree) (k : ℕ) → k < length (decls_in ps) → k < length (type_definitions ps)
 within ps k h = omega (arith, h, length-map (type_definitions ps) (declared_in ps))
 
-name_at : (ps : List PlacedTree) (k : ℕ) → k < length (decls_in ps) → (at_place (decls_in ps) k).name ≡ name_written (get_or (type_definitions ps) k no_statement).statement
+pub name_at : (ps : List PlacedTree) (k : ℕ) → k < length (decls_in ps) → (at_place (decls_in ps) k).name ≡ name_written (get_or (type_definitions ps) k no_statement).statement
 name_at ps k h = ap (λ d. d.name) (get_or-map (declared_in ps) (type_definitions ps) k no_statement (bare []) (within ps k h))
 
 -- the name of a declaration is that of a definition

@@ -14,3 +14,4 @@ pub mod WalkViews
 pub mod BodyStrings
 pub mod Typings
 pub mod SettleViews
+pub mod Expanding

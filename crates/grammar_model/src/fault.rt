@@ -1,5 +1,6 @@
 //! Why a grammar isn't loaded.
 
+use constraint_expand::ExpandFault;
 use std::alloc::{AllocError, AllocFailed};
 use tdl_lexer::LexFault;
 use tdl_reader::ReadFault;
@@ -28,6 +29,8 @@ pub enum Why {
     Typing(TypeFault),
     /// The completed hierarchy has more than 65,535 types.
     TooManyTypes,
+    /// The statements have a fault of expansion.
+    Expand(ExpandFault),
     /// The daughters of a rule are no closed list of as many elements as it may have.
     Arity,
     /// The words of an entry are no closed list of strings with a word.

@@ -1,9 +1,12 @@
-//! Grammars: their settings, their files and their types.
+//! Grammars: their settings, their files, their types and their structures.
 #![tactic(auto)]
 
 mod build;
 mod declarations;
 mod environment;
+mod expanding;
+#[cfg(test)]
+mod expanding_tests;
 mod fault;
 pub mod file_names;
 mod forms;
@@ -20,6 +23,7 @@ mod strings;
 mod tests;
 mod walking;
 
+pub use expanding::expand_types;
 pub use fault::{LoadFault, NoMemory, Why};
 pub use forms::ValueForm;
 pub use settings::{Settings, SettingsFault, SortLine};

@@ -21,8 +21,8 @@ use std::alloc::Global;
 use tdl_reader::Statement;
 use type_hierarchy::{Decl, Hierarchy, MOST_TYPES, TypeFault, Types};
 
-// The name of a file by its number.
-fn file_name(walked: &Walked, file: usize) -> &str
+/// The name of a file by its number.
+pub(crate) fn file_name(walked: &Walked, file: usize) -> &str
     ensures { result.now ≡ file_name (walked_of walked.now) file }
 {
     match walked.files.get(file) {

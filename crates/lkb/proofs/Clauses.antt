@@ -8,7 +8,7 @@ use Rattle.lkb.specs.declared.lines.Stop.TheVariants.{Read, TooLong, TooMany, Wr
 use Rattle.lkb.specs.declared.faults.Fault.{Fault}
 use Rattle.lkb.specs.declared.faults.Fault.TheVariants.{Usage, File, Found, Stopped}
 use Rattle.lkb.specs.declared.faults.Status.TheVariants.{Done, Items, Usage as UsageStatus, Grammar as GrammarStatus, ReadFault, WriteFault, NoMemory as NoMemoryStatus}
-use Rattle.lkb.specs.Words.{Form, help, version, parse, types}
+use Rattle.lkb.specs.Words.{Form, help, version, parse, types, expand}
 use Rattle.lkb.specs.Readings.{ReadsAll}
 use Rattle.lkb.specs.Files.{Shelves}
 use Rattle.lkb.specs.Reports.{Streams}
@@ -75,6 +75,12 @@ ran-loadable h o unread idle (types name options) (Err TooLong) s = absurd s.0
 ran-loadable h o unread idle (types name options) (Err TooMany) s = absurd s.0
 ran-loadable h o unread idle (types name options) (Err Write) s = (s.0.0.report.0, s.0.0.report.1)
 ran-loadable h o unread idle (types name options) (Err NoMemory) s = (s.0.report.0, s.0.report.1)
+ran-loadable h o unread idle (expand name entry options) (Ok refused) s = (s.0.report.0, s.0.report.1)
+ran-loadable h o unread idle (expand name entry options) (Err Read) s = absurd s.0
+ran-loadable h o unread idle (expand name entry options) (Err TooLong) s = absurd s.0
+ran-loadable h o unread idle (expand name entry options) (Err TooMany) s = absurd s.0
+ran-loadable h o unread idle (expand name entry options) (Err Write) s = (s.0.0.report.0, s.0.0.report.1)
+ran-loadable h o unread idle (expand name entry options) (Err NoMemory) s = (s.0.report.0, s.0.report.1)
 
 pub no_grammar : (h : Shelves) (o : Streams) (unread idle untouched : Type 0) (form : Form) (end : Result Bool Fault) → Ended h o unread idle untouched (Some form) end → (IsLoadable h.files form → ⊥)
     → (status_of end ≡ GrammarStatus) ⊎ (status_of end ≡ NoMemoryStatus)
@@ -119,6 +125,7 @@ ran-flushed h o unread idle help refused s = s.0.flushed
 ran-flushed h o unread idle version refused s = s.0.flushed
 ran-flushed h o unread idle (parse name) refused s = s.flushed
 ran-flushed h o unread idle (types name options) refused s = s.0.flushed
+ran-flushed h o unread idle (expand name entry options) refused s = s.0.flushed
 
 pub items-refused : (refused : Bool) → is_items (status_of (Ok refused)) ≡ refused
 items-refused true = refl
@@ -136,6 +143,7 @@ ran-report h o unread idle (parse name) refused bytes s l =
     let reads = subst (λ left. ReadsAll left o.left_new s.lines) l s.reads in
     (s.pieces, subst (λ lines. IsReport h.files (parse name) lines s.pieces refused) reads.0 s.report, s.writes, reads.2)
 ran-report h o unread idle (types name options) refused bytes s l = (s.0.pieces, s.0.report, s.0.writes, tt)
+ran-report h o unread idle (expand name entry options) refused bytes s l = (s.0.pieces, s.0.report, s.0.writes, tt)
 
 -- The whole report was written where the run ended with `Done` or `Items`.
 pub whole : (h : Shelves) (o : Streams) (unread idle untouched : Type 0) (form : Option Form) (end : Result Bool Fault) (bytes before after : List ℕ) → Ended h o unread idle untouched form end
@@ -166,6 +174,9 @@ stops h o unread idle (parse name) TooMany s e = inr s
 stops h o unread idle (types name options) Read s e = absurd s.0
 stops h o unread idle (types name options) TooLong s e = absurd s.0
 stops h o unread idle (types name options) TooMany s e = absurd s.0
+stops h o unread idle (expand name entry options) Read s e = absurd s.0
+stops h o unread idle (expand name entry options) TooLong s e = absurd s.0
+stops h o unread idle (expand name entry options) TooMany s e = absurd s.0
 stops h o unread idle form Write s e = cc
 stops h o unread idle form NoMemory s e = cc
 
@@ -193,12 +204,14 @@ ran-write h o unread idle help s = s.0
 ran-write h o unread idle version s = s.0
 ran-write h o unread idle (parse name) s = s
 ran-write h o unread idle (types name options) s = s.0
+ran-write h o unread idle (expand name entry options) s = s.0
 
 ran-no_memory : (h : Shelves) (o : Streams) (unread idle : Type 0) (form : Form) → Ran h o unread idle form (Err NoMemory) → RanInPart h o form
 ran-no_memory h o unread idle help s = absurd s.0
 ran-no_memory h o unread idle version s = absurd s.0
 ran-no_memory h o unread idle (parse name) s = s
 ran-no_memory h o unread idle (types name options) s = s.0
+ran-no_memory h o unread idle (expand name entry options) s = s.0
 
 pub write-fault : (h : Shelves) (o : Streams) (unread idle untouched : Type 0) (form : Option Form) (end : Result Bool Fault) → Ended h o unread idle untouched form end → status_of end ≡ WriteFault
     → (f : Form) × (form ≡ Some f) × RanInPart h o f × HasRisen o.out_old o.out_new

@@ -12,15 +12,15 @@ use Rattle.lkb.specs.declared.faults.FileFault.{FileFault}
 use Rattle.lkb.specs.declared.faults.FileFault.TheVariants.{Shelf, TooLong as FileTooLong, NotBuilt}
 use Rattle.lkb.specs.declared.faults.Status.TheVariants.{ReadFault, NoMemory as NoMemoryStatus}
 use Rattle.grammar_model.specs.FileNames.{with_ending}
-use Rattle.lkb.specs.Words.{Form, help, version, parse, types}
+use Rattle.lkb.specs.Words.{Form, help, version, parse, types, expand}
 use Rattle.lkb.specs.Readings.{AreLines, AreShort, AreReadable, ReadsAll, ReadsPart, Reads}
 use Rattle.lkb.specs.Files.{Shelves, IsGrammarOf, FileFails}
 use Rattle.lkb.specs.Reports.{Streams, IsServed, IsServedTo, IsServedToLast}
-use Rattle.lkb.specs.Endings.{IsReport, Ran, IsLoadable, FormFails, Ended, IsWhole, status_of}
+use Rattle.lkb.specs.Endings.{IsReport, Ran, IsLoadable, IsFirstOf, FormFails, Ended, IsWhole, status_of}
 use Rattle.lkb.proofs.Readings.{cut-text}
 use Rattle.lkb.specs.Grammars.{fault_at}
 use Rattle.lkb.proofs.Clauses.{ran-report}
-use Rattle.lkb.proofs.GrammarLemmas.{Outcomes, no-types-fault}
+use Rattle.lkb.proofs.Outcomes.{Outcomes}
 
 -- whole lines, and then any text
 lines-front : (lines : List (List ℕ)) (rest : List ℕ) → AreLines lines → lines_of (text_of lines ++ rest) ≡ lines ++ lines_of rest
@@ -100,7 +100,9 @@ IsSettled h o unread idle form end = ((status_of end ≡ NoMemoryStatus) ⊎ ((r
 
 no-fault : (h : Shelves) (form : Form) (fault : Fault) (files : List ℕ → Option (List ℕ)) → Outcomes → h.files ≡ Some files → IsLoadable h.files form → FormFails h form fault → (HasRisen h.faults_old h.faults_new → ⊥) → ⊥
 no-fault h (parse name) (File cause) files laws e is fails none = no-file-fault h files (with_ending name) is.0 cause e is.1 fails none
-no-fault h (types name options) (Found file at why) files laws e is fails none = no-types-fault h files name options.settings is.0 (fault_at file at why) laws e is.1 fails none
+no-fault h form (Found file at why) files laws e is fails none =
+    let f = fault_at file at why in
+    laws.not_both files form f (subst (λ x. IsLoadable x form) e is) (subst (λ x. IsFirstOf x form f) e (laws.calm h form f fails none))
 no-fault h form fault files laws e is fails none = absurd fails
 
 ran-read : (h : Shelves) (o : Streams) (unread idle : Type 0) (form : Form) → Ran h o unread idle form (Err Read) → HasRisen o.in_old o.in_new
@@ -108,24 +110,28 @@ ran-read h o unread idle help s = absurd s.0
 ran-read h o unread idle version s = absurd s.0
 ran-read h o unread idle (parse name) s = s.2
 ran-read h o unread idle (types name options) s = absurd s.0
+ran-read h o unread idle (expand name entry options) s = absurd s.0
 
 ran-write : (h : Shelves) (o : Streams) (unread idle : Type 0) (form : Form) → Ran h o unread idle form (Err Write) → HasRisen o.out_old o.out_new
 ran-write h o unread idle help s = s.0.1
 ran-write h o unread idle version s = s.0.1
 ran-write h o unread idle (parse name) s = s.1
 ran-write h o unread idle (types name options) s = s.0.1
+ran-write h o unread idle (expand name entry options) s = s.0.1
 
 ran-too_long : (h : Shelves) (o : Streams) (unread idle : Type 0) (form : Form) → Ran h o unread idle form (Err TooLong) → StopsLate h o form
 ran-too_long h o unread idle help s = absurd s.0
 ran-too_long h o unread idle version s = absurd s.0
 ran-too_long h o unread idle (parse name) s = inl s
 ran-too_long h o unread idle (types name options) s = absurd s.0
+ran-too_long h o unread idle (expand name entry options) s = absurd s.0
 
 ran-too_many : (h : Shelves) (o : Streams) (unread idle : Type 0) (form : Form) → Ran h o unread idle form (Err TooMany) → StopsLate h o form
 ran-too_many h o unread idle help s = absurd s.0
 ran-too_many h o unread idle version s = absurd s.0
 ran-too_many h o unread idle (parse name) s = inr s
 ran-too_many h o unread idle (types name options) s = absurd s.0
+ran-too_many h o unread idle (expand name entry options) s = absurd s.0
 
 settled : (h : Shelves) (o : Streams) (unread idle untouched : Type 0) (form : Form) (end : Result Bool Fault) (files : List ℕ → Option (List ℕ)) → Outcomes → Ended h o unread idle untouched (Some form) end → h.files ≡ Some files → IsLoadable h.files form
     → (HasRisen h.faults_old h.faults_new → ⊥) → (HasRisen o.in_old o.in_new → ⊥) → (HasRisen o.out_old o.out_new → ⊥) → IsSettled h o unread idle form end

@@ -4,23 +4,18 @@ use Rattle.std.specs.Str.{bytes_eq}
 use Rattle.std.proofs.lemmas.Bool.Decides.{Decides-ltb}
 use Rattle.std.proofs.lemmas.Slice.Eq.{bytes_eq-Decides}
 use Rattle.lkb_io.specs.Outside.{HasRisen}
-use Rattle.type_hierarchy.specs.Table.{TypeTable}
-use Rattle.grammar_model.specs.declared.fault.Why.TheVariants.{Shelf}
+use Rattle.grammar_model.specs.declared.fault.Why.{Why}
+use Rattle.grammar_model.specs.declared.fault.Why.TheVariants.{Shelf, Expand}
 use Rattle.grammar_model.specs.declared.fault.LoadFault.{LoadFault}
 use Rattle.grammar_model.specs.declared.fault.LoadFault.TheVariants.{NoMemory, Found}
 use Rattle.grammar_model.specs.Faults.{FoundFault, IsFaultBy}
 use Rattle.grammar_model.specs.Walks.{WalkedTree, WalksTo, has_failed}
-use Rattle.grammar_model.specs.Typings.{AreTypesOf, IsTypesFault, repeats, unsettled, too_many}
+use Rattle.grammar_model.specs.Typings.{IsTypesFault, repeats, unsettled, too_many}
 use Rattle.lkb.specs.Files.{Shelves}
-use Rattle.lkb.specs.Texts.{found_text}
-use Rattle.lkb.specs.Grammars.{never, HasTypes, HasFirst, TypesFail, TypesLoaded, load_fault}
-
--- What is known of the outcome of files that the shelf tells.
-pub record Outcomes : Type 0 where
-  pub one_table : (files : List ℕ → Option (List ℕ)) (name : List ℕ) (settings : Option (List ℕ)) (t u : TypeTable) → HasTypes (Some files) name settings t → HasTypes (Some files) name settings u → t ≡ u
-  pub one_fault : (files : List ℕ → Option (List ℕ)) (name : List ℕ) (settings : Option (List ℕ)) (f g : FoundFault) → HasFirst (Some files) never name settings f → HasFirst (Some files) never name settings g → found_text f ≡ found_text g
-  pub not_both : (files : List ℕ → Option (List ℕ)) (name : List ℕ) (settings : Option (List ℕ)) (t : TypeTable) (f : FoundFault) → HasTypes (Some files) name settings t → HasFirst (Some files) never name settings f → ⊥
-  pub calm : (files : Option (List ℕ → Option (List ℕ))) (fails : List ℕ → Bool) (name : List ℕ) (settings : Option (List ℕ)) (f : FoundFault) → HasFirst files fails name settings f → ((n : List ℕ) → fails n ≡ true → ⊥) → HasFirst files never name settings f
+use Rattle.lkb.specs.Words.{Form, types, expand}
+use Rattle.lkb.specs.Books.{LacksBook}
+use Rattle.lkb.specs.Endings.{FailsAt, IsFirstOf}
+use Rattle.lkb.specs.Grammars.{never, IsFirstBy, FailsBy, LoadedBy, load_fault}
 
 both-true : (a b : Bool) → (a && b) ≡ true → (a ≡ true) × (b ≡ true)
 both-true true b e = (refl, e)
@@ -37,26 +32,53 @@ never-risen : (h : Shelves) → (HasRisen h.faults_old h.faults_new → ⊥) →
 never-risen h none n e = none (failed-at h.faults_old h.faults_new h.asked_new n e).0
 
 -- a fault of a run without a fault of the shelf
-pub calm-fault : (h : Shelves) (name : List ℕ) (settings : Option (List ℕ)) (f : FoundFault) → Outcomes → TypesFail h name settings f → (HasRisen h.faults_old h.faults_new → ⊥) → HasFirst h.files never name settings f
-calm-fault h name settings f laws fails none = laws.calm h.files (has_failed h.faults_old h.faults_new h.asked_new) name settings f fails.0 (never-risen h none)
+pub calm-fault : (lacks : WalkedTree → FoundFault → Type 0)
+    → ((files : Option (List ℕ → Option (List ℕ))) (fails other : List ℕ → Bool) (top : List ℕ) (settings : Option (List ℕ)) (f : FoundFault) → (f.why ≡ Shelf → ⊥) → WalksTo files fails top settings (Err f) → WalksTo files other top settings (Err f))
+    → ((files : Option (List ℕ → Option (List ℕ))) (fails : List ℕ → Bool) (top : List ℕ) (settings : Option (List ℕ)) (f : FoundFault) → WalksTo files fails top settings (Err f) → f.why ≡ Shelf → fails f.file ≡ true)
+    → (h : Shelves) (name : List ℕ) (settings : Option (List ℕ)) (f : FoundFault) → FailsBy lacks h name settings f → (HasRisen h.faults_old h.faults_new → ⊥) → IsFirstBy lacks h.files never name settings f
+calm-fault lacks calm shelf h name settings f fails none = by_cases fails.0
+  where
+    at : List ℕ → Bool
+    at = has_failed h.faults_old h.faults_new h.asked_new
 
-pub no-types-fault : (h : Shelves) (files : List ℕ → Option (List ℕ)) (name : List ℕ) (settings : Option (List ℕ)) (table : TypeTable) (f : FoundFault) → Outcomes → h.files ≡ Some files → HasTypes h.files name settings table → TypesFail h name settings f → (HasRisen h.faults_old h.faults_new → ⊥) → ⊥
-no-types-fault h files name settings table f laws e is fails none =
-    laws.not_both files name settings table f (subst (λ x. HasTypes x name settings table) e is) (subst (λ x. HasFirst x never name settings f) e (calm-fault h name settings f laws fails none))
+    by_cases : IsFirstBy lacks h.files at name settings f → IsFirstBy lacks h.files never name settings f
+    by_cases (inl a) = inl (calm h.files at never name settings f (λ e. never-risen h none f.file (shelf h.files at name settings f a e)) a)
+    by_cases (inr a) = inr a
+
+pub first-calm : ((files : Option (List ℕ → Option (List ℕ))) (fails other : List ℕ → Bool) (top : List ℕ) (settings : Option (List ℕ)) (f : FoundFault) → (f.why ≡ Shelf → ⊥) → WalksTo files fails top settings (Err f) → WalksTo files other top settings (Err f))
+    → ((files : Option (List ℕ → Option (List ℕ))) (fails : List ℕ → Bool) (top : List ℕ) (settings : Option (List ℕ)) (f : FoundFault) → WalksTo files fails top settings (Err f) → f.why ≡ Shelf → fails f.file ≡ true)
+    → (h : Shelves) (form : Form) (f : FoundFault) → FailsAt h form f → (HasRisen h.faults_old h.faults_new → ⊥) → IsFirstOf h.files form f
+first-calm calm shelf h (types name options) f s none = calm-fault IsTypesFault calm shelf h name options.settings f s none
+first-calm calm shelf h (expand name entry options) f s none = calm-fault LacksBook calm shelf h name options.settings f s none
+first-calm calm shelf h form f s none = absurd s
 
 -- a fault of types is none of the shelf
-no-shelf : (tree : WalkedTree) (f : FoundFault) → IsTypesFault tree f → f.why ≡ Shelf → ⊥
+pub no-shelf : (tree : WalkedTree) (f : FoundFault) → IsTypesFault tree f → f.why ≡ Shelf → ⊥
 no-shelf tree _ (repeats k name first same) e = cc
 no-shelf tree _ (unsettled fault p none is at) e = cc
 no-shelf tree _ (too_many h written many) e = cc
 
--- the files' fault as the fault of a run
-pub walk-fault : (h : Shelves) (name : List ℕ) (settings : Option (List ℕ)) (fault : LoadFault) → IsFaultBy (λ f. WalksTo h.files (has_failed h.faults_old h.faults_new h.asked_new) name settings (Err f)) fault
-    → ((f : FoundFault) → WalksTo h.files (has_failed h.faults_old h.faults_new h.asked_new) name settings (Err f) → f.why ≡ Shelf → has_failed h.faults_old h.faults_new h.asked_new f.file ≡ true) → TypesLoaded h name settings (Err (load_fault fault))
-walk-fault h name settings NoMemory w shelf = tt
-walk-fault h name settings (Found file at why) w shelf = (inl w, λ e. failed-at h.faults_old h.faults_new h.asked_new _ (shelf _ w e))
+-- nor is a fault of expansion
+pub lack-no-shelf : (tree : WalkedTree) (f : FoundFault) → LacksBook tree f → f.why ≡ Shelf → ⊥
+lack-no-shelf tree f (inl a) e = no-shelf tree f a e
+lack-no-shelf tree f (inr a) e = let same : Expand a.fault ≡ Shelf = sym (ap (λ (g : FoundFault). g.why) a.found) ∙ e in cc
 
-pub settle-fault : (h : Shelves) (name : List ℕ) (settings : Option (List ℕ)) (fault : LoadFault) (tree : WalkedTree) → WalksTo h.files never name settings (Ok tree) → IsFaultBy (IsTypesFault tree) fault
-    → TypesLoaded h name settings (Err (load_fault fault))
-settle-fault h name settings NoMemory tree w s = tt
-settle-fault h name settings (Found file at why) tree w s = (inr (tree, w, s), λ e. absurd (no-shelf tree _ s e))
+-- the files' fault as the fault of a run
+pub walk-fault : {X : Type 0} (gives : WalkedTree → X → Type 0) (lacks : WalkedTree → FoundFault → Type 0) (h : Shelves) (name : List ℕ) (settings : Option (List ℕ)) (fault : LoadFault)
+    → IsFaultBy (λ f. WalksTo h.files (has_failed h.faults_old h.faults_new h.asked_new) name settings (Err f)) fault
+    → ((f : FoundFault) → WalksTo h.files (has_failed h.faults_old h.faults_new h.asked_new) name settings (Err f) → f.why ≡ Shelf → has_failed h.faults_old h.faults_new h.asked_new f.file ≡ true)
+    → LoadedBy gives lacks h name settings (Err (load_fault fault))
+walk-fault gives lacks h name settings NoMemory w shelf = tt
+walk-fault gives lacks h name settings (Found file at why) w shelf = (inl w, λ e. failed-at h.faults_old h.faults_new h.asked_new _ (shelf _ w e))
+
+-- what is known of a fault, read as another thing that is known
+pub by-fault : (P Q : FoundFault → Type 0) → ((f : FoundFault) → P f → Q f) → (fault : LoadFault) → IsFaultBy P fault → IsFaultBy Q fault
+by-fault P Q to NoMemory s = tt
+by-fault P Q to (Found file at why) s = to _ s
+
+-- the fault of what the files say as the fault of a run
+pub settle-fault : {X : Type 0} (gives : WalkedTree → X → Type 0) (lacks : WalkedTree → FoundFault → Type 0) → ((tree : WalkedTree) (f : FoundFault) → lacks tree f → f.why ≡ Shelf → ⊥)
+    → (h : Shelves) (name : List ℕ) (settings : Option (List ℕ)) (fault : LoadFault) (tree : WalkedTree) → WalksTo h.files never name settings (Ok tree) → IsFaultBy (lacks tree) fault
+    → LoadedBy gives lacks h name settings (Err (load_fault fault))
+settle-fault gives lacks none h name settings NoMemory tree w s = tt
+settle-fault gives lacks none h name settings (Found file at why) tree w s = (inr (tree, w, s), λ e. absurd (none tree _ s e))

@@ -1,5 +1,5 @@
 -- The text of a fault of a file, in its parts.
-use Rattle.std.proofs.Common.{◌≡◌, ℕ, ◌∙◌, sym, ap, List, [], ◌∷◌, ◌++◌, append_assoc, append-nil, Bool, true, false, codes, if◌then◌else◌, Option, Err}
+use Rattle.std.proofs.Common.{◌≡◌, ℕ, ◌∙◌, sym, ap, List, [], ◌∷◌, ◌++◌, append_assoc, append-nil, Bool, true, false, codes, if◌then◌else◌, Option, Result, Ok, Err, OnOk, IfOk}
 use Rattle.lkb.specs.declared.faults.Fault.{Fault}
 use Rattle.lkb.specs.declared.faults.Fault.TheVariants.{File}
 use Rattle.lkb.specs.declared.faults.FileFault.{FileFault}
@@ -22,3 +22,12 @@ file-text form fault cause name e n =
     parts (has_ending name) (codes "lkb: ") name (file_fault_name cause)
     ∙ ap (λ t. codes "lkb: " ++ with_ending t ++ codes ": " ++ file_fault_name cause ++ 10 ∷ []) n
     ∙ ap (λ f. fault_text form (Err f)) (sym e)
+
+-- what follows an answer without a fault
+pub ok-then : {T E : Type 0} (P Q : Type 0) (r : Result T E) → (P → Q) → OnOk r P → OnOk r Q
+ok-then P Q (Ok x) f h = f h
+ok-then P Q (Err e) f h = h
+
+pub if-ok : {T E : Type 0} (P Q : T → Type 0) (r : Result T E) → ((x : T) → P x → Q x) → IfOk r P → IfOk r Q
+if-ok P Q (Ok x) f h = f x h
+if-ok P Q (Err e) f h = h

@@ -13,12 +13,15 @@ use Rattle.lkb.specs.declared.faults.Status.{Status}
 use Rattle.lkb.specs.declared.faults.Status.TheVariants.{Done, Items, Usage as UsageStatus, Grammar as GrammarStatus, ReadFault, WriteFault, NoMemory as NoMemoryStatus}
 use Rattle.lkb.specs.declared.lines.Stop.TheVariants.{Read, TooLong, TooMany}
 use Rattle.grammar_model.specs.FileNames.{with_ending}
-use Rattle.lkb.specs.Words.{Form, help, version, parse, types}
+use Rattle.grammar_model.specs.Faults.{FoundFault}
+use Rattle.lkb.specs.Words.{Form, help, version, parse, types, expand}
 use Rattle.lkb.specs.Files.{Shelves, IsGrammarOf, FileFails}
 use Rattle.lkb.specs.Reports.{AreAnswers, Streams, Served, IsServedTo, IsServedToLast, IsServedInPart}
 use Rattle.type_hierarchy.specs.Table.{TypeTable}
 use Rattle.lkb.specs.Texts.{usage_line, version_line}
-use Rattle.lkb.specs.Grammars.{HasTypes, TypesFail, fault_at}
+use Rattle.lkb.specs.Grammars.{never, ComesTo, IsFirstBy, FailsBy, HasTypes, HasFirst, TypesFail, fault_at}
+use Rattle.lkb.specs.Books.{ExpandedTree, IsExpandedOf, LacksBook}
+use Rattle.lkb.specs.Expansions.{IsExpansion}
 use Rattle.lkb.specs.TypeReports.{type_lines}
 
 -- The report of a command over the lines of its input: the report lines, each with its end, and whether a line is refused.
@@ -27,6 +30,7 @@ IsReport files help lines pieces refused = (pieces ≡ usage_line ∷ []) × (re
 IsReport files version lines pieces refused = (pieces ≡ version_line ∷ []) × (refused ≡ false)
 IsReport files (parse name) lines pieces refused = (grammar : Grammar) × IsGrammarOf files (with_ending name) grammar × AreAnswers (IsAnswer grammar) 1 lines pieces refused
 IsReport files (types name options) lines pieces refused = (table : TypeTable) × HasTypes files name options.settings table × (pieces ≡ type_lines table) × (refused ≡ false)
+IsReport files (expand name entry options) lines pieces refused = (expanded : ExpandedTree) × ComesTo IsExpandedOf files name options.settings expanded × IsExpansion expanded entry pieces refused
 
 -- The whole report of a command that reads no lines was written and flushed.
 pub record IsSaid (reports : List (List ℕ) → List (List ℕ) → Bool → Type 0) (o : Streams) (refused : Bool) : Type 0 where
@@ -62,6 +66,12 @@ ListedLines lines old new flushed faults_old faults_new (Err Write) = AddsFront 
 ListedLines lines old new flushed faults_old faults_new (Err NoMemory) = AddsFront old new (concat lines)
 ListedLines lines old new flushed faults_old faults_new (Err stop) = ⊥
 
+-- How the writing of a report that was made before ends: it was written and flushed, or a front of it was written.
+abbrev pub SaidLines : List (List ℕ) → Bool → Option (List ℕ) → Option (List ℕ) → Option (List ℕ) → ℕ → ℕ → Result Bool Stop → Type 0
+SaidLines lines told old new flushed faults_old faults_new (Ok refused) = Adds old new (concat lines) × (flushed ≡ new) × (refused ≡ told)
+SaidLines lines told old new flushed faults_old faults_new (Err Write) = AddsFront old new (concat lines) × HasRisen faults_old faults_new
+SaidLines lines told old new flushed faults_old faults_new (Err stop) = ⊥
+
 -- How the writing of a report of one line ends: it was written and flushed, or a front of it was written.
 abbrev pub SaidLine : List ℕ → Option (List ℕ) → Option (List ℕ) → Option (List ℕ) → ℕ → ℕ → Result Bool Stop → Type 0
 SaidLine line old new flushed faults_old faults_new (Ok refused) = Adds old new line × (flushed ≡ new) × (refused ≡ false)
@@ -75,6 +85,7 @@ Ran h o unread idle help end = Said (IsReport h.files help) o end × unread
 Ran h o unread idle version end = Said (IsReport h.files version) o end × unread
 Ran h o unread idle (parse name) end = Served (IsReport h.files (parse name)) o end
 Ran h o unread idle (types name options) end = Listed (IsReport h.files (types name options)) o end × idle
+Ran h o unread idle (expand name entry options) end = Listed (IsReport h.files (expand name entry options)) o end × idle
 
 -- A front of the command's report was written, over lines that were read where it reads any.
 abbrev pub RanInPart : Shelves → Streams → Form → Type 0
@@ -82,6 +93,7 @@ RanInPart h o help = IsSaidInPart (IsReport h.files help) o
 RanInPart h o version = IsSaidInPart (IsReport h.files version) o
 RanInPart h o (parse name) = IsServedInPart (IsReport h.files (parse name)) o
 RanInPart h o (types name options) = IsSaidInPart (IsReport h.files (types name options)) o
+RanInPart h o (expand name entry options) = IsSaidInPart (IsReport h.files (expand name entry options)) o
 
 -- The source failed, or 65,536 bytes came without a line end, or 2^64 - 1 lines came; exactly the report over the lines before was written.
 abbrev pub StopsReading : Shelves → Streams → Form → Type 0
@@ -93,12 +105,20 @@ StopsReading h o form = (((r : IsServedTo (IsReport h.files form) o) × HasNoEnd
 abbrev pub IsFaultless : Shelves → Streams → Type 0
 IsFaultless h o = (HasRisen h.faults_old h.faults_new → ⊥) × (HasRisen o.in_old o.in_new → ⊥) × (HasRisen o.out_old o.out_new → ⊥)
 
--- The command's file, where it has one, is the file of a grammar: for `types`, it and the files that it includes define types.
+-- The command's file, where it has one, is the file of a grammar: for `types`, it and the files that it includes define types, and for
+-- `expand` they have structures.
 abbrev pub IsLoadable : Option (List ℕ → Option (List ℕ)) → Form → Type 0
 IsLoadable files help = Unit {0}
 IsLoadable files version = Unit {0}
 IsLoadable files (parse name) = (grammar : Grammar) × IsGrammarOf files (with_ending name) grammar
 IsLoadable files (types name options) = (table : TypeTable) × HasTypes files name options.settings table
+IsLoadable files (expand name entry options) = (expanded : ExpandedTree) × ComesTo IsExpandedOf files name options.settings expanded
+
+-- This is the first fault of the form's files, by what the shelf tells of them.
+abbrev pub IsFirstOf : Option (List ℕ → Option (List ℕ)) → Form → FoundFault → Type 0
+IsFirstOf files (types name options) fault = HasFirst files never name options.settings fault
+IsFirstOf files (expand name entry options) fault = IsFirstBy LacksBook files never name options.settings fault
+IsFirstOf files form fault = ⊥
 
 -- The input was read to its end, where the command reads it.
 abbrev pub IsReadThrough : Form → Option (List ℕ) → Type 0
@@ -106,11 +126,18 @@ IsReadThrough help left = Unit {0}
 IsReadThrough version left = Unit {0}
 IsReadThrough (parse name) left = IsAtEnd left
 IsReadThrough (types name options) left = Unit {0}
+IsReadThrough (expand name entry options) left = Unit {0}
+
+-- whether the form's files have this first fault, a fault of the shelf only where it failed
+abbrev pub FailsAt : Shelves → Form → FoundFault → Type 0
+FailsAt h (types name options) fault = TypesFail h name options.settings fault
+FailsAt h (expand name entry options) fault = FailsBy LacksBook h name options.settings fault
+FailsAt h form fault = ⊥
 
 -- whether the form's files have this fault
 abbrev pub FormFails : Shelves → Form → Fault → Type 0
 FormFails h (parse name) (File cause) = FileFails h (with_ending name) cause
-FormFails h (types name options) (Found file at why) = TypesFail h name options.settings (fault_at file at why)
+FormFails h form (Found file at why) = FailsAt h form (fault_at file at why)
 FormFails h form fault = ⊥
 
 -- How a run ends. `unread` says that shelf and source are as they were, `idle` that the source is, `untouched` that source and

@@ -19,32 +19,47 @@ use Rattle.lkb.specs.Files.{Shelves}
 abbrev pub never : List ℕ → Bool
 never name = false
 
--- The grammar of this name has these completed types under these settings: they are those of what its files say.
-abbrev pub HasTypes : Option (List ℕ → Option (List ℕ)) → List ℕ → Option (List ℕ) → TypeTable → Type 0
-HasTypes files name settings table = (tree : WalkedTree) × WalksTo files never name settings (Ok tree) × AreTypesOf tree table
+-- In what follows `gives` says what statements come to, and `lacks` with what fault they come to nothing.
 
--- The first fault of the grammar's files, where the shelf fails at these names: one of the files, or of the types that they define.
+-- By what its files say, the grammar of this name comes to this under these settings.
+abbrev pub ComesTo : {X : Type 0} → (WalkedTree → X → Type 0) → Option (List ℕ → Option (List ℕ)) → List ℕ → Option (List ℕ) → X → Type 0
+ComesTo gives files name settings x = (tree : WalkedTree) × WalksTo files never name settings (Ok tree) × gives tree x
+
+-- The first fault of the grammar's files, where the shelf fails at these names: one of the files, or one of what they say.
+abbrev pub IsFirstBy : (WalkedTree → FoundFault → Type 0) → Option (List ℕ → Option (List ℕ)) → (List ℕ → Bool) → List ℕ → Option (List ℕ) → FoundFault → Type 0
+IsFirstBy lacks files fails name settings fault = WalksTo files fails name settings (Err fault)
+    ⊎ ((tree : WalkedTree) × WalksTo files never name settings (Ok tree) × lacks tree fault)
+
+-- the completed types of a grammar, and their first fault
+abbrev pub HasTypes : Option (List ℕ → Option (List ℕ)) → List ℕ → Option (List ℕ) → TypeTable → Type 0
+HasTypes = ComesTo AreTypesOf
+
 abbrev pub HasFirst : Option (List ℕ → Option (List ℕ)) → (List ℕ → Bool) → List ℕ → Option (List ℕ) → FoundFault → Type 0
-HasFirst files fails name settings fault = WalksTo files fails name settings (Err fault)
-    ⊎ ((tree : WalkedTree) × WalksTo files never name settings (Ok tree) × IsTypesFault tree fault)
+HasFirst = IsFirstBy IsTypesFault
 
 -- a fault by its file, its place there and its cause
 abbrev pub fault_at : String Global → ℕ → Why → FoundFault
 fault_at file at why = record { file = string_bytes file; at = at; why = why }
 
 -- This is the first fault of the grammar's files; `Shelf` comes only where the shelf failed when it was asked for that file.
-abbrev pub TypesFail : Shelves → List ℕ → Option (List ℕ) → FoundFault → Type 0
-TypesFail h name settings fault = HasFirst h.files (has_failed h.faults_old h.faults_new h.asked_new) name settings fault
+abbrev pub FailsBy : (WalkedTree → FoundFault → Type 0) → Shelves → List ℕ → Option (List ℕ) → FoundFault → Type 0
+FailsBy lacks h name settings fault = IsFirstBy lacks h.files (has_failed h.faults_old h.faults_new h.asked_new) name settings fault
     × (fault.why ≡ Shelf → HasRisen h.faults_old h.faults_new × (h.asked_new ≡ Some fault.file))
+
+abbrev pub TypesFail : Shelves → List ℕ → Option (List ℕ) → FoundFault → Type 0
+TypesFail = FailsBy IsTypesFault
 
 -- the fault of a run that a fault of the grammar's files makes
 abbrev pub load_fault : LoadFault → Fault
 load_fault LoadNoMemory = Stopped NoMemory
 load_fault (LoadFound file at why) = Found file at why
 
--- What comes of the files of a grammar: its types, or its first fault.
+-- What comes of the files of a grammar, or their first fault.
+abbrev pub LoadedBy : {X : Type 0} → (WalkedTree → X → Type 0) → (WalkedTree → FoundFault → Type 0) → Shelves → List ℕ → Option (List ℕ) → Result X Fault → Type 0
+LoadedBy gives lacks h name settings (Ok x) = ComesTo gives h.files name settings x
+LoadedBy gives lacks h name settings (Err (Found file at why)) = FailsBy lacks h name settings (fault_at file at why)
+LoadedBy gives lacks h name settings (Err (Stopped NoMemory)) = Unit {0}
+LoadedBy gives lacks h name settings (Err fault) = ⊥
+
 abbrev pub TypesLoaded : Shelves → List ℕ → Option (List ℕ) → Result TypeTable Fault → Type 0
-TypesLoaded h name settings (Ok table) = HasTypes h.files name settings table
-TypesLoaded h name settings (Err (Found file at why)) = TypesFail h name settings (fault_at file at why)
-TypesLoaded h name settings (Err (Stopped NoMemory)) = Unit {0}
-TypesLoaded h name settings (Err fault) = ⊥
+TypesLoaded = LoadedBy AreTypesOf IsTypesFault

@@ -5,6 +5,8 @@ pub mod Words
 pub mod Reader
 pub mod Files
 pub mod Grammars
+pub mod Books
+pub mod Expansions
 pub mod TypeReports
 pub mod Endings
 pub mod Texts

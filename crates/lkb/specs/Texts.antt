@@ -1,5 +1,5 @@
 -- The texts that the program writes besides the answers to lines. Each ends with byte 10.
-use Rattle.std.specs.Prelude.{ℕ, List, [], ◌∷◌, ◌++◌, Option, Bool, Result, Ok, Err, codes, if◌then◌else◌, true, false, string_bytes}
+use Rattle.std.specs.Prelude.{ℕ, List, [], ◌∷◌, ◌++◌, Option, Bool, Result, Ok, Err, map, codes, if◌then◌else◌, true, false, string_bytes}
 use Rattle.lkb_io.specs.Outside.{HasRisen, Adds, AddsFront}
 use Rattle.lkb.specs.declared.lines.Stop.{Stop}
 use Rattle.lkb.specs.declared.lines.Stop.TheVariants.{Read, TooLong as LineTooLong, TooMany, Write, NoMemory}
@@ -7,6 +7,7 @@ use Rattle.lkb.specs.declared.faults.Fault.{Fault}
 use Rattle.lkb.specs.declared.faults.Fault.TheVariants.{Usage, File, Found, Stopped}
 use Rattle.lkb.specs.declared.faults.FileFault.{FileFault}
 use Rattle.lkb.specs.declared.faults.FileFault.TheVariants.{Shelf, TooLong, NotBuilt}
+use Rattle.std.specs.Char.{to_ascii_uppercase}
 use Rattle.std.specs.Fmt.{decimal}
 use Rattle.tdl_lexer.specs.declared.LexFault.{LexFault}
 use Rattle.tdl_lexer.specs.declared.LexFault.TheVariants.{NotUtf8, BadChar, OpenString, OpenComment, OpenGroup, NoMemory as LexNoMemory}
@@ -15,7 +16,9 @@ use Rattle.tdl_reader.specs.declared.ReadFault.TheVariants.{Unexpected, EndOfFil
 use Rattle.type_hierarchy.specs.declared.decl.TypeFault.{TypeFault}
 use Rattle.type_hierarchy.specs.declared.decl.TypeFault.TheVariants.{Duplicate, Unknown, Cycle, Reserved, TooMany as TooManyWritten, NoMemory as TypeNoMemory}
 use Rattle.grammar_model.specs.declared.fault.Why.{Why}
-use Rattle.grammar_model.specs.declared.fault.Why.TheVariants.{Settings, Shelf as ShelfFailed, TooLong as FileTooLong, IncludeLoop, TooManyFiles, Lex, Read as Misread, Environment, Typing, TooManyTypes, Arity, Orthography}
+use Rattle.constraint_expand.specs.declared.fault.ExpandFault.{ExpandFault}
+use Rattle.constraint_expand.specs.declared.fault.ExpandFault.TheVariants.{UnknownName, NoIntro, Intro, NoStructure, NoMemory as ExpandNoMemory}
+use Rattle.grammar_model.specs.declared.fault.Why.TheVariants.{Settings, Shelf as ShelfFailed, TooLong as FileTooLong, IncludeLoop, TooManyFiles, Lex, Read as Misread, Environment, Typing, TooManyTypes, Expand, Arity, Orthography}
 use Rattle.grammar_model.specs.Faults.{FoundFault}
 use Rattle.grammar_model.specs.FileNames.{has_ending, with_ending}
 use Rattle.lkb.specs.Words.{Form, name_in}
@@ -72,6 +75,18 @@ type_fault_words (Reserved name) = codes "Reserved" ∷ string_bytes name ∷ []
 type_fault_words (TooManyWritten count) = codes "TooMany" ∷ decimal count ∷ []
 type_fault_words TypeNoMemory = codes "NoMemory" ∷ []
 
+-- a feature in ASCII upper case
+abbrev pub feature_name : List ℕ → List ℕ
+feature_name feature = map to_ascii_uppercase feature
+
+-- the name of a fault of expansion, and the names that it carries
+abbrev pub expand_fault_words : ExpandFault → List (List ℕ)
+expand_fault_words (UnknownName name at statement) = codes "UnknownName" ∷ string_bytes name ∷ []
+expand_fault_words (NoIntro feature at statement) = codes "NoIntro" ∷ feature_name (string_bytes feature) ∷ []
+expand_fault_words (Intro feature a b statement) = codes "Intro" ∷ feature_name (string_bytes feature) ∷ string_bytes a ∷ string_bytes b ∷ []
+expand_fault_words (NoStructure name statement) = codes "NoStructure" ∷ string_bytes name ∷ []
+expand_fault_words ExpandNoMemory = codes "NoMemory" ∷ []
+
 -- The name of a cause, and the names or the count that it carries. No cause is a want of memory.
 abbrev pub why_words : Why → List (List ℕ)
 why_words Settings = codes "Settings" ∷ []
@@ -84,6 +99,7 @@ why_words (Misread fault) = read_fault_name fault ∷ []
 why_words Environment = codes "Environment" ∷ []
 why_words (Typing fault) = type_fault_words fault
 why_words TooManyTypes = codes "TooManyTypes" ∷ []
+why_words (Expand fault) = expand_fault_words fault
 why_words Arity = codes "Arity" ∷ []
 why_words Orthography = codes "Orthography" ∷ []
 

@@ -131,22 +131,28 @@ with_options o [] = o
 with_options o (positional word ∷ items) = with_options o items
 with_options o (option p value ∷ items) = with_options (given p value o) items
 
--- What the words of a command line ask for: `--help`, `--version`, `parse` with the name of a grammar, and `types` with the
--- name of a grammar and options.
+-- What the words of a command line ask for: `--help`, `--version`, `parse` with the name of a grammar, `types` with the name of a
+-- grammar and options, and `expand` with the name of a grammar, that of a type or an instance, and options.
 pub data Form : Type 0 where
   help : Form
   version : Form
   parse : (name : List ℕ) → Form
   types : (name : List ℕ) (options : Options) → Form
+  expand : (name entry : List ℕ) (options : Options) → Form
 
--- The words are of this form. `parse` takes no option, and `types` takes each of them, at most once and in any order; options and
--- the name may stand in any order too.
+-- The words are the command's, and after it these positional words in this order, and what gives these options: each at most once, in
+-- any order and anywhere among the positional words.
+abbrev pub AreWordsOf : List (List ℕ) → List ℕ → List (List ℕ) → Options → Type 0
+AreWordsOf words command names options = (items : List Item) × (words ≡ command ∷ words_of items) × AreItems items × AreOnce items
+    × (positionals items ≡ names) × (options ≡ with_options no_options items)
+
+-- The words are of this form. `parse` takes no option; `types` and `expand` take each of them.
 abbrev pub IsForm : List (List ℕ) → Form → Type 0
 IsForm words help = words ≡ codes "--help" ∷ []
 IsForm words version = words ≡ codes "--version" ∷ []
 IsForm words (parse file) = (words ≡ codes "parse" ∷ file ∷ []) × (is_name file ≡ true)
-IsForm words (types file options) = (items : List Item) × (words ≡ codes "types" ∷ words_of items) × AreItems items × AreOnce items
-    × (positionals items ≡ file ∷ []) × (options ≡ with_options no_options items)
+IsForm words (types file options) = AreWordsOf words (codes "types") (file ∷ []) options
+IsForm words (expand file entry options) = AreWordsOf words (codes "expand") (file ∷ entry ∷ []) options
 
 -- The form of the words, or that they have none.
 abbrev pub HasForm : List (List ℕ) → Option Form → Type 0
@@ -157,4 +163,5 @@ HasForm words None = (form : Form) → IsForm words form → ⊥
 abbrev pub name_in : Option Form → List ℕ
 name_in (Some (parse file)) = file
 name_in (Some (types file options)) = file
+name_in (Some (expand file entry options)) = file
 name_in other = []

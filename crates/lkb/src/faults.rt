@@ -1,6 +1,7 @@
 //! Why a run ends without its whole report, and the status with which it ends.
 ghost use Rattle.std.specs.Prelude.{◌≡◌};
 
+use crate::expansion::OutOfMemory;
 use crate::lines::Stop;
 use first_grammar::NoMemory;
 use grammar_model::{LoadFault, Why};
@@ -75,6 +76,17 @@ impl From<AllocError> for Fault {
     ghost from_gives = { λ _ e. e ≡ Fault.Stopped Stop.NoMemory };
 
     fn from(_fault: AllocError) -> Fault {
+        Fault::Stopped(Stop::NoMemory)
+    }
+}
+
+impl From<OutOfMemory> for Fault {
+    ghost use Rattle.lkb.specs.declared.faults.Fault.{Fault};
+    ghost use Rattle.lkb.specs.declared.lines.Stop.{Stop};
+
+    ghost from_gives = { λ _ e. e ≡ Fault.Stopped Stop.NoMemory };
+
+    fn from(_fault: OutOfMemory) -> Fault {
         Fault::Stopped(Stop::NoMemory)
     }
 }

@@ -77,8 +77,8 @@ impl From<NoMemory> for Stop {
     }
 }
 
-// Writes these lines, each as one piece.
-fn put_lines<O: Sink>(out: &mut O, lines: &[Vec<u8>]) -> Result<(), Failed>
+/// Writes these lines, each as one piece.
+pub fn put_lines<O: Sink>(out: &mut O, lines: &[Vec<u8>]) -> Result<(), Failed>
     ensures ok { OnOk result (Adds (O.written out.old) (O.written out.new) (concat (map (λ l. l.items) lines.now))) }
     ensures front { AddsFront (O.written out.old) (O.written out.new) (concat (map (λ l. l.items) lines.now)) }
     ensures no_fall { O.faults out.old ≤ O.faults out.new }

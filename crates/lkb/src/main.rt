@@ -7,14 +7,17 @@ ghost use Rattle.lkb_io.specs.Outside.{HasRisen};
 ghost use Rattle.lkb_io.specs.Lines.{lines_of};
 ghost use Rattle.lkb.specs.declared.faults.Fault.{Fault};
 ghost use Rattle.grammar_model.specs.Faults.{FoundFault};
-ghost use Rattle.lkb.specs.Words.{Form, Options, parse, types, IsForm, HasForm};
-ghost use Rattle.lkb.specs.Grammars.{never, HasFirst};
+ghost use Rattle.lkb.specs.Words.{Form, parse, IsForm, HasForm};
 ghost use Rattle.lkb.specs.Readings.{AreReadable};
 ghost use Rattle.lkb.specs.Files.{shelves};
 ghost use Rattle.lkb.specs.Reports.{streams};
 ghost use Rattle.lkb.specs.Texts.{fault_text, found_text, Tells};
-ghost use Rattle.lkb.specs.Endings.{Ended, IsReport, IsFaultless, IsLoadable, IsReadThrough, FormFails, StopsReading, RanInPart, IsWhole, status_of, is_items};
+ghost use Rattle.lkb.specs.Endings.{Ended, IsReport, IsFaultless, IsLoadable, IsReadThrough, IsFirstOf, FormFails, StopsReading, RanInPart, IsWhole, status_of, is_items};
 
+pub mod books;
+#[cfg(test)]
+mod expand_tests;
+pub mod expansion;
 pub mod faults;
 pub mod files;
 pub mod laws;
@@ -86,10 +89,10 @@ pub fn run<S: Shelf, I: Source, O: Sink, X: Sink>(
     ensures no_grammar { (form : Form) → IsForm (map (λ w. string_bytes w) words.now) form
         → (IsLoadable (S.files shelf.old) form → ⊥) → (result ≡ Status.Grammar) ⊎ (result ≡ Status.NoMemory) }
 
-    // Of `types`: the first fault of the grammar's files, by what the shelf tells of them, is the one that is told.
-    ensures first_fault { (name : List ℕ) (options : Options) (files : List ℕ → Option (List ℕ)) (fault : FoundFault)
-        → IsForm (map (λ w. string_bytes w) words.now) (types name options) → S.files shelf.old ≡ Some files
-        → HasFirst (Some files) never name options.settings fault → (HasRisen (S.faults shelf.old) (S.faults shelf.new) → ⊥)
+    // Of a command that reads any grammar: the first fault of the grammar's files, by what the shelf tells of them, is the one that is told.
+    ensures first_fault { (form : Form) (files : List ℕ → Option (List ℕ)) (fault : FoundFault)
+        → IsForm (map (λ w. string_bytes w) words.now) form → S.files shelf.old ≡ Some files
+        → IsFirstOf (Some files) form fault → (HasRisen (S.faults shelf.old) (S.faults shelf.new) → ⊥)
         → (result ≡ Status.NoMemory) ⊎ ((result ≡ Status.Grammar)
         × Tells (X.written err.old) (X.written err.new) (X.faults err.old) (X.faults err.new) (found_text fault)) }
 

@@ -1,15 +1,17 @@
 //! The texts that the program writes besides the answers to lines.
-ghost use Rattle.std.specs.Prelude.{◌≡◌, ◌≤◌, ◌++◌, codes, map, option_map, Err, OnOk, OnErr};
+ghost use Rattle.std.specs.Prelude.{◌≡◌, ◌≤◌, ◌++◌, ◌∷◌, codes, map, option_map, Err, OnOk, OnErr};
+ghost use Rattle.std.specs.Char.{to_ascii_uppercase};
 ghost use Rattle.lkb_io.specs.Outside.{HasRisen, Adds, AddsFront};
 ghost use Rattle.grammar_model.specs.FileNames.{has_ending};
 ghost use Rattle.lkb.specs.Reader.{form};
-ghost use Rattle.lkb.specs.Texts.{stop_text, fault_text, Tells, ending_of_name, file_fault_line, lex_fault_name, read_fault_name, type_fault_words, why_words, has_place, place_text, cause_text};
+ghost use Rattle.lkb.specs.Texts.{stop_text, fault_text, Tells, ending_of_name, file_fault_line, lex_fault_name, read_fault_name, type_fault_words, feature_name, expand_fault_words, why_words, has_place, place_text, cause_text};
 ghost use Rattle.lkb.specs.TypeReports.{spaced};
 ghost use Rattle.lkb.specs.Endings.{status_of};
 
 use crate::faults::{Fault, FileFault, Status};
 use crate::lines::Stop;
 use crate::words::{Command, name_of};
+use constraint_expand::ExpandFault;
 use grammar_model::Why;
 use grammar_model::file_names::has_ending;
 use itoa::Buffer;
@@ -139,6 +141,80 @@ fn tell_types<X: Sink>(err: &mut X, fault: &TypeFault) -> Result<(), Failed>
     }
 }
 
+// Writes a name in upper case.
+fn put_upper<X: Sink>(err: &mut X, name: &[u8]) -> Result<(), Failed>
+    ensures ok { OnOk result (Adds (X.written err.old) (X.written err.new) (map to_ascii_uppercase name.now)) }
+    ensures front { AddsFront (X.written err.old) (X.written err.new) (map to_ascii_uppercase name.now) }
+    ensures no_fall { X.faults err.old ≤ X.faults err.new }
+    ensures failed { OnErr result (HasRisen (X.faults err.old) (X.faults err.new)) }
+{
+    for byte in name {
+        put_all(err, &[byte.to_ascii_uppercase()])?;
+    }
+    Ok(())
+}
+
+// Writes a feature's name, after a blank.
+fn put_feature<X: Sink>(err: &mut X, feature: &str) -> Result<(), Failed>
+    ensures ok { OnOk result (Adds (X.written err.old) (X.written err.new) (32 ∷ feature_name feature.now)) }
+    ensures front { AddsFront (X.written err.old) (X.written err.new) (32 ∷ feature_name feature.now) }
+    ensures no_fall { X.faults err.old ≤ X.faults err.new }
+    ensures failed { OnErr result (HasRisen (X.faults err.old) (X.faults err.new)) }
+{
+    put_all(err, b" ")?;
+    put_upper(err, feature.as_bytes())
+}
+
+// Writes the name of a fault of a feature and the feature's, each after a blank.
+fn tell_feature<X: Sink>(err: &mut X, fault: &str, feature: &str) -> Result<(), Failed>
+    ensures ok { OnOk result (Adds (X.written err.old) (X.written err.new) ((32 ∷ fault.now) ++ (32 ∷ feature_name feature.now))) }
+    ensures front { AddsFront (X.written err.old) (X.written err.new) ((32 ∷ fault.now) ++ (32 ∷ feature_name feature.now)) }
+    ensures no_fall { X.faults err.old ≤ X.faults err.new }
+    ensures failed { OnErr result (HasRisen (X.faults err.old) (X.faults err.new)) }
+{
+    put_both(err, b" ", fault.as_bytes())?;
+    put_feature(err, feature)
+}
+
+// Writes the name of a fault of a feature, the feature's and those of types, each after a blank.
+fn tell_feature_of<X: Sink>(
+    err: &mut X,
+    fault: &str,
+    feature: &str,
+    types: &[&str],
+) -> Result<(), Failed>
+    ensures ok { OnOk result (Adds (X.written err.old) (X.written err.new) (spaced (fault.now ∷ feature_name feature.now ∷ map (λ t. t.now) types.now))) }
+    ensures front { AddsFront (X.written err.old) (X.written err.new) (spaced (fault.now ∷ feature_name feature.now ∷ map (λ t. t.now) types.now)) }
+    ensures no_fall { X.faults err.old ≤ X.faults err.new }
+    ensures failed { OnErr result (HasRisen (X.faults err.old) (X.faults err.new)) }
+{
+    tell_feature(err, fault, feature)?;
+    put_words(err, types)
+}
+
+// Writes the name of a fault of expansion and what it carries, each after a blank.
+fn tell_expansion<X: Sink>(err: &mut X, fault: &ExpandFault) -> Result<(), Failed>
+    ensures ok { OnOk result (Adds (X.written err.old) (X.written err.new) (spaced (expand_fault_words fault.now))) }
+    ensures front { AddsFront (X.written err.old) (X.written err.new) (spaced (expand_fault_words fault.now)) }
+    ensures no_fall { X.faults err.old ≤ X.faults err.new }
+    ensures failed { OnErr result (HasRisen (X.faults err.old) (X.faults err.new)) }
+{
+    match fault {
+        ExpandFault::UnknownName { name, .. } => put_words(err, &["UnknownName", name.as_str()]),
+        ExpandFault::NoIntro { feature, .. } => {
+            tell_feature_of(err, "NoIntro", feature.as_str(), &[])
+        }
+        ExpandFault::Intro { feature, a, b, .. } => tell_feature_of(
+            err,
+            "Intro",
+            feature.as_str(),
+            &[a.as_str(), b.as_str()],
+        ),
+        ExpandFault::NoStructure { name, .. } => put_words(err, &["NoStructure", name.as_str()]),
+        ExpandFault::NoMemory => put_words(err, &["NoMemory"]),
+    }
+}
+
 // Writes the name of a cause and what it carries, each after a blank.
 fn tell_words<X: Sink>(err: &mut X, why: &Why) -> Result<(), Failed>
     ensures ok { OnOk result (Adds (X.written err.old) (X.written err.new) (spaced (why_words why.now))) }
@@ -157,6 +233,7 @@ fn tell_words<X: Sink>(err: &mut X, why: &Why) -> Result<(), Failed>
         Why::Environment => put_words(err, &["Environment"]),
         Why::Typing(fault) => tell_types(err, fault),
         Why::TooManyTypes => put_words(err, &["TooManyTypes"]),
+        Why::Expand(fault) => tell_expansion(err, fault),
         Why::Arity => put_words(err, &["Arity"]),
         Why::Orthography => put_words(err, &["Orthography"]),
     }
@@ -186,6 +263,7 @@ fn has_place(why: &Why) -> bool
         | Why::Environment
         | Why::Typing(_)
         | Why::TooManyTypes
+        | Why::Expand(_)
         | Why::Arity
         | Why::Orthography => true,
     }

@@ -31,7 +31,7 @@ glbtype1: a b
 ";
 
 // A run with these words over these files.
-fn run_files(
+pub fn run_files(
     alloc: Global,
     words: &[&str],
     files: &[(&str, &[u8])],

@@ -1,7 +1,7 @@
 //! The words of the command line.
 ghost use Rattle.std.specs.Prelude.{◌≡◌, map, option_map, string_bytes};
 ghost use Rattle.lkb.specs.Words.{name_in};
-ghost use Rattle.lkb.specs.Reader.{form, form_of, read_in, nothing_read, with_option, with_positional, with_plain, with_word, types_form, types_of, parse_of, alone, form_by};
+ghost use Rattle.lkb.specs.Reader.{form, form_of, read_in, nothing_read, with_option, with_positional, with_plain, with_word, names_in, with_name, command_form, command_with, parse_of, alone, form_by};
 
 use crate::options::{OptionName, Options, is_name, option_of};
 
@@ -16,14 +16,44 @@ pub enum Command<'a> {
     Parse(&'a str),
     /// The types of the grammar of this name, each with its immediate supertypes. It heeds `--settings` alone.
     Types(&'a str, Options<'a>),
+    /// The structure of the type or the instance of the second name, in the grammar of the first. It heeds `--settings` alone.
+    Expand(&'a str, &'a str, Options<'a>),
 }
 
-// What was read of the words after `types`: the options and the grammar's name, where they stood, and the
-// option whose value comes next.
+// A command that takes options.
+#[derive(Clone, Copy)]
+enum CommandName {
+    Types,
+    Expand,
+}
+
+// The positional words so far. No command has more than two.
+#[derive(Clone, Copy)]
+enum Names<'a> {
+    Zero,
+    One(&'a str),
+    Two(&'a str, &'a str),
+}
+
+impl<'a> Names<'a> {
+    // These and one more. None where two stand already.
+    fn with_name(&self, word: &'a str) -> Option<Names<'a>>
+        ensures { option_map names_in result ≡ with_name word.now (names_in self.now) }
+    {
+        match self {
+            Names::Zero => Some(Names::One(word)),
+            Names::One(first) => Some(Names::Two(first, word)),
+            Names::Two(_, _) => None,
+        }
+    }
+}
+
+// What was read of the words after a command: the options, the positional words, and the option whose value
+// comes next.
 #[derive(Clone, Copy)]
 struct ReadWords<'a> {
     options: Options<'a>,
-    file: Option<&'a str>,
+    names: Names<'a>,
     waiting: Option<OptionName>,
 }
 
@@ -34,7 +64,7 @@ impl<'a> ReadWords<'a> {
     {
         ReadWords {
             options: Options::none(),
-            file: None,
+            names: Names::Zero,
             waiting: None,
         }
     }
@@ -74,18 +104,15 @@ impl<'a> ReadWords<'a> {
         }
     }
 
-    // After a positional word. None where it is no name, or a name stands already.
+    // After a positional word. None where it is no name, or two stand already.
     fn with_positional(&self, word: &'a str) -> Option<ReadWords<'a>>
         ensures { option_map read_in result ≡ with_positional word.now (read_in self.now) }
     {
-        if is_name(word) && self.file.is_none() {
-            Some(ReadWords {
-                file: Some(word),
-                ..*self
-            })
-        } else {
-            None
+        if !is_name(word) {
+            return None;
         }
+        let names = self.names.with_name(word)?;
+        Some(ReadWords { names, ..*self })
     }
 
     // After one word more. None where no command line goes on so.
@@ -106,26 +133,32 @@ impl<'a> ReadWords<'a> {
         }
     }
 
-    // The command, where the words end here. None where a value is still to come, or the grammar's name is.
-    fn command(&self) -> Option<Command<'a>>
-        ensures { option_map form result ≡ types_form (read_in self.now) }
+    // The command, where the words end here. None where a value is still to come, or the positional words aren't
+    // as many as the command names.
+    fn command(&self, command: CommandName) -> Option<Command<'a>>
+        ensures { option_map form result ≡ command_form command (read_in self.now) }
     {
-        match (self.waiting, self.file) {
-            (None, Some(file)) => Some(Command::Types(file, self.options)),
+        match (command, self.waiting, self.names) {
+            (CommandName::Types, None, Names::One(grammar)) => {
+                Some(Command::Types(grammar, self.options))
+            }
+            (CommandName::Expand, None, Names::Two(grammar, name)) => {
+                Some(Command::Expand(grammar, name, self.options))
+            }
             _ => None,
         }
     }
 }
 
-// The command of the words after `types`, in any order.
-fn types_of(words: &[String]) -> Option<Command<'_>>
-    ensures { option_map form result ≡ types_of (map (λ w. string_bytes w) words.now) }
+// The command of the words after its own, in any order.
+fn command_with(command: CommandName, words: &[String]) -> Option<Command<'_>>
+    ensures { option_map form result ≡ command_with command (map (λ w. string_bytes w) words.now) }
 {
     let mut read = ReadWords::new();
     for word in words {
         read = read.with_word(word)?;
     }
-    read.command()
+    read.command(command)
 }
 
 // The command of the words after `parse`.
@@ -154,7 +187,9 @@ fn command_by<'a>(word: &str, words: &'a [String]) -> Option<Command<'a>>
     ensures { option_map form result ≡ form_by word.now (map (λ w. string_bytes w) words.now) }
 {
     if word == "types" {
-        types_of(words)
+        command_with(CommandName::Types, words)
+    } else if word == "expand" {
+        command_with(CommandName::Expand, words)
     } else if word == "parse" {
         parse_of(words)
     } else if word == "--help" {
@@ -167,7 +202,8 @@ fn command_by<'a>(word: &str, words: &'a [String]) -> Option<Command<'a>>
 }
 
 /// The command of these words, which don't hold the program's name. None where they are outside the
-/// form: `parse` with one name, `types` with one name and options, or `--help` or `--version` alone.
+/// form: `parse` with one name, `types` with one name and options, `expand` with two names and options, or
+/// `--help` or `--version` alone.
 pub fn command_of(words: &[String]) -> Option<Command<'_>>
     ensures { option_map form result ≡ form_of (map (λ w. string_bytes w) words.now) }
 {
@@ -182,7 +218,9 @@ pub fn name_of<'a>(command: &Option<Command<'a>>) -> &'a str
     ensures { result.now ≡ name_in (option_map form command.now) }
 {
     match command {
-        Some(Command::Parse(name)) | Some(Command::Types(name, _)) => name,
+        Some(Command::Parse(name))
+        | Some(Command::Types(name, _))
+        | Some(Command::Expand(name, _, _)) => name,
         _ => "",
     }
 }

@@ -3,7 +3,7 @@ use Rattle.lkb_io.specs.Lines.{lines_of}
 use Rattle.lkb.specs.declared.faults.Fault.{Fault}
 use Rattle.lkb.specs.declared.faults.Status.{Status}
 use Rattle.lkb.specs.declared.faults.Status.TheVariants.{Done, Items, Grammar, ReadFault, NoMemory}
-use Rattle.lkb.specs.Words.{Form, IsForm, parse, types}
+use Rattle.lkb.specs.Words.{Form, IsForm, parse}
 use Rattle.lkb.specs.Reader.{form_of}
 use Rattle.lkb.proofs.Forms.{form-found, found-form, has-form, formless, none-found}
 use Rattle.lkb.specs.Files.{Shelves, shelves}
@@ -12,7 +12,7 @@ use Rattle.lkb.specs.Texts.{fault_text, Tells}
 use Rattle.lkb.specs.Endings.{Ended, IsReport, IsWhole, status_of, is_items}
 use Rattle.lkb.proofs.Clauses.{usage-form, form-usage, grammar-cause, no_grammar, completed, ran-flushed, whole, read-fault, write-fault, no_memory}
 use Rattle.lkb.proofs.Complete.{complete, unreadable}
-use Rattle.lkb.proofs.GrammarLemmas.{Outcomes}
+use Rattle.lkb.proofs.Outcomes.{Outcomes}
 use Rattle.lkb.proofs.Firsts.{first-told}
 use Rattle.lkb.proofs.run.Given.{Over}
 use Rattle.lkb.proofs.run.Goals as goal
@@ -46,7 +46,7 @@ told-at : (g : Over) (c : goal.Joined-outcome g) → Tells (g.X.Sink.written c.a
 told-at g c = subst (λ f. Tells (g.X.Sink.written c.args.err.now) (g.X.Sink.written c.conclude.new.err) (g.X.Sink.faults c.args.err.now) (g.X.Sink.faults c.conclude.new.err) (fault_text f c.perform-outcome.result)) c.command_of-command.ensures c.conclude.ensures.tells
 
 laws-at : (g : Over) → goal.Joined-outcome g → Outcomes
-laws-at g c = record { one_table = c.one_outcome.ensures.one_table; one_fault = c.one_outcome.ensures.one_fault; not_both = c.one_outcome.ensures.not_both; calm = c.one_outcome.ensures.calm }
+laws-at g c = record { one_fault = c.one_outcome.ensures.one_fault; not_both = c.one_outcome.ensures.not_both; calm = c.one_outcome.ensures.calm }
 
 as-done : (s t : Status) → s ≡ t → (s ≡ Done) ⊎ (s ≡ Items) → (t ≡ Done) ⊎ (t ≡ Items)
 as-done s t e d = subst (λ u. (u ≡ Done) ⊎ (u ≡ Items)) e d
@@ -95,12 +95,12 @@ returns-clause-no_grammar g c = λ f e n.
     subst (λ s. (s ≡ Grammar) ⊎ (s ≡ NoMemory)) (sym c.conclude.ensures.status) (no_grammar (shelves-at g c) (streams-at g c) (unread-at g c) (idle-at g c) (untouched-at g c) f c.perform-outcome.result ended n)
 
 pub returns-clause-first_fault : goal.returns-clause-first_fault
-returns-clause-first_fault g c = λ name options files fault e told first calm.
+returns-clause-first_fault g c = λ form files fault e told first calm.
     let tells = λ (text : List ℕ). Tells (g.X.Sink.written c.args.err.now) (g.X.Sink.written c.conclude.new.err) (g.X.Sink.faults c.args.err.now) (g.X.Sink.faults c.conclude.new.err) text in
-    let found = form-found (words-at g c) (types name options) e in
+    let found = form-found (words-at g c) form e in
     let ended = subst (λ w. Ended (shelves-at g c) (streams-at g c) (unread-at g c) (idle-at g c) (untouched-at g c) w c.perform-outcome.result) found (ended-at g c) in
     let told-text = subst (λ w. tells (fault_text w c.perform-outcome.result)) found (told-at g c) in
-    elim (first-told (shelves-at g c) (streams-at g c) (unread-at g c) (idle-at g c) (untouched-at g c) name options files fault c.perform-outcome.result (laws-at g c) ended told first calm) [
+    elim (first-told (shelves-at g c) (streams-at g c) (unread-at g c) (idle-at g c) (untouched-at g c) form files fault c.perform-outcome.result (laws-at g c) ended told first calm) [
       | inl m ↦ inl (c.conclude.ensures.status ∙ m)
       | inr t ↦ inr (c.conclude.ensures.status ∙ t.0, subst tells t.1 told-text)
     ]

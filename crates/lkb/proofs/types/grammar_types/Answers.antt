@@ -2,9 +2,10 @@ use Rattle.std.proofs.Common.{◌≡◌, ◌∙◌, sym, ap, subst, Ok, Err, opt
 use Rattle.std.proofs.lemmas.Result.{err_from_is_err_and}
 use Rattle.grammar_model.specs.Walks.{has_failed}
 use Rattle.grammar_model.specs.WalkViews.{walked_of}
+use Rattle.grammar_model.specs.Typings.{AreTypesOf, IsTypesFault}
 use Rattle.lkb.specs.Files.{Shelves, shelves}
 use Rattle.lkb.specs.Grammars.{never, TypesLoaded}
-use Rattle.lkb.proofs.GrammarLemmas.{walk-fault, settle-fault}
+use Rattle.lkb.proofs.GrammarLemmas.{no-shelf, walk-fault, settle-fault}
 use Rattle.lkb.proofs.types.grammar_types.Goals as goal
 
 pub returns-in_err-walked : goal.returns-in_err-walked
@@ -12,7 +13,7 @@ returns-in_err-walked g c =
     let p = err_from_is_err_and c.from_residual.result c.from_residual.ensures.1 in
     let h : Shelves = shelves g.S.Shelf.files g.S.Shelf.faults g.S.Shelf.asked c.args.shelf.now c.walk.new.shelf in
     let settings = option_map (λ s. s.now) c.args.settings in
-    let s = walk-fault h c.args.name.now settings c.in_err-walked.field-0.0 c.in_err-walked.ensures.fault
+    let s = walk-fault AreTypesOf IsTypesFault h c.args.name.now settings c.in_err-walked.field-0.0 c.in_err-walked.ensures.fault
     (c.walk_without_faults.ensures.shelf h.files (has_failed h.faults_old h.faults_new h.asked_new) c.args.name.now settings) in
     record { loaded = subst (TypesLoaded h c.args.name.now settings) (sym (p.1 ∙ ap Err p.2)) s }
 
@@ -23,7 +24,7 @@ returns-in_err-settle_types g c =
     let settings = option_map (λ s. s.now) c.args.settings in
     let tree = walked_of c.in_ok-walked.walked in
     let found = c.walk_without_faults.ensures.walked h.files (has_failed h.faults_old h.faults_new h.asked_new) never c.args.name.now settings tree c.in_ok-walked.ensures.walked in
-    let s = settle-fault h c.args.name.now settings c.in_err-settle_types.field-0.0 tree found c.in_err-settle_types.ensures.fault in
+    let s = settle-fault AreTypesOf IsTypesFault no-shelf h c.args.name.now settings c.in_err-settle_types.field-0.0 tree found c.in_err-settle_types.ensures.fault in
     record { loaded = subst (TypesLoaded h c.args.name.now settings) (sym (p.1 ∙ ap Err p.2)) s }
 
 pub returns : goal.returns

@@ -1,0 +1,9 @@
+pub mod Appended
+pub mod BracketLemmas
+pub mod MentionLemmas
+pub mod PartLemmas
+pub mod Parts
+pub mod RunningLemmas
+pub mod CarrierLemmas
+pub mod CoreferenceLemmas
+pub mod FoundFirst

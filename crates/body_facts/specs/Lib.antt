@@ -1,0 +1,9 @@
+pub mod BracketUses
+pub mod Claimed
+pub mod Laws
+pub mod Mentions
+pub mod Numbers
+pub mod Running
+pub mod Sayings
+pub mod WordTables
+pub mod Writing

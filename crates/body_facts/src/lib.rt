@@ -1,0 +1,20 @@
+//! What the body of a statement says of paths (DELPH-IN TDL; Copestake 2002).
+#![tactic(auto)]
+
+mod brackets;
+mod fault;
+mod laws;
+mod lookup;
+mod mentioned;
+mod settled_names;
+mod telling;
+#[cfg(test)]
+mod tests;
+
+pub use brackets::{Use, uses};
+pub use fault::NoMemory;
+pub use laws::coreference_law;
+pub use lookup::Words;
+pub use mentioned::{Unknown, first_unknown};
+pub use settled_names::Names;
+pub use telling::facts;

@@ -1,0 +1,9 @@
+use Rattle.std.proofs.Common.{map}
+use Rattle.body_facts.specs.Writing.{list_names}
+use Rattle.constraint_expand.specs.Placings.{placed_of}
+use Rattle.constraint_expand.specs.Kinds.{picks}
+use Rattle.constraint_expand.specs.Found.{HasNoneBefore, UsesWithout}
+use Rattle.constraint_expand.proofs.missing.check_kind.Given as goal
+
+abbrev pub invariant-loop-i : goal.invariant-loop-i
+invariant-loop-i l = HasNoneBefore (picks l.kind) (map placed_of l.statements) (UsesWithout l.writers.entries (list_names l.names)) l.i

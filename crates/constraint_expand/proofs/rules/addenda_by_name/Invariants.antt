@@ -1,0 +1,11 @@
+use Rattle.std.proofs.Common.{◌≡◌, map}
+use Rattle.std.specs.List.{flat_map, range_with_len}
+use Rattle.type_hierarchy.specs.Decls.{Name}
+use Rattle.constraint_expand.specs.Notes.{noted}
+use Rattle.constraint_expand.specs.Placings.{placed_of}
+use Rattle.constraint_expand.specs.Statements.{statement_at}
+use Rattle.constraint_expand.specs.Found.{place_by}
+use Rattle.constraint_expand.proofs.rules.addenda_by_name.Given as goal
+
+abbrev pub invariant-loop-i : goal.invariant-loop-i
+invariant-loop-i l = (n : Name) → noted l.addenda.entries n ≡ flat_map (λ k. place_by n (statement_at (map placed_of l.statements) k) k) (range_with_len 0 l.i)

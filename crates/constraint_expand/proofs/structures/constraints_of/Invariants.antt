@@ -1,0 +1,5 @@
+use Rattle.constraint_expand.proofs.StructureLemmas.{AreConstraintsTo}
+use Rattle.constraint_expand.proofs.structures.constraints_of.Given as goal
+
+abbrev pub invariant-loop-t : goal.invariant-loop-t
+invariant-loop-t l = AreConstraintsTo l.system l.t l.graphs.items
