@@ -4,10 +4,13 @@
 #![tactic(auto)]
 
 mod charts;
+mod grammars;
 mod hierarchies;
 mod lexing;
 mod report;
+mod structures;
 mod types;
+mod unifying;
 
 use std::{env, io};
 
@@ -23,6 +26,9 @@ fn main(rt: HostRuntime) -> io::Result<()> {
     }
     if is_asked(asked.as_str(), "charts") {
         charts::measure(&rt, rt.alloc(), timed)?;
+    }
+    if is_asked(asked.as_str(), "structures") {
+        structures::measure(&rt, rt.alloc(), timed)?;
     }
     Ok(())
 }

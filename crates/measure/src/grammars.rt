@@ -1,0 +1,98 @@
+//! Grammars to measure with.
+
+ghost use Rattle.std.specs.Prelude.{◌<◌};
+
+use lkb_io::{MemShelf, ShelfFile};
+use std::alloc::{AllocError, Global};
+
+// The types of a small grammar with semantics, up to the lexeme that the further types stand below.
+const LISTS: &str =
+    "string := *top*. list := *top*. cons := list & [ FIRST *top*, REST list ]. null := list.
+diff-list := *top* & [ LIST list, LAST list ].\n";
+
+const MEANINGS: &str = "semarg := *top*. handle := semarg. individual := semarg.
+tense := *top*. pres := tense. num := *top*. sg := num. pl := num.
+event := individual & [ TENSE tense ]. ref-ind := individual & [ NUM num ].
+relation := *top* & [ PRED *top*, LBL handle ]. arg0-rel := relation & [ ARG0 individual ].
+hook := *top* & [ LTOP handle, INDEX individual, XARG individual ].
+mrs := *top* & [ HOOK hook, RELS diff-list, HCONS diff-list ].\n";
+
+const SIGNS: &str = "local := *top* & [ CONT mrs ]. synsem := *top* & [ LOCAL local ].
+sign := *top* & [ STEM list, SYNSEM synsem, ARGS list ].
+bin := sign & [ SYNSEM.LOCAL.CONT [ RELS [ LIST #a, LAST #c ], HCONS [ LIST #d, LAST #f ] ],
+  ARGS < [ SYNSEM.LOCAL.CONT [ RELS [ LIST #a, LAST #b ], HCONS [ LIST #d, LAST #e ] ] ],
+         [ SYNSEM.LOCAL.CONT [ RELS [ LIST #b, LAST #c ], HCONS [ LIST #e, LAST #f ] ] ] > ].
+lexeme := sign & [ SYNSEM.LOCAL.CONT [ HOOK [ LTOP #h, INDEX #x & ref-ind ],
+  RELS <! arg0-rel & [ LBL #h, ARG0 #x ] !>, HCONS <! !> ] ].\n";
+
+// A lexical rule. It stands after all entries.
+const RULE: &str = ":begin :instance :status lex-rule.
+n_sg := sign & [ SYNSEM #s & [ LOCAL.CONT.HOOK.INDEX.NUM sg ], ARGS < lexeme & [ SYNSEM #s ] > ].
+:end :instance.\n";
+
+/// Each type whose number this divides has a feature of its own.
+const PER_FEATURE: u32 = 100;
+
+/// A shelf with the grammar `g`. So many further types stand in a tree below its lexeme, and its instances are so many
+/// entries of these types, and then a lexical rule.
+pub fn grammar(alloc: Global, types: u32, entries: u32) -> Result<MemShelf, AllocError>
+    requires { 0 < types }
+{
+    let mut text = String::from_str(alloc, LISTS)?;
+    text.push_str(MEANINGS)?;
+    text.push_str(SIGNS)?;
+    add_types(alloc, &mut text, types)?;
+    text.push_str(":begin :instance :status lex-entry.\n")?;
+    add_entries(alloc, &mut text, types, entries)?;
+    text.push_str(":end :instance.\n")?;
+    text.push_str(RULE)?;
+    shelf(alloc, text.as_str())
+}
+
+// Adds the further types. Each has at most three right below it.
+fn add_types(alloc: Global, text: &mut String, count: u32) -> Result<(), AllocError> {
+    text.push_str("type0 := lexeme & [ F0 num ].\n")?;
+    for number in 1..count {
+        let above = (number - 1) / 3;
+        let own = own_feature(alloc, number)?;
+        let definition = format!(in alloc;
+            "type{number} := type{above} & [ {own}SYNSEM.LOCAL.CONT [ HOOK.INDEX #x, RELS <! [ ARG0 #x ] !> ] ].\n"
+        )?;
+        text.push_str(definition.as_str())?;
+    }
+    Ok(())
+}
+
+// What a type says of the feature of its own, if it has one.
+fn own_feature(alloc: Global, number: u32) -> Result<String, AllocError> {
+    if number % PER_FEATURE == 0 {
+        format!(in alloc; "F{number} num, ")
+    } else {
+        Ok(String::new(alloc))
+    }
+}
+
+// Adds the entries, each with a spelling and a predicate of its own. They take the types in turn.
+fn add_entries(alloc: Global, text: &mut String, types: u32, entries: u32) -> Result<(), AllocError>
+    requires { 0 < types }
+{
+    for number in 0..entries {
+        let above = number % types;
+        let definition = format!(in alloc;
+            "entry{number} := type{above} & [ STEM < \"w{number}\" >, SYNSEM.LOCAL.CONT.RELS <! [ PRED \"_w{number}_n\" ] !> ].\n"
+        )?;
+        text.push_str(definition.as_str())?;
+    }
+    Ok(())
+}
+
+// A shelf with this text as its one file.
+fn shelf(alloc: Global, text: &str) -> Result<MemShelf, AllocError> {
+    let file = ShelfFile {
+        name: String::from_str(alloc, "g.tdl")?,
+        text: Vec::from_slice(alloc, text.as_bytes())?,
+    };
+    let mut files = Vec::new(alloc);
+    files.push(file)?;
+    Ok(MemShelf::new(files, Vec::new(alloc)))
+}
