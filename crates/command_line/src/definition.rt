@@ -1,6 +1,6 @@
 //! The command line as `clap` reads it: the options, and the places of the positional words.
 ghost use Rattle.std.specs.Prelude.{◌≡◌, false, IfOk};
-ghost use Rattle.clap.specs.Words.{rule_of, app_of, with_rule};
+ghost use Rattle.clap.specs.Words.{rule_of, app_of};
 ghost use Rattle.command_line.specs.Words.{Value, number, name, nothing};
 ghost use Rattle.command_line.specs.Inner.Rules.{option_rule_by, place_rule_by, options_app};
 

@@ -1,9 +1,9 @@
 //! The words after a command, as `clap` reads them.
-ghost use Rattle.std.specs.Prelude.{◌≡◌, ◌<◌, ◌^◌, IfOk, OnErr, IfErr, List, ℕ, Some, None, map, string_bytes};
+ghost use Rattle.std.specs.Prelude.{◌≡◌, ◌<◌, ◌^◌, IfOk, IfErr, List, ℕ, Some, None, map, string_bytes};
 ghost use Rattle.std.specs.Str.Parse.{IsNumeral, without_leading_plus};
 ghost use Rattle.clap.specs.Words.{app_of, rows_of, found_of, kind_of, one_text};
-ghost use Rattle.command_line.specs.Words.{AreItems, Item, number_of, options_of, positionals, AreArguments, Options as OptionsOf};
-ghost use Rattle.command_line.specs.Inner.Rules.{options_app, app_with};
+ghost use Rattle.command_line.specs.Words.{AreItems, Item, number_of, options_of, AreArguments, Options as OptionsOf};
+ghost use Rattle.command_line.specs.Inner.Rules.{app_with};
 ghost use Rattle.command_line.specs.Inner.Matches.{Finds, IsRefused, final, item_rows};
 ghost use Rattle.command_line.specs.Commands.{options_in};
 ghost use Rattle.command_line.specs.Inner.Reading.{AreWords, places_in, names_in};
