@@ -1,0 +1,10 @@
+pub mod Built
+pub mod Walking
+pub mod Cutting
+pub mod Uses
+pub mod Looking
+pub mod Accepting
+pub mod Keeping
+pub mod Choosing
+pub mod Unique
+pub mod Ranges

@@ -1,0 +1,54 @@
+-- What the program keeps of its words, as a form.
+use Rattle.std.specs.Prelude.{List, ℕ, option_map}
+use Rattle.std.specs.List.{Contains}
+use Rattle.command_line.specs.declared.options.Options.{Options as CodeOptions}
+use Rattle.command_line.specs.declared.tasks.CommandName.{CommandName}
+use Rattle.command_line.specs.declared.tasks.CommandName.TheVariants as named
+use Rattle.command_line.specs.declared.tasks.Task.{Task as CodeTask}
+use Rattle.command_line.specs.declared.tasks.Task.TheVariants as code
+use Rattle.command_line.specs.declared.tasks.Command.{Command}
+use Rattle.command_line.specs.declared.tasks.Command.TheVariants.{Help, Version, Run}
+use Rattle.command_line.specs.Words.{Options, Task, parse, generate, types, expand, check, self_test, scope, batch, transfer, Form, help, version, run, IsForm}
+
+-- the options that options of the program stand for
+abbrev pub options_in : CodeOptions → Options
+options_in o = record { workers = o.workers; edges = o.edges; readings = o.readings; lexical = o.lexical; unary = o.unary; empty = o.empty; settings = option_map (λ s. s.now) o.settings; mrs = o.mrs; lattice = o.lattice }
+
+-- the task that a task of the program stands for
+abbrev pub task : CodeTask → Task
+task (code.Parse grammar) = parse grammar.now
+task (code.Generate grammar) = generate grammar.now
+task (code.Types grammar) = types grammar.now
+task (code.Expand grammar entry) = expand grammar.now entry.now
+task (code.Check grammar) = check grammar.now
+task (code.SelfTest seed size) = self_test seed size
+task code.Scope = scope
+task (code.Batch grammar profile) = batch grammar.now profile.now
+task (code.Transfer rules) = transfer rules.now
+
+-- the form that a command of the program stands for
+abbrev pub form : Command → Form
+form Help = help
+form Version = version
+form (Run t options) = run (task t) (options_in options)
+
+-- the command of a task
+abbrev pub command_in : Task → CommandName
+command_in (parse grammar) = named.Parse
+command_in (generate grammar) = named.Generate
+command_in (types grammar) = named.Types
+command_in (expand grammar entry) = named.Expand
+command_in (check grammar) = named.Check
+command_in (self_test seed size) = named.SelfTest
+command_in scope = named.Scope
+command_in (batch grammar profile) = named.Batch
+command_in (transfer rules) = named.Transfer
+
+-- the form's command, where it has one, is among these
+abbrev pub IsAmong : List CommandName → Form → Type 0
+IsAmong commands (run task options) = Contains commands (command_in task)
+IsAmong commands other = Unit {0}
+
+-- The words are of this form in a program that has these commands alone.
+abbrev pub IsFormAmong : List CommandName → List (List ℕ) → Form → Type 0
+IsFormAmong commands words form = IsForm words form × IsAmong commands form

@@ -1,0 +1,74 @@
+-- How the program reads its words: what it looks at before `clap` does, and its tables. No contract of a public function cites it.
+use Rattle.std.specs.Prelude.{◌≡◌, ℕ, List, [], ◌∷◌, Option, Some, None, Bool, true, ◌||◌, codes, if◌then◌else◌}
+use Rattle.std.specs.Str.{bytes_eq}
+use Rattle.command_line.specs.declared.reading.Places.{Places}
+use Rattle.command_line.specs.declared.reading.Places.TheVariants.{NoPlace, OneName, TwoNames, TwoNumbers}
+use Rattle.command_line.specs.declared.tasks.CommandName.{CommandName}
+use Rattle.command_line.specs.declared.tasks.CommandName.TheVariants as named
+use Rattle.command_line.specs.Words.{OptionName, Workers, Edges, Readings, Lexical, Unary, Empty, Settings, Mrs, Lattice, Value, number, name, Task, parse, generate, types, expand, check, self_test, scope, batch, transfer, Form, help, version, is_name, word_of, number_of}
+
+-- a word of a command line after the command's: that of an option, or a name
+pub data IsWord : List ℕ → Type 0 where
+  of_option : (o : OptionName) → IsWord (word_of o)
+  of_name : (w : List ℕ) → is_name w ≡ true → IsWord w
+
+pub data AreWords : List (List ℕ) → Type 0 where
+  no_word : AreWords []
+  a_word : (w : List ℕ) (ws : List (List ℕ)) → IsWord w → AreWords ws → AreWords (w ∷ ws)
+
+-- the places of positional words
+abbrev pub places_in : Places → List Value
+places_in NoPlace = []
+places_in OneName = name ∷ []
+places_in TwoNames = name ∷ name ∷ []
+places_in TwoNumbers = number 0 18446744073709551615 ∷ number 1 1000 ∷ []
+
+-- the positional words, by the places that there are
+abbrev pub names_in : Places → List ℕ → List ℕ → List (List ℕ)
+names_in NoPlace first second = []
+names_in OneName first second = first ∷ []
+names_in places first second = first ∷ second ∷ []
+
+-- a word of an option
+abbrev pub is_option_word : List ℕ → Bool
+is_option_word w = bytes_eq w (word_of Workers) || (bytes_eq w (word_of Edges) || (bytes_eq w (word_of Readings) || (bytes_eq w (word_of Lexical)
+    || (bytes_eq w (word_of Unary) || (bytes_eq w (word_of Empty) || (bytes_eq w (word_of Settings) || (bytes_eq w (word_of Mrs) || bytes_eq w (word_of Lattice))))))))
+
+abbrev pub is_word : List ℕ → Bool
+is_word w = is_name w || is_option_word w
+
+-- the command that goes by a word
+abbrev pub command_named : List ℕ → Option CommandName
+command_named w = if bytes_eq w (codes "parse") then Some named.Parse
+    else (if bytes_eq w (codes "generate") then Some named.Generate
+    else (if bytes_eq w (codes "types") then Some named.Types
+    else (if bytes_eq w (codes "expand") then Some named.Expand
+    else (if bytes_eq w (codes "check") then Some named.Check
+    else (if bytes_eq w (codes "self-test") then Some named.SelfTest
+    else (if bytes_eq w (codes "scope") then Some named.Scope
+    else (if bytes_eq w (codes "batch") then Some named.Batch
+    else (if bytes_eq w (codes "transfer") then Some named.Transfer else None))))))))
+
+abbrev pub places_by : CommandName → Places
+places_by named.Expand = TwoNames
+places_by named.Batch = TwoNames
+places_by named.SelfTest = TwoNumbers
+places_by named.Scope = NoPlace
+places_by other = OneName
+
+-- the task of a command with these positional words
+abbrev pub task_by : CommandName → List ℕ → List ℕ → Task
+task_by named.Parse first second = parse first
+task_by named.Generate first second = generate first
+task_by named.Types first second = types first
+task_by named.Expand first second = expand first second
+task_by named.Check first second = check first
+task_by named.SelfTest first second = self_test (number_of first) (number_of second)
+task_by named.Scope first second = scope
+task_by named.Batch first second = batch first second
+task_by named.Transfer first second = transfer first
+
+-- the form that has one word alone
+abbrev pub alone_form : List (List ℕ) → Option Form
+alone_form (w ∷ []) = if bytes_eq w (codes "--help") then Some help else (if bytes_eq w (codes "--version") then Some version else None)
+alone_form words = None
