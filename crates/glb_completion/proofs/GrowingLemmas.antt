@@ -1,5 +1,5 @@
 -- The list of sets while it grows.
-use Rattle.std.proofs.Common.{ℕ, zero, suc, ◌≡◌, ◌≢◌, ◌≤◌, ◌<◌, ◌+◌, ◌*◌, ◌&&◌, ◌||◌, not, ◌⊎◌, inl, inr, Bool, true, false, cond, List, [], ◌∷◌, ◌++◌, length, filter, take, slice_index_or, slice_set, Vec, All, Contains, refl, sym, ◌∙◌, ap, subst, arith}
+use Rattle.std.proofs.Common.{ℕ, zero, suc, ◌≡◌, ◌≢◌, ◌≤◌, ◌<◌, ◌+◌, ◌-◌, ◌*◌, ◌/◌, ◌&&◌, ◌||◌, not, ◌⊎◌, inl, inr, Bool, true, false, cond, List, [], ◌∷◌, ◌++◌, length, filter, take, slice_index_or, slice_set, Vec, All, Contains, refl, sym, ◌∙◌, ap, subst, arith}
 use Rattle.std.specs.Global.{Global}
 use Rattle.std.specs.List.{list_all, list_any, range_with_len}
 use Rattle.std.specs.Str.{bytes_eq}
@@ -9,8 +9,8 @@ use Rattle.std.proofs.lemmas.Slice.Eq.{bytes_eq-Decides}
 use Rattle.type_hierarchy.specs.Bits.{has_bit, bits_below, IsRow}
 use Rattle.type_hierarchy.specs.Table.{TypeTable, set_of, has_member, intersection, common, IsIntersection, IsFamily}
 use Rattle.type_hierarchy.specs.Laws.{IsRising, IsHierarchy}
-use Rattle.type_hierarchy.specs.Reach.{lists}
-use Rattle.type_hierarchy.specs.Inside.{sets_of, row_items}
+use Rattle.type_hierarchy.specs.Inner.Reach.{lists}
+use Rattle.type_hierarchy.specs.Inner.Tables.{sets_of, row_items}
 use Rattle.type_hierarchy.proofs.SetLemmas.{differ, bool_cases, and_left, and_right, and_both, or_cases, or_left, or_right, member_bits, member_intersection, rising_filter, rising_below, rising_same, rising_intersection, filter_same, filter_twice, not_empty, empty_of}
 use Rattle.type_hierarchy.proofs.ListLemmas.{any_index, any_at}
 use Rattle.type_hierarchy.proofs.TypeLemmas.{set_row, row_at_is, row_known, common_is}
@@ -19,7 +19,7 @@ use Rattle.type_hierarchy.proofs.FamilyLemmas.{common-append, common_down}
 use Rattle.glb_completion.specs.Completion.{most_completed, HasTooMany, IsCompleteFault}
 use Rattle.glb_completion.specs.declared.fault.CompleteFault.{CompleteFault}
 use Rattle.glb_completion.specs.declared.fault.CompleteFault.TheVariants.{TooManyTypes, NoMemory}
-use Rattle.glb_completion.specs.Growing.{IsUpRow, set_at, IsAbove, IsGrowing, StartsWith, IsMet, IsSpread, HasNear, IsTurned, Adds, was_there, is_pushed, IsFull}
+use Rattle.glb_completion.specs.Inner.Growing.{IsUpRow, set_at, IsAbove, IsGrowing, StartsWith, IsMet, IsSpread, HasNear, Adds, was_there, is_pushed, IsFull}
 
 -- rows that are pushed
 pub row_old : (keys : List (Vec ℕ Global)) (v : Vec ℕ Global) (k : ℕ) → k < length keys → row_items (keys ++ v ∷ []) k ≡ row_items keys k
@@ -448,97 +448,6 @@ begun h laws keys above t b all = record {
     set_is : (k : ℕ) → k < length keys → set_at h keys k ≡ set_of h k
     set_is k l = set_row h.written keys k l ∙ b.sets k (omega (arith, l, b.size))
 
--- rows of what is above each type
-pub record IsTurning (h : TypeTable) (first rows : List (Vec ℕ Global)) (u t : ℕ) : Type 0 where
-  pub rows_are : All (λ row. IsRow h.written row.items) rows
-  pub size : length rows ≡ length first
-  pub others : (k : ℕ) → k < length first → (x : ℕ) → x ≢ u → has_bit (row_items rows k) x ≡ has_bit (row_items first k) x
-  pub done : (k : ℕ) → k < t → k < length first → has_bit (row_items rows k) u ≡ (has_bit (row_items first k) u || has_member (set_of h u) k)
-  pub rest : (k : ℕ) → t ≤ k → k < length first → has_bit (row_items rows k) u ≡ has_bit (row_items first k) u
-
-pub turn_more : (h : TypeTable) (first rows new : List (Vec ℕ Global)) (u t : ℕ) (old row : Vec ℕ Global) → IsTurning h first rows u t → t < length rows → u < h.written →
-    old ≡ slice_index_or rows t old → new ≡ slice_set rows t row → has_bit row.items u ≡ (has_bit old.items u || has_member (set_of h u) t) →
-    ((y : ℕ) → y ≢ u → has_bit row.items y ≡ has_bit old.items y) → ((n : ℕ) → u < n → IsRow n old.items → IsRow n row.items) → IsTurning h first new u (t + 1)
-turn_more h first rows new u t old row s l u_in is set has others keeps = record {
-  rows_are = λ k d m. rows_at k d m (same_or_other k);
-  size = len ∙ s.size;
-  others = λ k m x ne. others_at k m x ne (same_or_other k);
-  done = λ k m m'. done_at k m m' (same_or_other k);
-  rest = λ k m m'. rest_at k m m' (same_or_other k);
-}
-  where
-    len : length new ≡ length rows
-    len = ap length set ∙ length-set rows t row
-
-    same_or_other : (k : ℕ) → (k ≡ t) ⊎ (k ≢ t)
-    same_or_other k = go (cases_lt k t) (cases_lt t k)
-      where
-        go : (k < t) ⊎ (t ≤ k) → (t < k) ⊎ (k ≤ t) → (k ≡ t) ⊎ (k ≢ t)
-        go (inl a) _ = inr (λ e. omega arith)
-        go (inr a) (inl b) = inr (λ e. omega arith)
-        go (inr a) (inr b) = inl (omega arith)
-
-    here : (d : Vec ℕ Global) → slice_index_or new t d ≡ row
-    here d = ap (λ q. slice_index_or q t d) set ∙ get_or-set_same rows t row d l
-
-    apart : (k : ℕ) (d : Vec ℕ Global) → k ≢ t → slice_index_or new k d ≡ slice_index_or rows k d
-    apart k d ne = ap (λ q. slice_index_or q k d) set ∙ get_or-set_other rows t k row d ne
-
-    row_here : row_items new t ≡ row.items
-    row_here = get_or-map (λ r. r.items) new t old [] (omega (arith, len, l)) ∙ ap (λ r. r.items) (here old)
-
-    row_was : row_items rows t ≡ old.items
-    row_was = get_or-map (λ r. r.items) rows t old [] l ∙ ap (λ r. r.items) (sym is)
-
-    row_apart : (k : ℕ) → k < length first → k ≢ t → row_items new k ≡ row_items rows k
-    row_apart k m ne = get_or-map (λ r. r.items) new k old [] (omega (arith, len, s.size, m)) ∙ ap (λ r. r.items) (apart k old ne) ∙ sym (get_or-map (λ r. r.items) rows k old [] (omega (arith, s.size, m)))
-
-    was_row : IsRow h.written old.items
-    was_row = subst (λ v. IsRow h.written v.items) (sym is) (s.rows_are t old l)
-
-    rows_at : (k : ℕ) (d : Vec ℕ Global) → k < length new → (k ≡ t) ⊎ (k ≢ t) → IsRow h.written (slice_index_or new k d).items
-    rows_at k d m (inl e) = subst (λ v. IsRow h.written v.items) (sym (ap (λ j. slice_index_or new j d) e ∙ here d)) (keeps h.written u_in was_row)
-    rows_at k d m (inr ne) = subst (λ v. IsRow h.written v.items) (sym (apart k d ne)) (s.rows_are k d (omega (arith, len, m)))
-
-    others_at : (k : ℕ) → k < length first → (x : ℕ) → x ≢ u → (k ≡ t) ⊎ (k ≢ t) → has_bit (row_items new k) x ≡ has_bit (row_items first k) x
-    others_at k m x ne (inr a) = ap (λ w. has_bit w x) (row_apart k m a) ∙ s.others k m x ne
-    others_at k m x ne (inl e) = ap (λ j. has_bit (row_items new j) x) e ∙ ap (λ w. has_bit w x) row_here ∙ others x ne ∙ ap (λ w. has_bit w x) (sym row_was) ∙ ap (λ j. has_bit (row_items rows j) x) (sym e) ∙ s.others k m x ne
-
-    done_at : (k : ℕ) → k < t + 1 → k < length first → (k ≡ t) ⊎ (k ≢ t) → has_bit (row_items new k) u ≡ (has_bit (row_items first k) u || has_member (set_of h u) k)
-    done_at k m m' (inr a) = ap (λ w. has_bit w u) (row_apart k m' a) ∙ s.done k (earlier (split k t m)) m'
-      where
-        earlier : (k < t) ⊎ (t ≡ k) → k < t
-        earlier (inl b) = b
-        earlier (inr b) = absurd (a (sym b))
-    done_at k m m' (inl e) =
-        ap (λ j. has_bit (row_items new j) u) e ∙ ap (λ w. has_bit w u) row_here ∙ has
-        ∙ ap (λ p. p || has_member (set_of h u) t) (ap (λ w. has_bit w u) (sym row_was) ∙ s.rest t (omega arith) (subst (λ j. j < length first) e m'))
-        ∙ ap (λ j. has_bit (row_items first j) u || has_member (set_of h u) j) (sym e)
-
-    rest_at : (k : ℕ) → t + 1 ≤ k → k < length first → (k ≡ t) ⊎ (k ≢ t) → has_bit (row_items new k) u ≡ has_bit (row_items first k) u
-    rest_at k m m' (inl e) = absurd (omega arith)
-    rest_at k m m' (inr a) = ap (λ w. has_bit w u) (row_apart k m' a) ∙ s.rest k (omega arith) m'
-
--- the rows, as far as they were turned
-pub record HasTurned (h : TypeTable) (rows : List (Vec ℕ Global)) (u : ℕ) : Type 0 where
-  pub rows_are : All (λ row. IsRow h.written row.items) rows
-  pub size : length rows ≡ h.written
-  pub told : (t v : ℕ) → t < h.written → v < u → has_bit (row_items rows t) v ≡ has_member (set_of h v) t
-  pub unset : (t v : ℕ) → t < h.written → u ≤ v → has_bit (row_items rows t) v ≡ false
-
-pub turned_more : (h : TypeTable) (old new : List (Vec ℕ Global)) (u : ℕ) → HasTurned h old u → All (λ row. IsRow h.written row.items) new → IsTurned h old new u → HasTurned h new (u + 1)
-turned_more h old new u s r m = record {
-  rows_are = r;
-  size = m.size ∙ s.size;
-  told = λ t v in_t l. told t v in_t (split v u l);
-  unset = λ t v in_t l. m.others t (omega (arith, in_t, s.size)) v (λ e. omega arith) ∙ s.unset t v in_t (omega arith);
-}
-  where
-    told : (t v : ℕ) → t < h.written → (v < u) ⊎ (u ≡ v) → has_bit (row_items new t) v ≡ has_member (set_of h v) t
-    told t v in_t (inl l) = m.others t (omega (arith, in_t, s.size)) v (λ e. omega arith) ∙ s.told t v in_t l
-    told t v in_t (inr e) = subst (λ x. has_bit (row_items new t) x ≡ has_member (set_of h x) t) e
-        (m.put t (omega (arith, in_t, s.size)) ∙ ap (λ b. b || has_member (set_of h u) t) (s.unset t u in_t (omega arith)))
-
 -- a row as the code reads it
 pub row_seen : (keys now : List (Vec ℕ Global)) (k : ℕ) (v : Vec ℕ Global) (set : List ℕ) → now ≡ keys → k < length keys → v ≡ slice_index_or now k v → set ≡ v.items → set ≡ row_items keys k
 row_seen keys now k v set e h is s = s ∙ ap (λ r. r.items) (is ∙ ap (λ q. slice_index_or q k v) e) ∙ sym (get_or-map (λ r. r.items) keys k v [] h)
@@ -578,6 +487,17 @@ nearing_keeps h set near x x' e n here = record {
     go : (y : ℕ) → x' ≤ y → y < h.written → has_bit set y ≡ true → (x' < y) ⊎ (y ≤ x') → has_bit near y ≡ true
     go y low y_in s (inl l) = n.covered y (omega arith) y_in s
     go y low y_in s (inr l) = let same : x' ≡ y = omega arith in subst (λ z. has_bit near z ≡ true) same (here (subst (λ z. has_bit set z ≡ true) (sym same) s))
+
+-- a word whose members are all near
+pub nearing_passed : (h : TypeTable) (set near : List ℕ) (x word : ℕ) → 0 < x → word ≡ (x - 1) / 64 → ((y : ℕ) → y / 64 ≡ word → has_bit set y ≡ true → has_bit near y ≡ true) → IsNearing h set near x → IsNearing h set near (64 * word)
+nearing_passed h set near x word some is all n = record {
+  closed = n.closed;
+  covered = λ y low y_in s. go y low y_in s (cases_lt y x);
+}
+  where
+    go : (y : ℕ) → 64 * word ≤ y → y < h.written → has_bit set y ≡ true → (y < x) ⊎ (x ≤ y) → has_bit near y ≡ true
+    go y low y_in s (inr l) = n.covered y l y_in s
+    go y low y_in s (inl l) = all y (omega arith) s
 
 pub near_of : (h : TypeTable) (set near : List ℕ) (x : ℕ) → x ≡ 0 → IsNearing h set near x → HasNear h set near
 near_of h set near x e n y t y_in t_in s m = n.closed y t y_in t_in (n.covered y (omega arith) y_in s) m
@@ -647,11 +567,15 @@ closed_met h laws first keys above at t p in_at in_t s no_ is = go (bool_cases (
     go (inr a) (inl b) = outer_met h laws keys above at t s.growing here in_t b
     go (inr a) (inr b) = absurd (differ _ (is ∙ and_both (not (has_bit (row_items keys at) t)) (not (has_bit (row_items above at) t)) (ap not a) (ap not b)) no_)
 
-pub far_met : (h : TypeTable) (laws : IsHierarchy h) (first keys above : List (Vec ℕ Global)) (at t : ℕ) (set near : List ℕ) → at < length first → t < h.written → IsSpreading h first keys above at t →
-    set ≡ row_items first at → HasNear h set near → has_bit near t ≡ false → IsMet h keys at t
-far_met h laws first keys above at t set near in_at in_t s is n no_ =
-    apart_met h laws keys at t (still_in keys first at s.more in_at)
-    (λ x l a m. differ _ (n x t l in_t (ap (λ q. has_bit q x) (is ∙ sym (row_kept keys first at s.more in_at)) ∙ a) m) no_)
+-- types that share no member with the set are passed over
+pub spreading_passed : (h : TypeTable) (laws : IsHierarchy h) (first keys above : List (Vec ℕ Global)) (at from to : ℕ) (set near : List ℕ) → at < length first → to ≤ h.written → set ≡ row_items first at → HasNear h set near →
+    ((t : ℕ) → from ≤ t → t < to → has_bit near t ≡ false) → IsSpreading h first keys above at from → IsSpreading h first keys above at to
+spreading_passed h laws first keys above at from to set near in_at within is n none s = record { growing = s.growing; more = s.more; met = λ t l. go t l (cases_lt t from) }
+  where
+    go : (t : ℕ) → t < to → (t < from) ⊎ (from ≤ t) → IsMet h keys at t
+    go t l (inl before) = s.met t before
+    go t l (inr after) = apart_met h laws keys at t (still_in keys first at s.more in_at)
+        (λ x x_in a m. differ _ (n x t x_in (omega arith) (ap (λ q. has_bit q x) (is ∙ sym (row_kept keys first at s.more in_at)) ∙ a) m) (none t after l))
 
 pub is_among : (keys : List (Vec ℕ Global)) (row : List ℕ) → list_any (λ k. bytes_eq row k.items) keys ≡ true → (k : ℕ) × (k < length keys) × (row_items keys k ≡ row)
 is_among [] row e = absurd (differ _ e refl)

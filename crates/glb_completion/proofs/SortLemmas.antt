@@ -8,12 +8,12 @@ use Rattle.std.specs.Cmp.Lexicographic.{slice_cmp}
 use Rattle.std.proofs.lemmas.Bool.{cases_lt}
 use Rattle.std.proofs.lemmas.List.{length-map, length-append, length-set, length-drop, get_or-set_same, get_or-set_other, get_or-map, same_lists, get_or-take, get_or_default, take-append-drop, length-take-le, map-append, take-map, take_rest}
 use Rattle.std.proofs.lemmas.List.Sorted.{IsPermutation-append_right, IsPermutation-map, IsPermutation-keeps, All-permutation, Contains-permutation, length_permutation}
-use Rattle.type_hierarchy.specs.Reach.{lists}
+use Rattle.type_hierarchy.specs.Inner.Reach.{lists}
 use Rattle.type_hierarchy.specs.Table.{TypeTable, IsIntersection, IsDistinct, IsFamily}
 use Rattle.type_hierarchy.specs.Laws.{IsHierarchy}
-use Rattle.type_hierarchy.specs.Inside.{sets_of}
+use Rattle.type_hierarchy.specs.Inner.Tables.{sets_of}
 use Rattle.type_hierarchy.specs.Bits.{bits_below}
-use Rattle.glb_completion.specs.Growing.{IsGrowing}
+use Rattle.glb_completion.specs.Inner.Growing.{IsGrowing}
 
 abbrev IsOneToOne : List (List ℕ) → Type 0
 IsOneToOne xs = (a b : ℕ) → a < length xs → b < length xs → slice_index_or xs a [] ≡ slice_index_or xs b [] → a ≡ b

@@ -1,2 +1,2 @@
 pub mod Completion
-pub mod Growing
+pub mod Inner

@@ -6,11 +6,11 @@ ghost use Rattle.std.specs.Ordering.{nat_cmp};
 ghost use Rattle.std.specs.Cmp.Lexicographic.{slice_cmp};
 ghost use Rattle.type_hierarchy.specs.Bits.{IsRow};
 ghost use Rattle.type_hierarchy.specs.Decls.{texts};
-ghost use Rattle.type_hierarchy.specs.Reach.{lists};
-ghost use Rattle.type_hierarchy.specs.Inside.{sets_of};
+ghost use Rattle.type_hierarchy.specs.Inner.Reach.{lists};
+ghost use Rattle.type_hierarchy.specs.Inner.Tables.{sets_of};
 ghost use Rattle.type_hierarchy.specs.Table.{IsFamily};
 ghost use Rattle.glb_completion.specs.Completion.{IsCompletionOf, IsCompleteFault};
-ghost use Rattle.glb_completion.specs.Growing.{IsGrowing};
+ghost use Rattle.glb_completion.specs.Inner.Growing.{IsGrowing};
 
 use crate::family::Family;
 use crate::fault::CompleteFault;

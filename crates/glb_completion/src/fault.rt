@@ -6,7 +6,7 @@ ghost use Rattle.glb_completion.specs.declared.fault.CompleteFault.TheVariants.{
 use std::alloc::{AllocError, AllocFailed};
 
 /// Why a hierarchy isn't completed.
-#[derive(Clone, Copy, Debug, PartialEq, Eq)]
+#[derive(Clone, Copy, Debug)]
 pub enum CompleteFault {
     /// There are more than 65,535 completed types.
     TooManyTypes,

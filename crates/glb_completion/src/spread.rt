@@ -2,17 +2,18 @@
 
 ghost use Rattle.std.specs.Prelude.{◌≡◌, ℕ, ◌<◌, ◌≤◌, ◌*◌, ◌&&◌, ◌||◌, not, length, IfOk, IfErr, OnOk, All};
 ghost use Rattle.type_hierarchy.specs.Bits.{has_bit, IsRow};
-ghost use Rattle.type_hierarchy.specs.Inside.{row_items};
+ghost use Rattle.type_hierarchy.specs.Inner.Tables.{row_items};
 ghost use Rattle.type_hierarchy.specs.Laws.{IsHierarchy};
 ghost use Rattle.glb_completion.specs.Completion.{IsCompleteFault};
-ghost use Rattle.glb_completion.specs.Growing.{IsUpRow, IsGrowing, HasNear, StartsWith, IsMet, IsSpread};
+ghost use Rattle.glb_completion.specs.Inner.Growing.{IsUpRow, IsGrowing, HasNear, StartsWith, IsMet, IsSpread};
 
 use crate::family::Family;
 use crate::fault::CompleteFault;
 use std::alloc::{AllocError, Global};
 use type_hierarchy::{Hierarchy, bits};
 
-// The types that have a member in common with a set.
+// The types that have a member in common with a set: those above its members. The lowest members are taken first,
+// since what is above them is above the others, too. Words whose members are all there are passed over.
 fn near(
     alloc: Global,
     h: &Hierarchy,
@@ -29,9 +30,14 @@ fn near(
     let mut x = h.count();
     let mut near = bits::empty(alloc, x)?;
     while x > 0 {
-        x -= 1;
-        if bits::has(set, x) && !bits::has(&near, x) {
-            near = bits::united(alloc, &near, &above[x as usize])?;
+        let word = (x - 1) / 64;
+        if bits::is_word_subset(set, &near, word) {
+            x = 64 * word;
+        } else {
+            x -= 1;
+            if bits::has(set, x) && !bits::has(&near, x) {
+                bits::extend(&mut near, &above[x as usize]);
+            }
         }
     }
     Ok(near)
@@ -81,10 +87,13 @@ pub fn spread(
     ensures fault { IfErr result (IsCompleteFault h.now) }
 {
     let near = near(alloc, h, &family.above, &family.sets.as_slice()[at])?;
-    for t in 0..h.count() {
-        if bits::has(&near, t) && is_open(family, at, t) {
+    let count = h.count();
+    let mut t = bits::next(&near, 0, count);
+    while t < count {
+        if is_open(family, at, t) {
             meet_with(alloc, h, family, at, t)?;
         }
+        t = bits::next(&near, t + 1, count);
     }
     Ok(())
 }

@@ -1,11 +1,12 @@
 -- Bits of words.
 use Rattle.std.proofs.Common.{ℕ, zero, suc, ◌≡◌, ◌≢◌, ◌≤◌, ◌<◌, ◌+◌, ◌-◌, ◌*◌, ◌/◌, ◌%◌, ◌^◌, ◌==◌, ◌&&◌, ◌||◌, ◌⊎◌, inl, inr, Bool, true, false, cond, List, [], ◌∷◌, ◌++◌, length, filter, slice_index, slice_index_or, slice_set, All, refl, sym, ◌∙◌, ap, subst, arith, max, min, bit_and, bit_or, add-one, lit<}
-use Rattle.std.specs.Int.{bit_at, w64}
+use Rattle.std.specs.Int.{bit_at, trailing_zeros, w64}
+use Rattle.std.proofs.Math.Nat.{div-le_self, div-div-eq-div-mul}
 use Rattle.std.specs.List.{range_with_len}
-use Rattle.std.proofs.lemmas.Nat.Bits.{bit_at_and, bit_at_or, bit_at-lt, bit_at-zero, bit_at_set_same, bit_at_set_other, same_from_bits_below}
+use Rattle.std.proofs.lemmas.Nat.Bits.{bit_at_and, bit_at_or, bit_at-lt, bit_at-zero, bit_at_set_same, bit_at_set_other, bit_at_above, bit_at-trailing_zeros, same_from_bits_below}
 use Rattle.std.proofs.lemmas.List.{get_or-set_same, get_or-set_other, get_or_past, get_or_default, length-set, ext_get_or, append-nil, append_assoc}
 use Rattle.std.proofs.lemmas.List.Elements.{filter-append}
-use Rattle.std.proofs.lemmas.Nat.{and_le_l, or_lt}
+use Rattle.std.proofs.lemmas.Nat.{and_le_l, or_lt, pow-add}
 use Rattle.std.proofs.lemmas.Bool.{cases_lt}
 use Rattle.type_hierarchy.specs.Bits.{has_bit, bits_below, IsRow}
 
@@ -171,6 +172,22 @@ pub implies : (p q : Bool) → (p && q) ≡ p → p ≡ true → q ≡ true
 implies true q h e = h
 implies false q h e = cc
 
+pub subset_bits : (a b : List ℕ) (n : ℕ) → length a ≤ n → ((k : ℕ) → k < n → bit_and (slice_index a k) (slice_index b k) ≡ slice_index a k) →
+    (x : ℕ) → has_bit a x ≡ true → has_bit b x ≡ true
+subset_bits a b n all sub x e = go (cases_lt (x / 64) n)
+  where
+    go : (x / 64 < n) ⊎ (n ≤ x / 64) → has_bit b x ≡ true
+    go (inl h) = implies _ _ (sym (ap (λ w. w == 1) (bit_at_and _ _ (x % 64)) ∙ min_is _ _ (bit_at-lt (slice_index a (x / 64)) (x % 64)) (bit_at-lt (slice_index b (x / 64)) (x % 64)))
+        ∙ ap (λ w. bit_at w (x % 64) == 1) (sub (x / 64) h)) e
+    go (inr h) = absurd (bad (has_bit-past a x (omega arith)))
+      where
+        bad : has_bit a x ≡ false → ⊥
+        bad f = cc
+
+pub word_subset : (a b : List ℕ) (k : ℕ) → bit_and (slice_index a k) (slice_index b k) ≡ slice_index a k → (x : ℕ) → x / 64 ≡ k → has_bit a x ≡ true → has_bit b x ≡ true
+word_subset a b k same x e = implies _ _ (sym (ap (λ w. w == 1) (bit_at_and _ _ (x % 64)) ∙ min_is _ _ (bit_at-lt (slice_index a (x / 64)) (x % 64)) (bit_at-lt (slice_index b (x / 64)) (x % 64)))
+    ∙ ap (λ w. bit_at w (x % 64) == 1) (subst (λ j. bit_and (slice_index a j) (slice_index b j) ≡ slice_index a j) (sym e) same))
+
 pub range_more : (a k : ℕ) → range_with_len a (k + 1) ≡ range_with_len a k ++ (a + k) ∷ []
 range_more a k = ap (range_with_len a) (add-one k) ∙ go a k
   where
@@ -248,12 +265,56 @@ filter_none p a (suc n) h =
     ap (λ b. cond b (a ∷ filter p (range_with_len (a + 1) n)) (filter p (range_with_len (a + 1) n))) (h a (omega arith) (omega arith))
     ∙ filter_none p (a + 1) n (λ x low high. h x (omega arith) (omega arith))
 
-pub members_none : (words items : List ℕ) (from to : ℕ) → from ≤ to → to ≤ from + 64 → from % 64 ≡ 0 → slice_index words (from / 64) ≡ 0 → items ≡ bits_below from words → items ≡ bits_below to words
-members_none words items from to h near even e is =
-    members_more words items items from to h is
-    (sym (append-nil items) ∙ ap (λ l. items ++ l) (sym (filter_none (has_bit words) from (to - from)
-    (λ x low high. let same : x / 64 ≡ from / 64 = omega arith in
-    ap (λ k. bit_at (slice_index words k) (x % 64) == 1) same ∙ ap (λ w. bit_at w (x % 64) == 1) e ∙ ap (λ w. w == 1) (bit_at-zero (x % 64))))))
+pub members_skip : (words items : List ℕ) (from to : ℕ) → from ≤ to → ((x : ℕ) → from ≤ x → x < to → has_bit words x ≡ false) → items ≡ bits_below from words → items ≡ bits_below to words
+members_skip words items from to h none is =
+    members_more words items items from to h is (sym (append-nil items) ∙ ap (λ l. items ++ l) (sym (filter_none (has_bit words) from (to - from) (λ x low high. none x low (omega arith)))))
+
+-- the bits of a word that is shifted down
+shifted : (w s i : ℕ) → bit_at (w / 2 ^ s) i ≡ bit_at w (s + i)
+shifted w s i = ap (λ q. q % 2) (div-div-eq-div-mul w (2 ^ s) (2 ^ i) ∙ ap (λ d. w / d) (sym (pow-add 2 s i)))
+
+-- a number whose word is that of an earlier one
+pub bit_on : (words : List ℕ) (at i : ℕ) → at % 64 + i < 64 → has_bit words (at + i) ≡ (bit_at (slice_index words (at / 64) / 2 ^ (at % 64)) i == 1)
+bit_on words at i h =
+    let q : (at + i) / 64 ≡ at / 64 = omega arith in
+    let r : (at + i) % 64 ≡ at % 64 + i = omega arith in
+    ap (λ y. bit_at (slice_index words y) ((at + i) % 64) == 1) q ∙ ap (λ y. bit_at (slice_index words (at / 64)) y == 1) r ∙ ap (λ b. b == 1) (sym (shifted (slice_index words (at / 64)) (at % 64) i))
+
+-- the first member from a number on, where its word has one
+pub record IsNext (words : List ℕ) (at i : ℕ) : Type 0 where
+  pub within : at % 64 + i < 64
+  pub none_before : (x : ℕ) → at ≤ x → x < at + i → has_bit words x ≡ false
+  pub member : has_bit words (at + i) ≡ true
+
+pub next_in_word : (words : List ℕ) (at left : ℕ) → slice_index words (at / 64) < 2 ^ 64 → left ≡ slice_index words (at / 64) / 2 ^ (at % 64) → left ≢ 0 → IsNext words at (trailing_zeros w64 left)
+next_in_word words at left fits is some = record {
+  within = within;
+  none_before = λ x low high.
+      let there : at + (x - at) ≡ x = omega arith in
+      subst (λ y. has_bit words y ≡ false) there (bit_on words at (x - at) (omega (arith, within)) ∙ ap (λ w. bit_at w (x - at) == 1) (sym is) ∙ ap (λ b. b == 1) (low_bits.1.1 (x - at) (omega arith)));
+  member = bit_on words at (trailing_zeros w64 left) within ∙ ap (λ w. bit_at w (trailing_zeros w64 left) == 1) (sym is) ∙ ap (λ b. b == 1) low_bits.1.0;
+}
+  where
+    small : left < 2 ^ 64
+    small = omega (arith, is, fits, div-le_self (slice_index words (at / 64)) (2 ^ (at % 64)))
+
+    low_bits : (trailing_zeros w64 left < 64) × ((bit_at left (trailing_zeros w64 left) ≡ 1) × ((i : ℕ) → i < trailing_zeros w64 left → bit_at left i ≡ 0))
+    low_bits = let b = bit_at-trailing_zeros w64 left (omega arith) small in (b.0, (b.1, b.2))
+
+    within : at % 64 + trailing_zeros w64 left < 64
+    within = go (cases_lt (at % 64 + trailing_zeros w64 left) 64)
+      where
+        one_not_zero : (n : ℕ) → n ≡ 1 → n ≡ 0 → ⊥
+        one_not_zero n e f = omega arith
+
+        go : (at % 64 + trailing_zeros w64 left < 64) ⊎ (64 ≤ at % 64 + trailing_zeros w64 left) → at % 64 + trailing_zeros w64 left < 64
+        go (inl h) = h
+        go (inr h) = absurd (one_not_zero _ low_bits.1.0 (ap (λ w. bit_at w (trailing_zeros w64 left)) is ∙ shifted (slice_index words (at / 64)) (at % 64) (trailing_zeros w64 left) ∙ bit_at_above _ 64 _ fits h))
+
+pub none_in_word : (words : List ℕ) (at left : ℕ) → left ≡ slice_index words (at / 64) / 2 ^ (at % 64) → left ≡ 0 → (x : ℕ) → at ≤ x → x < at + (64 - at % 64) → has_bit words x ≡ false
+none_in_word words at left is none x low high =
+    let there : at + (x - at) ≡ x = omega arith in
+    subst (λ y. has_bit words y ≡ false) there (bit_on words at (x - at) (omega arith) ∙ ap (λ w. bit_at w (x - at) == 1) (sym is ∙ none) ∙ ap (λ b. b == 1) (bit_at-zero (x - at)))
 
 pub filter_push : (p : ℕ → Bool) (n : ℕ) → p n ≡ true → filter p (range_with_len 0 n) ++ n ∷ [] ≡ filter p (range_with_len 0 (n + 1))
 filter_push p n e = sym (ap (filter p) (range_push n) ∙ filter-append p (range_with_len 0 n) (n ∷ []) ∙ ap (λ b. filter p (range_with_len 0 n) ++ cond b (n ∷ []) []) e)

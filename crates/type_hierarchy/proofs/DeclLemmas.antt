@@ -12,10 +12,10 @@ use Rattle.type_hierarchy.specs.Decls.{Name, Declared, declared, decls_of, bare,
 use Rattle.type_hierarchy.specs.Order.{Has, here, there, IsAtOrBelow, itself, above_parent, IsBelow}
 use Rattle.type_hierarchy.specs.Faults.{HasNoReserved, HasNoCycle, IsCyclic, IsFirst}
 use Rattle.type_hierarchy.specs.declared.decl.Decl.{Decl}
-use Rattle.type_hierarchy.specs.Reach.{lists, IsFirstCycle}
-use Rattle.type_hierarchy.specs.Rows.{AreRows, HoldOrder, row_at}
+use Rattle.type_hierarchy.specs.Inner.Reach.{lists, IsFirstCycle}
+use Rattle.type_hierarchy.specs.Inner.Rows.{AreRows, HoldOrder, row_at}
 use Rattle.type_hierarchy.specs.Table.{has_member, IsHierarchyOf}
-use Rattle.type_hierarchy.specs.Inside.{hierarchy_table, IsHierarchyInside}
+use Rattle.type_hierarchy.specs.Inner.Tables.{hierarchy_table, IsHierarchyInside}
 use Rattle.type_hierarchy.proofs.SetLemmas.{differ, bool_cases, or_left, position_some, member_bits, eq_false}
 use Rattle.std.specs.String.{string_bytes}
 use Rattle.type_hierarchy.proofs.ListLemmas.{any_index, any_at}

@@ -10,12 +10,13 @@ use Rattle.std.proofs.lemmas.List.FromFn.{length-map-range_with_len, map-range_w
 use Rattle.std.proofs.lemmas.Slice.Eq.{bytes_eq-Decides}
 use Rattle.type_hierarchy.specs.Bits.{has_bit, bits_below, IsRow}
 use Rattle.type_hierarchy.specs.Decls.{Name, texts}
-use Rattle.type_hierarchy.specs.Reach.{lists}
+use Rattle.type_hierarchy.specs.Inner.Reach.{lists}
 use Rattle.type_hierarchy.specs.Table.{TypeTable, set_of, has_member, intersection, common, IsIntersection, IsDistinct, IsFamily, glb_name, table_of}
 use Rattle.type_hierarchy.specs.Named.{ArePlaces}
-use Rattle.type_hierarchy.specs.Marks.{AreMarks}
+use Rattle.type_hierarchy.specs.Inner.Marks.{AreMarks}
+use Rattle.type_hierarchy.specs.Inner.Columns.{AreColumns}
 use Rattle.type_hierarchy.specs.Laws.{IsOrder, IsClosed, IsRising, IsHierarchy}
-use Rattle.type_hierarchy.specs.Inside.{types_table, sets_of, IsTypesInside}
+use Rattle.type_hierarchy.specs.Inner.Tables.{types_table, sets_of, IsTypesInside}
 use Rattle.type_hierarchy.proofs.TypeLemmas.{set_row}
 use Rattle.type_hierarchy.proofs.ListLemmas.{any_at, any_index}
 use Rattle.type_hierarchy.proofs.SetLemmas.{bool_cases, eq_true, member_filter, member_range, filter_same, filter_twice, rising_filter, rising_below, and_both, and_left, and_right, or_cases, or_left, or_right, eq_of}
@@ -128,13 +129,14 @@ table_is names keys w s h added strings a b c d =
     ∙ ap (λ (x : ℕ). let t : TypeTable = record { names = h.names ++ map glb_name (range_with_len 1 (length added)) ++ strings; sets = h.sets ++ added; written = x; string_type = s } in t) c
     ∙ ap (λ (x : ℕ). let t : TypeTable = record { names = h.names ++ map glb_name (range_with_len 1 (length added)) ++ strings; sets = h.sets ++ added; written = h.written; string_type = x } in t) d
 
-pub types_inside : (names : List (String Global)) (keys : List (Vec ℕ Global)) (w s : ℕ) (h : TypeTable) (added : List (List ℕ)) (strings : List Name) (places : List (String Global × ℕ)) (marks : List ℕ) →
+pub types_inside : (names : List (String Global)) (keys : List (Vec ℕ Global)) (w s : ℕ) (h : TypeTable) (added : List (List ℕ)) (strings : List Name) (places : List (String Global × ℕ)) (marks : List ℕ) (columns : List (Vec ℕ Global)) →
     IsHierarchy h → IsFamily h (h.sets ++ added) → h.written + length added + length strings < 2 ^ 32 → All (λ row. IsRow w row.items) keys →
     texts names ≡ h.names ++ map glb_name (range_with_len 1 (length added)) ++ strings → sets_of w keys ≡ h.sets ++ added → w ≡ h.written → s ≡ h.string_type →
-    ArePlaces places (take (length keys) (texts names)) → AreMarks keys marks → IsTypesInside names keys w s places marks
-types_inside names keys w s h added strings places marks laws family few rows a b c d p m = record {
+    ArePlaces places (take (length keys) (texts names)) → AreMarks keys marks → AreColumns w keys columns → IsTypesInside names keys w s places marks columns
+types_inside names keys w s h added strings places marks columns laws family few rows a b c d p m q = record {
   places_are = p;
   marks_are = m;
+  columns_are = q;
   rows_are = rows;
   few = omega (arith, c, laws.few);
   numbered = omega (

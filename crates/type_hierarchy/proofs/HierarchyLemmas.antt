@@ -6,11 +6,11 @@ use Rattle.std.proofs.lemmas.Bool.{cases_lt}
 use Rattle.std.proofs.lemmas.List.{length-map, get_or_past}
 use Rattle.type_hierarchy.specs.Bits.{has_bit, bits_below}
 use Rattle.type_hierarchy.specs.Order.{Has, IsAtOrBelow, itself, above_parent, IsBelow}
-use Rattle.type_hierarchy.specs.Reach.{lists}
-use Rattle.type_hierarchy.specs.Rows.{AreRows, HoldOrder, row_at}
+use Rattle.type_hierarchy.specs.Inner.Reach.{lists}
+use Rattle.type_hierarchy.specs.Inner.Rows.{AreRows, HoldOrder, row_at}
 use Rattle.type_hierarchy.specs.Table.{TypeTable, has_member}
 use Rattle.type_hierarchy.specs.Laws.{IsRising}
-use Rattle.type_hierarchy.specs.Inside.{hierarchy_table, IsHierarchyInside}
+use Rattle.type_hierarchy.specs.Inner.Tables.{hierarchy_table, IsHierarchyInside}
 use Rattle.type_hierarchy.proofs.SetLemmas.{differ, bool_cases, eq_of, or_cases, member_bits, rising_filter, not_empty, member_range, rising_below}
 use Rattle.type_hierarchy.proofs.BitLemmas.{has_bit-past}
 use Rattle.std.specs.String.{string_bytes}

@@ -6,10 +6,14 @@ pub mod ParentLemmas
 pub mod SetLemmas
 pub mod LawLemmas
 pub mod RowLemmas
+pub mod ColumnLemmas
+pub mod RaiseLemmas
+pub mod RankLemmas
 pub mod HierarchyLemmas
 pub mod DeclLemmas
 pub mod TypeLemmas
 pub mod FamilyLemmas
 pub mod MarkLemmas
 pub mod PlaceLemmas
+pub mod CandidateLemmas
 pub mod SupertypeLemmas

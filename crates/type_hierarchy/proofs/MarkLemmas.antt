@@ -7,8 +7,8 @@ use Rattle.std.proofs.lemmas.Nat.{and_le_l, or_lt}
 use Rattle.std.proofs.lemmas.Nat.Bits.{bit_at_and, bit_at-lt, bit_at-zero, bit_at_set_same, bit_at_set_other, bit_at_clear_same, bit_at_clear_other, bit_at_above, bit_at-trailing_zeros, same_from_bits_below}
 use Rattle.std.proofs.lemmas.List.{length-append, get_or_append_left, get_or_at, get_or-map}
 use Rattle.type_hierarchy.specs.Bits.{has_bit}
-use Rattle.type_hierarchy.specs.Reach.{lists}
-use Rattle.type_hierarchy.specs.Marks.{bit_of, IsMark}
+use Rattle.type_hierarchy.specs.Inner.Reach.{lists}
+use Rattle.type_hierarchy.specs.Inner.Marks.{bit_of, IsMark}
 use Rattle.type_hierarchy.proofs.BitLemmas.{small_cases, min_is, has_bit-past, has_bit-at, and_bit, zero_of, one_of, implied, implies}
 use Rattle.type_hierarchy.proofs.SetLemmas.{differ, bool_cases, and_left, and_right}
 

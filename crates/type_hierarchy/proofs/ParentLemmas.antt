@@ -9,8 +9,8 @@ use Rattle.type_hierarchy.specs.declared.decl.TypeFault.{TypeFault}
 use Rattle.type_hierarchy.specs.declared.decl.TypeFault.TheVariants.{Duplicate, Unknown, Cycle, Reserved, TooMany, NoMemory}
 use Rattle.type_hierarchy.specs.Decls.{Name, Declared, bare, at_place, is_type, types_of, names_of, parent_names, number_of}
 use Rattle.type_hierarchy.specs.Faults.{IsUnknown}
-use Rattle.type_hierarchy.specs.Parents.{is_known, parent_at, AllKnown, IsUnknownOf, IsUnknownFault, implied}
-use Rattle.type_hierarchy.specs.Reach.{lists}
+use Rattle.type_hierarchy.specs.Inner.Parents.{is_known, parent_at, AllKnown, IsUnknownOf, IsUnknownFault, implied}
+use Rattle.type_hierarchy.specs.Inner.Reach.{lists}
 use Rattle.std.specs.Prelude.{position, unwrap_or, Some, None}
 use Rattle.type_hierarchy.proofs.ListLemmas.{list_any-map, any_at}
 use Rattle.type_hierarchy.proofs.SetLemmas.{bool_cases, or_cases, position_some, position_at}

@@ -5,7 +5,7 @@ use Rattle.std.proofs.Math.ListN.{set}
 use Rattle.std.proofs.lemmas.List.{get_or-set_same, get_or-set_other, length-set, get_or-map, length-map, length-replicate}
 use Rattle.std.proofs.lemmas.Bool.{cases_lt}
 use Rattle.type_hierarchy.specs.Order.{Has, here, there, IsAtOrBelow, itself, above_parent, IsBelow}
-use Rattle.type_hierarchy.specs.Reach.{visited, IsReach, lists}
+use Rattle.type_hierarchy.specs.Inner.Reach.{visited, IsReach, lists}
 
 abbrev pub mark : List Bool → ℕ → Bool
 mark seen x = slice_index_or seen x false

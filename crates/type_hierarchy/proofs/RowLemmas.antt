@@ -7,9 +7,9 @@ use Rattle.std.proofs.lemmas.Bool.{cases_lt}
 use Rattle.std.proofs.lemmas.List.{length-set, length-append, get_or-set_same, get_or-set_other, get_or-map, get_or_past, get_or_default, get_or-replicate, length-replicate, take_all, drop_all, append-nil, take_more, get_or_append_left, get_or_push, map-append}
 use Rattle.std.proofs.lemmas.List.Folds.{list_any-append}
 use Rattle.type_hierarchy.specs.Bits.{has_bit, IsRow}
-use Rattle.type_hierarchy.specs.Reach.{lists, IsReach}
+use Rattle.type_hierarchy.specs.Inner.Reach.{lists, IsReach}
 use Rattle.std.proofs.Common.{◌↔◌}
-use Rattle.type_hierarchy.specs.Rows.{AreRows, row_at, Marks}
+use Rattle.type_hierarchy.specs.Inner.Rows.{AreRows, row_at, Marks}
 use Rattle.type_hierarchy.specs.Order.{IsAtOrBelow, itself, above_parent, IsBelow}
 use Rattle.type_hierarchy.specs.Table.{has_member}
 use Rattle.type_hierarchy.proofs.SetLemmas.{differ, bool_cases, eq_true, eq_of, or_cases, or_left, or_right}

@@ -1,5 +1,5 @@
 -- The lowest of the types above one, taken in rising order.
-use Rattle.std.proofs.Common.{ℕ, zero, suc, ◌≡◌, ◌≤◌, ◌<◌, ◌+◌, ◌==◌, ◌&&◌, ◌||◌, not, ◌⊎◌, inl, inr, Bool, true, false, cond, List, [], ◌∷◌, ◌++◌, length, filter, take, slice_index_or, All, refl, sym, ◌∙◌, ap, subst, arith}
+use Rattle.std.proofs.Common.{ℕ, zero, suc, ◌≡◌, ◌≤◌, ◌<◌, ◌+◌, ◌-◌, ◌==◌, ◌&&◌, ◌||◌, not, ◌⊎◌, inl, inr, Bool, true, false, cond, List, [], ◌∷◌, ◌++◌, length, filter, take, slice_index_or, All, refl, sym, ◌∙◌, ap, subst, arith}
 use Rattle.std.specs.List.{list_any, range_with_len}
 use Rattle.std.proofs.lemmas.Bool.{cases_lt}
 use Rattle.std.proofs.lemmas.List.{take_more}
@@ -7,6 +7,7 @@ use Rattle.std.proofs.lemmas.List.Elements.{filter_more}
 use Rattle.type_hierarchy.specs.declared.types.Ty.{Ty}
 use Rattle.type_hierarchy.specs.Table.{TypeTable, count_of, completed_count, is_below, has_member}
 use Rattle.type_hierarchy.specs.Laws.{HasTypeLaws, IsRising}
+use Rattle.type_hierarchy.specs.Bits.{has_bit}
 use Rattle.type_hierarchy.specs.Supertypes.{is_strictly_below, has_between, supertypes_of, numbers_of}
 use Rattle.type_hierarchy.proofs.BitLemmas.{filter_push, filter_skip}
 use Rattle.type_hierarchy.proofs.SetLemmas.{differ, bool_cases, same_bools, eq_true, eq_of, eq_false, and_left, and_right, and_both, or_cases, or_left, or_right, member_filter, member_range, rising_filter, rising_below, rising_same, filter_same, filter_twice}
@@ -116,6 +117,34 @@ lowest_skip types t n kept e l = record {
     go u s (inl h) = l.covered u h s
     go u s (inr h) = absurd (differ _ s (ap (is_strictly_below types t) h ∙ e))
 
+pub not_strictly : (types : TypeTable) (a b : ℕ) → (a ≡ b) ⊎ (is_below types a b ≡ false) → is_strictly_below types a b ≡ false
+not_strictly types a b (inl e) = ap (λ p. p && is_below types a b) (not_false (a == b) (ap (λ z. a == z) (sym e) ∙ eq_true a))
+not_strictly types a b (inr e) = ap (λ p. not (a == b) && p) e ∙ and_false (not (a == b))
+  where
+    and_false : (p : Bool) → (p && false) ≡ false
+    and_false true = refl
+    and_false false = refl
+
+-- types that aren't above t are passed over
+pub lowest_passed : (types : TypeTable) (t from to : ℕ) (kept : List ℕ) → from ≤ to → ((u : ℕ) → from ≤ u → u < to → is_strictly_below types t u ≡ false) →
+    IsLowest types t from kept → IsLowest types t to kept
+lowest_passed types t from to kept h none l = subst (λ n. IsLowest types t n kept) (omega arith) (go from (to - from) (λ u low high. none u low (omega arith)) l)
+  where
+    go : (a n : ℕ) → ((u : ℕ) → a ≤ u → u < a + n → is_strictly_below types t u ≡ false) → IsLowest types t a kept → IsLowest types t (a + n) kept
+    go a zero f k = subst (λ m. IsLowest types t m kept) (omega arith) k
+    go a (suc n) f k = subst (λ m. IsLowest types t m kept) (shift a n) (go (a + 1) n (λ u low high. f u (omega arith) (omega arith)) (lowest_skip types t a kept (f a (omega arith) (omega arith)) k))
+      where
+        shift : (a n : ℕ) → a + 1 + n ≡ a + suc n
+        shift a n = omega arith
+
+-- a type that isn't among those that may be above t
+pub not_above : (types : TypeTable) (t u : ℕ) (row : List ℕ) → (is_below types t u ≡ true → has_bit row u ≡ true) → has_bit row u ≡ false → is_strictly_below types t u ≡ false
+not_above types t u row has none = not_strictly types t u (inr (go (bool_cases (is_below types t u))))
+  where
+    go : (is_below types t u ≡ true) ⊎ (is_below types t u ≡ false) → is_below types t u ≡ false
+    go (inl e) = absurd (differ _ (has e) none)
+    go (inr e) = e
+
 -- one of the types is below the next one
 pub lowest_stays : (types : TypeTable) (t n : ℕ) (kept : List ℕ) → list_any (λ u. is_below types u n) kept ≡ true → IsLowest types t n kept → IsLowest types t (n + 1) kept
 lowest_stays types t n kept e l = record {
@@ -215,14 +244,6 @@ lowest_next types t n kept new laws s stays changes l = go (bool_cases (list_any
 
 pub strictly : (types : TypeTable) (a b : ℕ) → (a ≡ b → ⊥) → is_below types a b ≡ true → is_strictly_below types a b ≡ true
 strictly types a b apart e = and_both _ _ (not_true _ (eq_false a b apart)) e
-
-pub not_strictly : (types : TypeTable) (a b : ℕ) → (a ≡ b) ⊎ (is_below types a b ≡ false) → is_strictly_below types a b ≡ false
-not_strictly types a b (inl e) = ap (λ p. p && is_below types a b) (not_false (a == b) (ap (λ z. a == z) (sym e) ∙ eq_true a))
-not_strictly types a b (inr e) = ap (λ p. not (a == b) && p) e ∙ and_false (not (a == b))
-  where
-    and_false : (p : Bool) → (p && false) ≡ false
-    and_false true = refl
-    and_false false = refl
 
 member_at : (xs : List ℕ) (k d : ℕ) → k < length xs → has_member xs (slice_index_or xs k d) ≡ true
 member_at [] k d h = absurd (omega arith)

@@ -10,8 +10,8 @@ use Rattle.std.proofs.lemmas.Slice.Eq.{bytes_eq-Decides}
 use Rattle.type_hierarchy.specs.Bits.{has_bit, bits_below, IsRow}
 use Rattle.type_hierarchy.specs.Table.{TypeTable, set_of, has_member, is_subset, intersection, is_same, is_set_below, is_below, type_of_set, meet_of}
 use Rattle.type_hierarchy.specs.Laws.{IsOrder}
-use Rattle.type_hierarchy.specs.Marks.{IsMark, AreMarks}
-use Rattle.type_hierarchy.specs.Inside.{types_table, row_items, place_of_common}
+use Rattle.type_hierarchy.specs.Inner.Marks.{IsMark, AreMarks}
+use Rattle.type_hierarchy.specs.Inner.Tables.{types_table, row_items, place_of_common}
 use Rattle.type_hierarchy.proofs.BitLemmas.{words_same}
 use Rattle.type_hierarchy.proofs.ListLemmas.{position-map}
 use Rattle.type_hierarchy.proofs.SetLemmas.{differ, bool_cases, same_bools, eq_false, member_bits, member_bits_past, member_intersection, rising_filter, rising_intersection, rising_same, and_both, and_left, and_right, lt_false, empty_of, position_some, position_at}

@@ -1,13 +1,9 @@
 pub mod Bits
 pub mod Decls
 pub mod Order
-pub mod Reach
 pub mod Faults
-pub mod Parents
-pub mod Rows
 pub mod Table
 pub mod Laws
 pub mod Named
-pub mod Marks
-pub mod Inside
 pub mod Supertypes
+pub mod Inner

@@ -3,8 +3,8 @@
 ghost use Rattle.std.specs.Prelude.{◌≡◌, ◌≢◌, ℕ, ◌+◌, ◌-◌, ◌*◌, ◌/◌, ◌<◌, ◌≤◌, ◌^◌, ◌&&◌, ◌||◌, ◌==◌, ◌↔◌, ◌++◌, length, filter, IfOk, OnOk, IsTrue, true, false, All};
 ghost use Rattle.std.specs.List.{range_with_len};
 ghost use Rattle.type_hierarchy.specs.Bits.{has_bit, bits_below, IsRow};
-ghost use Rattle.type_hierarchy.specs.Reach.{lists};
-ghost use Rattle.type_hierarchy.specs.Rows.{AreEmpty};
+ghost use Rattle.type_hierarchy.specs.Inner.Reach.{lists};
+ghost use Rattle.type_hierarchy.specs.Inner.Rows.{AreEmpty};
 
 use std::alloc::{AllocError, Global};
 
@@ -71,33 +71,62 @@ pub fn are_disjoint(a: &[u64], b: &[u64]) -> bool
     true
 }
 
-// Adds the members from `from` on, below `to`, in rising order.
-fn push_members(found: &mut Vec<u32>, words: &[u64], from: u32, to: u32) -> Result<(), AllocError>
-    requires rising { from ≤ to }
-    requires within { to ≤ 64 * length words.now }
-    ensures { OnOk result (found.new.items ≡ found.old.items ++ filter (has_bit words.now) (range_with_len from (to - from))) }
+/// Whether the second set has each member of the first.
+pub fn is_subset(a: &[u64], b: &[u64]) -> bool
+    requires { length a.now ≡ length b.now }
+    ensures { IsTrue result → (x : ℕ) → has_bit a.now x ≡ true → has_bit b.now x ≡ true }
 {
-    for x in from..to {
-        if has(words, x) {
-            found.push(x)?;
+    for i in 0..a.len() {
+        if a[i] & b[i] != a[i] {
+            return false;
         }
     }
-    Ok(())
+    true
 }
 
-/// The members below `count`, in rising order. Words without members are passed over.
+/// Whether the second set has each member of the first among the 64 numbers of a word.
+pub fn is_word_subset(a: &[u64], b: &[u64], word: u32) -> bool
+    requires a_in { word < length a.now }
+    requires b_in { word < length b.now }
+    ensures { IsTrue result → (x : ℕ) → x / 64 ≡ word → has_bit a.now x ≡ true → has_bit b.now x ≡ true }
+{
+    let i = word as usize;
+    if a[i] & b[i] != a[i] {
+        return false;
+    }
+    true
+}
+
+/// The first member from `from` on that is below `count`, and `count` where there is none.
+pub fn next(words: &[u64], from: u32, count: u32) -> u32
+    requires rising { from ≤ count }
+    requires within { count ≤ 64 * length words.now }
+    ensures low { from ≤ result }
+    ensures high { result ≤ count }
+    ensures none_before { (x : ℕ) → from ≤ x → x < result → has_bit words.now x ≡ false }
+    ensures member { result < count → has_bit words.now result ≡ true }
+{
+    let mut at = from;
+    while at < count {
+        let left = words[(at / 64) as usize] >> (at % 64);
+        if left != 0 {
+            return at.saturating_add(left.trailing_zeros()).min(count);
+        }
+        at = at.saturating_add(64 - at % 64).min(count);
+    }
+    count
+}
+
+/// The members below `count`, in rising order.
 pub fn members(alloc: Global, words: &[u64], count: u32) -> Result<Vec<u32>, AllocError>
     requires { count ≤ 64 * length words.now }
     ensures { IfOk result (λ v. v.items ≡ bits_below count words.now) }
 {
     let mut found = Vec::new(alloc);
-    let mut from = 0u32;
-    while from < count {
-        let to = from.saturating_add(64).min(count);
-        if words[(from / 64) as usize] != 0 {
-            push_members(&mut found, words, from, to)?;
-        }
-        from = to;
+    let mut x = next(words, 0, count);
+    while x < count {
+        found.push(x)?;
+        x = next(words, x + 1, count);
     }
     Ok(found)
 }
@@ -134,6 +163,15 @@ pub fn common(alloc: Global, a: &[u64], b: &[u64]) -> Result<Vec<u64>, AllocErro
     Ok(row)
 }
 
+/// Puts all members of the other set into the set.
+pub fn extend(row: &mut Vec<u64>, other: &[u64])
+    requires { length row.old.items ≡ length other.now }
+    ensures has { (x : ℕ) → has_bit row.new.items x ≡ (has_bit row.old.items x || has_bit other.now x) }
+    ensures row { (n : ℕ) → IsRow n row.old.items → IsRow n other.now → IsRow n row.new.items }
+{
+    unite(row, other);
+}
+
 /// The members of either set.
 pub fn united(alloc: Global, a: &[u64], b: &[u64]) -> Result<Vec<u64>, AllocError>
     requires { length a.now ≡ length b.now }
@@ -145,14 +183,14 @@ pub fn united(alloc: Global, a: &[u64], b: &[u64]) -> Result<Vec<u64>, AllocErro
     Ok(row)
 }
 
-/// As many empty sets of numbers below `count` as there are such numbers.
-pub fn empty_rows(alloc: Global, count: u32) -> Result<Vec<Vec<u64>>, AllocError>
-    ensures size { IfOk result (λ rows. length rows.items ≡ count) }
+/// Empty sets of numbers below `count`, as many as `size` says.
+pub fn empty_rows(alloc: Global, size: u32, count: u32) -> Result<Vec<Vec<u64>>, AllocError>
+    ensures size { IfOk result (λ rows. length rows.items ≡ size) }
     ensures rows { IfOk result (λ rows. All (λ row. IsRow count row.items) rows.items) }
     ensures none { IfOk result (λ rows. AreEmpty (lists rows.items)) }
 {
-    let mut rows = Vec::with_capacity(alloc, count as usize)?;
-    'rows: while rows.len() < count as usize {
+    let mut rows = Vec::with_capacity(alloc, size as usize)?;
+    'rows: while rows.len() < size as usize {
         let row = empty(alloc, count)?;
         rows.push(row)?;
     }

@@ -1,17 +1,19 @@
 //! Written types and their order.
 
-ghost use Rattle.std.specs.Prelude.{◌≡◌, ◌≢◌, ℕ, ◌<◌, length, IsTrue, IfOk, IfErr, OnOk, false, slice_index_or, []};
+ghost use Rattle.std.specs.Prelude.{◌≡◌, ◌≢◌, ℕ, ◌<◌, length, IsTrue, IfOk, IfErr, OnOk, All, false, slice_index_or, []};
 ghost use Rattle.type_hierarchy.specs.Bits.{has_bit, IsRow};
 ghost use Rattle.type_hierarchy.specs.Decls.{decls_of};
 ghost use Rattle.type_hierarchy.specs.Faults.{IsFaultOf, IsFaultless, is_glb_name};
 ghost use Rattle.type_hierarchy.specs.Table.{TypeTable, IsHierarchyOf, set_of, has_member};
+ghost use Rattle.type_hierarchy.specs.Inner.Tables.{row_items};
 ghost use Rattle.type_hierarchy.specs.Laws.{IsHierarchy};
 
+use crate::columns::transpose;
 use crate::decl::{Decl, TypeFault};
 use crate::faults::{first_cycle, first_reserved};
 use crate::rows::rows_of;
 use crate::{bits, names, parents};
-use std::alloc::Global;
+use std::alloc::{AllocError, Global};
 use std::marker::Model;
 
 /// At most so many types are written.
@@ -31,7 +33,7 @@ impl Model for Hierarchy {
 
     ghost Value = { TypeTable };
 
-    ghost use Rattle.type_hierarchy.specs.Inside.{hierarchy_table, IsHierarchyInside};
+    ghost use Rattle.type_hierarchy.specs.Inner.Tables.{hierarchy_table, IsHierarchyInside};
 
     ghost view = { λ h. hierarchy_table h.names.items h.rows.items h.string_type };
 
@@ -107,5 +109,15 @@ impl Hierarchy {
         ensures members { (x : ℕ) → x < self.now.written → has_bit result.now x ≡ has_member (set_of self.now t) x }
     {
         &self.rows[t as usize]
+    }
+
+    /// By number, the types at or above each one, as words of bits.
+    pub fn rows_above(&self, alloc: Global) -> Result<Vec<Vec<u64>>, AllocError>
+        ensures rows { IfOk result (λ rows. All (λ row. IsRow self.now.written row.items) rows.items) }
+        ensures size { IfOk result (λ rows. length rows.items ≡ self.now.written) }
+        ensures members { IfOk result (λ rows. (t : ℕ) → t < self.now.written → (u : ℕ) → u < self.now.written → has_bit (row_items rows.items t) u ≡ has_member (set_of self.now u) t) }
+    {
+        let rows = transpose(alloc, &self.rows, self.count())?;
+        Ok(rows)
     }
 }

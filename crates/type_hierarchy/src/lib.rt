@@ -2,6 +2,8 @@
 #![tactic(auto)]
 
 pub mod bits;
+mod columns;
+mod components;
 mod decl;
 mod faults;
 mod hierarchy;

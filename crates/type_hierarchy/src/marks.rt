@@ -4,7 +4,7 @@
 ghost use Rattle.std.specs.Prelude.{◌≡◌, ℕ, ◌<◌, ◌/◌, ◌%◌, ◌&&◌, ◌↔◌, length, IfOk, IsTrue, true, false};
 ghost use Rattle.std.specs.Int.{bit_at};
 ghost use Rattle.type_hierarchy.specs.Bits.{has_bit};
-ghost use Rattle.type_hierarchy.specs.Marks.{bit_of, IsMark, AreMarks};
+ghost use Rattle.type_hierarchy.specs.Inner.Marks.{bit_of, IsMark, AreMarks};
 
 use std::alloc::{AllocError, Global};
 

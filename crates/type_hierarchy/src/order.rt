@@ -1,7 +1,7 @@
 //! What stands above a type, along parents.
 
 ghost use Rattle.std.specs.Prelude.{◌≡◌, ℕ, ◌<◌, length, All, IfOk, OnOk};
-ghost use Rattle.type_hierarchy.specs.Reach.{visited, IsReach, lists};
+ghost use Rattle.type_hierarchy.specs.Inner.Reach.{visited, IsReach, lists};
 
 use std::alloc::{AllocError, Global};
 

@@ -3,8 +3,8 @@
 ghost use Rattle.std.specs.Prelude.{◌≡◌, ◌≢◌, ℕ, ◌<◌, ◌≤◌, ◌++◌, map, length, position, unwrap_or, IsTrue, IfOk, IfErr, OnOk, true, false};
 ghost use Rattle.type_hierarchy.specs.Decls.{declared, decls_of, texts, unwritten, names_of, parent_names, number_of, parents_of};
 ghost use Rattle.type_hierarchy.specs.Faults.{HasNoUnknown};
-ghost use Rattle.type_hierarchy.specs.Reach.{lists};
-ghost use Rattle.type_hierarchy.specs.Parents.{AllKnown, IsUnknownOf, IsUnknownFault, implied};
+ghost use Rattle.type_hierarchy.specs.Inner.Reach.{lists};
+ghost use Rattle.type_hierarchy.specs.Inner.Parents.{AllKnown, IsUnknownOf, IsUnknownFault, implied};
 
 use crate::decl::{Decl, TypeFault};
 use crate::names::{is_declared, number};

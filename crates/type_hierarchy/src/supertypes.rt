@@ -5,6 +5,7 @@ ghost use Rattle.std.specs.List.{list_any};
 ghost use Rattle.type_hierarchy.specs.Table.{count_of, completed_count, is_below};
 ghost use Rattle.type_hierarchy.specs.Supertypes.{supertypes_of, numbers_of};
 
+use crate::bits;
 use crate::types::{NoMemory, Ty, Types};
 use std::alloc::{AllocError, Global};
 
@@ -38,11 +39,14 @@ fn lowest_above(alloc: Global, types: &Types, t: u32) -> Result<Vec<u32>, AllocE
 {
     types.laws();
     let completed = types.counts().completed;
+    let candidates = types.may_be_above(t);
     let mut lowest = Vec::new(alloc);
-    for above in 0..completed {
+    let mut above = bits::next(candidates, 0, completed);
+    while above < completed {
         if above != t && types.at_or_below(Ty(t), Ty(above)) {
             lowest = with_type(alloc, types, lowest, above)?;
         }
+        above = bits::next(candidates, above + 1, completed);
     }
     Ok(lowest)
 }

@@ -79,16 +79,16 @@ fn too_many_types(rt: HostRuntime) -> Result<(), Fail> {
 }
 
 #[test]
-fn order_of_a_diamond(rt: HostRuntime) -> Result<(), Fail> {
+fn order_where_types_stand_before_their_parents(rt: HostRuntime) -> Result<(), Fail> {
     let alloc = rt.alloc();
-    let lines = ["a *top*", "b *top*", "c a b", "d a b"];
+    let lines = ["c a b", "a *top*", "d e", "b *top*", "e a"];
     let Ok(h) = Hierarchy::build(alloc, &decls(alloc, &lines)?, "*top*", "string") else {
         return Err(Fail::from("no hierarchy"));
     };
-    assert_eq!(rt; h.count(), 6);
-    if h.count() > 4 {
-        assert!(rt; h.below(4, 2) && h.below(4, 3) && h.below(1, 0));
-        assert!(rt; !h.below(2, 3) && !h.below(2, 4));
+    assert_eq!(rt; h.count(), 7);
+    if h.count() > 6 {
+        assert!(rt; h.below(2, 3) && h.below(2, 5) && h.below(4, 3) && h.below(1, 0));
+        assert!(rt; !h.below(3, 2) && !h.below(4, 5) && !h.below(2, 6));
     }
     Ok(())
 }

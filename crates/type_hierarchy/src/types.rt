@@ -1,18 +1,19 @@
 //! Completed types, with strings beside them.
 
-ghost use Rattle.std.specs.Prelude.{◌≡◌, ◌≢◌, ℕ, ◌+◌, ◌-◌, ◌<◌, ◌≤◌, ◌^◌, ◌++◌, ◌↔◌, length, map, IfOk, IsTrue, Option, option_map, All, slice_index_or, []};
+ghost use Rattle.std.specs.Prelude.{◌≡◌, ◌≢◌, ℕ, ◌+◌, ◌-◌, ◌<◌, ◌≤◌, ◌^◌, ◌++◌, ◌↔◌, length, map, IfOk, IsTrue, Option, option_map, All, slice_index_or, [], true};
 ghost use Rattle.type_hierarchy.specs.Decls.{texts};
-ghost use Rattle.type_hierarchy.specs.Reach.{lists};
-ghost use Rattle.type_hierarchy.specs.Table.{TypeTable, count_of, completed_count, is_below, is_set_below, meet_of, table_of, IsFamily, IsDistinct, glb_name};
+ghost use Rattle.type_hierarchy.specs.Inner.Reach.{lists};
+ghost use Rattle.type_hierarchy.specs.Table.{TypeTable, count_of, completed_count, set_of, has_member, is_below, is_set_below, meet_of, table_of, IsFamily, IsDistinct, glb_name};
 ghost use Rattle.type_hierarchy.specs.Laws.{HasTypeLaws, IsRising};
-ghost use Rattle.type_hierarchy.specs.Bits.{IsRow, bits_below};
+ghost use Rattle.type_hierarchy.specs.Bits.{IsRow, has_bit, bits_below};
 ghost use Rattle.type_hierarchy.specs.Named.{type_named};
-ghost use Rattle.type_hierarchy.specs.Marks.{AreMarks};
-ghost use Rattle.type_hierarchy.specs.Inside.{row_items, place_of_common, sets_of};
+ghost use Rattle.type_hierarchy.specs.Inner.Marks.{AreMarks};
+ghost use Rattle.type_hierarchy.specs.Inner.Tables.{row_items, place_of_common, sets_of};
 ghost use Rattle.std.specs.List.{range_with_len};
 ghost use Rattle.std.specs.String.{string_bytes};
 
 use crate::bits;
+use crate::columns::transpose;
 use crate::hierarchy::Hierarchy;
 use crate::marks::{are_disjoint_in, is_subset_in, marks_of};
 use crate::places::{place_of, places_of};
@@ -22,11 +23,11 @@ use std::alloc::{AllocError, AllocFailed, Global};
 use std::marker::Model;
 
 /// A type by number.
-#[derive(Clone, Copy, Debug, PartialEq, Eq, PartialOrd, Ord, Hash)]
+#[derive(Clone, Copy, Debug, PartialEq, Eq)]
 pub struct Ty(pub u32);
 
 /// How many types there are: without added ones and strings, without strings, and of all.
-#[derive(Clone, Copy, Debug, PartialEq, Eq)]
+#[derive(Clone, Copy)]
 pub struct TypeCounts {
     pub written: u32,
     pub completed: u32,
@@ -34,7 +35,7 @@ pub struct TypeCounts {
 }
 
 /// Memory ran out.
-#[derive(Clone, Copy, Debug, PartialEq, Eq)]
+#[derive(Clone, Copy, Debug)]
 pub struct NoMemory;
 
 impl From<AllocError> for NoMemory {
@@ -59,6 +60,7 @@ pub struct Types {
     string_type: u32,
     places: IndexMap<String, u32>,
     marks: Vec<u64>,
+    columns: Vec<Vec<u64>>,
 }
 
 /// More words than the row of a hierarchy has.
@@ -69,11 +71,11 @@ impl Model for Types {
 
     ghost Value = { TypeTable };
 
-    ghost use Rattle.type_hierarchy.specs.Inside.{types_table, IsTypesInside};
+    ghost use Rattle.type_hierarchy.specs.Inner.Tables.{types_table, IsTypesInside};
 
     ghost view = { λ t. types_table t.names.items t.sets.keys t.written t.string_type };
 
-    ghost invariant = { λ t. IsTypesInside t.names.items t.sets.keys t.written t.string_type t.places.entries t.marks.items };
+    ghost invariant = { λ t. IsTypesInside t.names.items t.sets.keys t.written t.string_type t.places.entries t.marks.items t.columns.items };
 }
 
 impl Types {
@@ -100,6 +102,7 @@ impl Types {
         let written = rows.len() as u32;
         let rows = with_rows(alloc, rows, &added, written)?;
         let marks = marks_of(alloc, &rows)?;
+        let columns = transpose(alloc, &rows, written)?;
         let sets = indexed(alloc, rows)?;
         let names = with_names(alloc, names, added.len() as u32, strings)?;
         let places = places_of(alloc, &names, sets.len() as u32)?;
@@ -110,6 +113,7 @@ impl Types {
             string_type,
             places,
             marks,
+            columns,
         })
     }
 
@@ -162,6 +166,31 @@ impl Types {
             return bits::has(row(&self.sets, b), a);
         }
         is_subset_in(row(&self.sets, a), row(&self.sets, b), mark)
+    }
+
+    // The completed types that a type may be at or below, as words of bits: those that have a written type which is
+    // at or below it.
+    pub(crate) fn may_be_above(&self, t: u32) -> &[u64]
+        requires { t < count_of self.now }
+        ensures row { IsRow (completed_count self.now) result.now }
+        ensures has { (b : ℕ) → b < completed_count self.now → is_below self.now t b ≡ true → has_bit result.now b ≡ true }
+    {
+        &self.columns[self.written_below(t) as usize]
+    }
+
+    // A written type that is at or below a type, or for a string the string type.
+    fn written_below(&self, t: u32) -> u32
+        requires { t < count_of self.now }
+        ensures written { result < self.now.written }
+        ensures member { (b : ℕ) → b < completed_count self.now → is_below self.now t b ≡ true → has_member (set_of self.now b) result ≡ true }
+    {
+        if t as usize >= self.sets.len() {
+            return self.string_type;
+        }
+        if t < self.written {
+            return t;
+        }
+        bits::next(row(&self.sets, t), 0, self.written)
     }
 
     /// The name of a type.

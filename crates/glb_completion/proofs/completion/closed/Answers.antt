@@ -1,6 +1,6 @@
 use Rattle.std.proofs.Common.{◌≡◌, inl, inr, subst, arith}
 use Rattle.std.proofs.lemmas.Bool.{cases_lt}
-use Rattle.glb_completion.specs.Growing.{IsSpread}
+use Rattle.glb_completion.specs.Inner.Growing.{IsSpread}
 use Rattle.glb_completion.proofs.GrowingLemmas.{met_on, still_in, family_is}
 use Rattle.glb_completion.proofs.completion.closed.Goals as goal
 

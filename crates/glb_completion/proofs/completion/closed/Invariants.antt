@@ -1,5 +1,5 @@
 use Rattle.std.proofs.Common.{ℕ, ◌<◌, ◌≤◌, ◌-◌, length}
-use Rattle.glb_completion.specs.Growing.{IsGrowing, IsSpread}
+use Rattle.glb_completion.specs.Inner.Growing.{IsGrowing, IsSpread}
 use Rattle.glb_completion.specs.Completion.{most_completed}
 use Rattle.glb_completion.proofs.completion.closed.Given as goal
 

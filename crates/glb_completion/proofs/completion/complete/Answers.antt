@@ -1,4 +1,4 @@
-use Rattle.type_hierarchy.specs.Reach.{lists}
+use Rattle.type_hierarchy.specs.Inner.Reach.{lists}
 use Rattle.glb_completion.proofs.SortLemmas.{lists_sorted, reordered, reordered_few}
 use Rattle.glb_completion.proofs.completion.complete.Goals as goal
 

@@ -1,6 +1,6 @@
 use Rattle.std.proofs.Common.{◌∙◌, ◌<◌, ap, arith, length}
 use Rattle.std.proofs.lemmas.List.{take_all}
-use Rattle.type_hierarchy.specs.Inside.{sets_of}
+use Rattle.type_hierarchy.specs.Inner.Tables.{sets_of}
 use Rattle.type_hierarchy.specs.Bits.{bits_below}
 use Rattle.glb_completion.proofs.GrowingLemmas.{lists_push}
 use Rattle.glb_completion.proofs.completion.member_lists.Goals as goal

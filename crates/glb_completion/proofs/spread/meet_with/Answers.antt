@@ -2,9 +2,9 @@ use Rattle.std.proofs.Common.{◌≡◌, ◌∙◌, ◌<◌, ◌&&◌, ◌||◌,
 use Rattle.std.proofs.lemmas.Result.{on_ok_weaker, MatchResult-weaker}
 use Rattle.type_hierarchy.specs.Bits.{has_bit, IsRow}
 use Rattle.type_hierarchy.specs.Table.{intersection, set_of}
-use Rattle.type_hierarchy.specs.Inside.{row_items}
+use Rattle.type_hierarchy.specs.Inner.Tables.{row_items}
 use Rattle.type_hierarchy.proofs.TypeLemmas.{row_at_is}
-use Rattle.glb_completion.specs.Growing.{set_at, Adds}
+use Rattle.glb_completion.specs.Inner.Growing.{set_at, Adds}
 use Rattle.glb_completion.proofs.GrowingLemmas.{grown, too_many, have_common, disjoint_met, met_of_grown, full_fault, row_seen, HasGrown}
 use Rattle.glb_completion.proofs.spread.meet_with.Goals as goal
 

@@ -1,7 +1,7 @@
 use Rattle.std.proofs.Common.{◌∙◌, ◌<◌, ◌-◌, ◌||◌, length, ap, subst, sym, refl, arith}
 use Rattle.type_hierarchy.specs.Bits.{has_bit, IsRow}
 use Rattle.type_hierarchy.proofs.TypeLemmas.{row_at_is}
-use Rattle.glb_completion.specs.Growing.{IsUpRow}
+use Rattle.glb_completion.specs.Inner.Growing.{IsUpRow}
 use Rattle.glb_completion.proofs.GrowingLemmas.{nearing_starts, nearer, near_of, row_seen}
 use Rattle.glb_completion.proofs.spread.near.Goals as goal
 
@@ -17,15 +17,12 @@ loop-x-preserved-then-not-has c =
     let x = c.loop-x.x - 1 in
     let x_in : x < c.args.h.now.written = omega (arith, c.loop-x-test.true, c.loop-x.invariant.within) in
     let in_above : x < length c.args.above.now = omega (arith, x_in, c.requires.enough) in
-    let seen = row_seen c.args.above.now c.args.above.now x c.index-above-x.result c.deref-then-not-has-2.result.now refl in_above c.index-above-x.is c.deref-then-not-has-2.ensures.value in
-    let near = c.deref-then-not-has.ensures.value in
+    let seen = row_seen c.args.above.now c.args.above.now x c.index-above-x.result c.deref-then-not-has.result.now refl in_above c.index-above-x.is c.deref-then-not-has.ensures.value in
     record {
       within = omega (arith, c.loop-x.invariant.within);
-      row = c.in_ok-near-2.ensures.row c.args.h.now.written (subst (IsRow c.args.h.now.written) (sym near) c.loop-x.invariant.row)
-          (subst (IsRow c.args.h.now.written) (sym seen) (row_at_is c.args.h.now.written c.args.above.now x c.requires.rows in_above));
-      nearing = nearer c.args.h.now c.count-x.ensures.laws c.args.set.now c.loop-x.near.items c.deref-then-not-has-2.result.now c.in_ok-near-2.near.items c.loop-x.x x (omega (arith, c.loop-x-test.true)) x_in c.loop-x.invariant.nearing
-          (subst (IsUpRow c.args.h.now x) (sym seen) (c.requires.up x x_in))
-          (λ y. c.in_ok-near-2.ensures.has y ∙ ap (λ q. has_bit q y || has_bit c.deref-then-not-has-2.result.now y) near);
+      row = c.extend.ensures.row c.args.h.now.written c.loop-x.invariant.row (subst (IsRow c.args.h.now.written) (sym seen) (row_at_is c.args.h.now.written c.args.above.now x c.requires.rows in_above));
+      nearing = nearer c.args.h.now c.count-x.ensures.laws c.args.set.now c.loop-x.near.items c.deref-then-not-has.result.now c.extend.new.row.items c.loop-x.x x (omega (arith, c.loop-x-test.true)) x_in c.loop-x.invariant.nearing
+          (subst (IsUpRow c.args.h.now x) (sym seen) (c.requires.up x x_in)) c.extend.ensures.has;
     }
 
 pub returns : goal.returns

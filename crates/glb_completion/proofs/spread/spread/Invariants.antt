@@ -1,5 +1,14 @@
+use Rattle.std.proofs.Common.{◌≡◌, ◌≤◌, ◌<◌, ◌-◌, true}
+use Rattle.type_hierarchy.specs.Bits.{has_bit}
 use Rattle.glb_completion.proofs.GrowingLemmas.{IsSpreading}
 use Rattle.glb_completion.proofs.spread.spread.Given as goal
 
 abbrev pub invariant-loop-t : goal.invariant-loop-t
-invariant-loop-t l = IsSpreading l.h l.initial.family.sets.keys l.family.sets.keys l.family.above.items l.at l.t
+invariant-loop-t l =
+    record {
+      spreading : IsSpreading l.h l.initial.family.sets.keys l.family.sets.keys l.family.above.items l.at l.t;
+      within : l.t ≤ l.count;
+    }
+
+abbrev pub decreases-loop-t : goal.decreases-loop-t
+decreases-loop-t l = l.count - l.t

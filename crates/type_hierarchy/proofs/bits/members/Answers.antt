@@ -1,25 +1,19 @@
-use Rattle.std.proofs.Common.{◌≡◌, ◌%◌, arith}
-use Rattle.type_hierarchy.proofs.BitLemmas.{members_more, members_none}
+use Rattle.std.proofs.Common.{◌+◌, ◌∷◌, ◌++◌, [], ◌∙◌, refl, ap, arith}
+use Rattle.type_hierarchy.proofs.BitLemmas.{members_skip, filter_push}
+use Rattle.type_hierarchy.specs.Bits.{has_bit}
 use Rattle.type_hierarchy.proofs.bits.members.Goals as goal
 
-pub loop-from-preserved-in_ok-push_members : goal.loop-from-preserved-in_ok-push_members
-loop-from-preserved-in_ok-push_members c =
-    let even : c.loop-from.from % 64 ≡ 0 = c.loop-from.invariant.even c.loop-from-test.true in
-    let s = c.saturating_add.ensures in
-    let m = c.min-to.ensures in
-    record {
-      found = members_more c.args.words.now c.loop-from.found.items c.push_members.new.found.items c.loop-from.from c.min-to.result (omega arith) c.loop-from.invariant.found c.in_ok-push_members.ensures;
-      within = omega arith;
-      even = λ l. omega arith;
-    }
+pub loop-x-init : goal.loop-x-init
+loop-x-init c = record {
+  found = members_skip c.args.words.now c.new-found.result.items 0 c.next-x.result c.next-x.ensures.low c.next-x.ensures.none_before c.new-found.ensures.items;
+  within = c.next-x.ensures.high;
+  member = c.next-x.ensures.member;
+}
 
-pub loop-from-preserved : goal.loop-from-preserved
-loop-from-preserved c =
-    let even : c.loop-from.from % 64 ≡ 0 = c.loop-from.invariant.even c.loop-from-test.true in
-    let s = c.saturating_add.ensures in
-    let m = c.min-to.ensures in
-    record {
-      found = members_none c.args.words.now c.loop-from.found.items c.loop-from.from c.min-to.result (omega arith) (omega arith) even c.if-words-from-ne0.false c.loop-from.invariant.found;
-      within = omega arith;
-      even = λ l. omega arith;
-    }
+pub loop-x-preserved : goal.loop-x-preserved
+loop-x-preserved c = record {
+  found = members_skip c.args.words.now c.push.new.self.items (c.loop-x.x + 1) c.next-x-in-loop-x.result c.next-x-in-loop-x.ensures.low c.next-x-in-loop-x.ensures.none_before
+      (c.in_ok-push.ensures.items ∙ ap (λ l. l ++ c.loop-x.x ∷ []) c.loop-x.invariant.found ∙ filter_push (has_bit c.args.words.now) c.loop-x.x (c.loop-x.invariant.member c.loop-x-test.true));
+  within = c.next-x-in-loop-x.ensures.high;
+  member = c.next-x-in-loop-x.ensures.member;
+}

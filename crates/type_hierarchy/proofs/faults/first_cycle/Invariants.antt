@@ -1,6 +1,6 @@
 use Rattle.std.proofs.Common.{ℕ, ◌<◌, ◌≤◌}
 use Rattle.type_hierarchy.specs.Order.{IsBelow}
-use Rattle.type_hierarchy.specs.Reach.{lists}
+use Rattle.type_hierarchy.specs.Inner.Reach.{lists}
 use Rattle.type_hierarchy.proofs.faults.first_cycle.Given as goal
 
 abbrev pub invariant-loop-t : goal.invariant-loop-t

@@ -1,7 +1,7 @@
 use Rattle.std.proofs.Common.{◌<◌, ◌∙◌, ap, arith}
 use Rattle.std.specs.Int.{bit_at, w64}
 use Rattle.std.proofs.lemmas.Nat.Bits.{bit_at-trailing_zeros}
-use Rattle.type_hierarchy.specs.Marks.{bit_of}
+use Rattle.type_hierarchy.specs.Inner.Marks.{bit_of}
 use Rattle.type_hierarchy.proofs.MarkLemmas.{left_next, left_less}
 use Rattle.type_hierarchy.proofs.SetLemmas.{differ}
 use Rattle.type_hierarchy.proofs.marks.is_subset_in.Goals as goal

@@ -1,5 +1,5 @@
 use Rattle.std.proofs.Common.{arith, subst}
-use Rattle.type_hierarchy.specs.Marks.{IsMark}
+use Rattle.type_hierarchy.specs.Inner.Marks.{IsMark}
 use Rattle.type_hierarchy.proofs.MarkLemmas.{marks_push}
 use Rattle.type_hierarchy.proofs.marks.marks_of.Goals as goal
 

@@ -1,6 +1,6 @@
 use Rattle.std.proofs.Common.{◌≡◌, ◌<◌, ℕ, [], length, slice_index, slice_index_or}
-use Rattle.type_hierarchy.specs.Reach.{lists}
-use Rattle.type_hierarchy.specs.Marks.{IsMark}
+use Rattle.type_hierarchy.specs.Inner.Reach.{lists}
+use Rattle.type_hierarchy.specs.Inner.Marks.{IsMark}
 use Rattle.type_hierarchy.proofs.marks.marks_of.Given as goal
 
 abbrev pub invariant-loop-row : goal.invariant-loop-row

@@ -1,6 +1,6 @@
 use Rattle.std.proofs.Common.{◌≡◌, ◌<◌, length, All, sym, ◌∙◌, ap, subst, arith, rules}
 use Rattle.std.proofs.lemmas.List.{length-map, length-replicate}
-use Rattle.type_hierarchy.specs.Reach.{lists}
+use Rattle.type_hierarchy.specs.Inner.Reach.{lists}
 use Rattle.type_hierarchy.proofs.ReachLemmas.{reaching_starts, reaching_on, nil_of, reaching_ends, code_visits, row_at, row_in, popped_in, Visits}
 use Rattle.type_hierarchy.proofs.order.above.Goals as goal
 

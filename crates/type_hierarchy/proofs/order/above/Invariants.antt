@@ -1,5 +1,5 @@
 use Rattle.std.proofs.Common.{◌+◌, ◌*◌, length}
-use Rattle.type_hierarchy.specs.Reach.{lists}
+use Rattle.type_hierarchy.specs.Inner.Reach.{lists}
 use Rattle.type_hierarchy.proofs.ReachLemmas.{Reaching, unmarked}
 use Rattle.type_hierarchy.proofs.order.above.Given as goal
 

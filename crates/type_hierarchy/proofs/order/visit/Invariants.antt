@@ -1,5 +1,5 @@
 use Rattle.std.proofs.Common.{◌≡◌, length, drop}
-use Rattle.type_hierarchy.specs.Reach.{visited}
+use Rattle.type_hierarchy.specs.Inner.Reach.{visited}
 use Rattle.type_hierarchy.proofs.order.visit.Given as goal
 
 abbrev pub invariant-loop-t : goal.invariant-loop-t

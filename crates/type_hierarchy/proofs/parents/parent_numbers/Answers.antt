@@ -4,7 +4,7 @@ use Rattle.std.specs.Str.{bytes_eq}
 use Rattle.std.specs.String.{string_bytes}
 use Rattle.std.proofs.lemmas.List.{length-map, get_or-map}
 use Rattle.type_hierarchy.specs.Decls.{declared, texts}
-use Rattle.type_hierarchy.specs.Parents.{parent_at, is_known}
+use Rattle.type_hierarchy.specs.Inner.Parents.{parent_at, is_known}
 use Rattle.type_hierarchy.proofs.ParentLemmas.{known_push, found_known, missing_unknown, numbers_push}
 use Rattle.type_hierarchy.proofs.parents.parent_numbers.Goals as goal
 

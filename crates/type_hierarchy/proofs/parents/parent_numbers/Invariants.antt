@@ -1,6 +1,6 @@
 use Rattle.std.proofs.Common.{◌≡◌, ℕ, ◌<◌, ◌++◌, map, take, true}
 use Rattle.type_hierarchy.specs.Decls.{declared, texts, number_of}
-use Rattle.type_hierarchy.specs.Parents.{is_known, parent_at}
+use Rattle.type_hierarchy.specs.Inner.Parents.{is_known, parent_at}
 use Rattle.type_hierarchy.proofs.parents.parent_numbers.Given as goal
 
 abbrev pub invariant-loop-parent : goal.invariant-loop-parent

@@ -1,7 +1,7 @@
 use Rattle.std.proofs.Common.{◌<◌, ◌≤◌, ◌∙◌, ◌++◌, sym, ap, arith, length, map}
 use Rattle.std.proofs.lemmas.List.{length-map, take_all, map-append, append-nil}
 use Rattle.type_hierarchy.specs.Decls.{declared, decls_of, texts, unwritten, types_of, parent_names, number_of}
-use Rattle.type_hierarchy.specs.Parents.{implied}
+use Rattle.type_hierarchy.specs.Inner.Parents.{implied}
 use Rattle.type_hierarchy.proofs.NameLemmas.{place_is}
 use Rattle.type_hierarchy.proofs.ParentLemmas.{none_unknown, unknown_fault, implied_push, known_more}
 use Rattle.type_hierarchy.proofs.parents.parents_of.Goals as goal

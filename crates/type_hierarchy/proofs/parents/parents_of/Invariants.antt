@@ -1,7 +1,7 @@
 use Rattle.std.proofs.Common.{◌≡◌, ℕ, ◌<◌, ◌++◌, take}
 use Rattle.type_hierarchy.specs.Decls.{decls_of, texts, unwritten, at_place}
-use Rattle.type_hierarchy.specs.Reach.{lists}
-use Rattle.type_hierarchy.specs.Parents.{AllKnown, implied}
+use Rattle.type_hierarchy.specs.Inner.Reach.{lists}
+use Rattle.type_hierarchy.specs.Inner.Parents.{AllKnown, implied}
 use Rattle.type_hierarchy.proofs.parents.parents_of.Given as goal
 
 abbrev pub invariant-loop-decl : goal.invariant-loop-decl

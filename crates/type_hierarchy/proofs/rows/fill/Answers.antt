@@ -1,7 +1,7 @@
 use Rattle.std.proofs.Common.{◌∙◌, arith, sym, subst}
 use Rattle.std.proofs.lemmas.List.{length-map}
-use Rattle.type_hierarchy.specs.Reach.{lists}
-use Rattle.type_hierarchy.specs.Rows.{Marks}
+use Rattle.type_hierarchy.specs.Inner.Reach.{lists}
+use Rattle.type_hierarchy.specs.Inner.Rows.{Marks}
 use Rattle.type_hierarchy.proofs.RowLemmas.{fill_more}
 use Rattle.type_hierarchy.proofs.rows.fill.Goals as goal
 

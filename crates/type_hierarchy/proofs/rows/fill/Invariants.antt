@@ -1,6 +1,6 @@
 use Rattle.std.proofs.Common.{◌≡◌, length}
-use Rattle.type_hierarchy.specs.Reach.{lists}
-use Rattle.type_hierarchy.specs.Rows.{AreRows}
+use Rattle.type_hierarchy.specs.Inner.Reach.{lists}
+use Rattle.type_hierarchy.specs.Inner.Rows.{AreRows}
 use Rattle.type_hierarchy.proofs.RowLemmas.{Filled}
 use Rattle.type_hierarchy.proofs.rows.fill.Given as goal
 

@@ -1,6 +1,6 @@
 use Rattle.std.proofs.Common.{◌∙◌, ◌&&◌, ap, sym, subst, arith, length, slice_index}
 use Rattle.type_hierarchy.specs.Bits.{has_bit, IsRow}
-use Rattle.type_hierarchy.specs.Inside.{row_items, place_of_common}
+use Rattle.type_hierarchy.specs.Inner.Tables.{row_items, place_of_common}
 use Rattle.type_hierarchy.proofs.TypeLemmas.{none_common, row_at_is, same_size, found_within}
 use Rattle.type_hierarchy.proofs.MarkLemmas.{apart_by_marks}
 use Rattle.type_hierarchy.proofs.types.common_type.Goals as goal

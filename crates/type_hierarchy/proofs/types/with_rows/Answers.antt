@@ -1,8 +1,8 @@
 use Rattle.std.proofs.Common.{◌<◌, ◌∙◌, ◌++◌, All, ap, sym, subst, length, arith}
 use Rattle.std.proofs.lemmas.List.{append-nil, take_all}
 use Rattle.type_hierarchy.specs.Bits.{IsRow}
-use Rattle.type_hierarchy.specs.Reach.{lists}
-use Rattle.type_hierarchy.specs.Inside.{sets_of}
+use Rattle.type_hierarchy.specs.Inner.Reach.{lists}
+use Rattle.type_hierarchy.specs.Inner.Tables.{sets_of}
 use Rattle.type_hierarchy.specs.Laws.{IsRising}
 use Rattle.type_hierarchy.specs.Table.{has_member}
 use Rattle.type_hierarchy.proofs.RowLemmas.{push_all}

@@ -1,7 +1,7 @@
 use Rattle.std.proofs.Common.{◌≡◌, ◌++◌, take, All}
 use Rattle.type_hierarchy.specs.Bits.{IsRow}
-use Rattle.type_hierarchy.specs.Reach.{lists}
-use Rattle.type_hierarchy.specs.Inside.{sets_of}
+use Rattle.type_hierarchy.specs.Inner.Reach.{lists}
+use Rattle.type_hierarchy.specs.Inner.Tables.{sets_of}
 use Rattle.type_hierarchy.proofs.types.with_rows.Given as goal
 
 abbrev pub invariant-loop-members : goal.invariant-loop-members

@@ -1,7 +1,7 @@
 use Rattle.std.proofs.Common.{◌∙◌, ◌++◌, ◌∷◌, [], cond, ap, sym, refl, arith}
 use Rattle.std.specs.List.{list_any}
 use Rattle.std.specs.Str.{bytes_eq}
-use Rattle.glb_completion.specs.Growing.{was_there, is_pushed}
+use Rattle.glb_completion.specs.Inner.Growing.{was_there, is_pushed}
 use Rattle.glb_completion.proofs.GrowingLemmas.{is_among, isnt_among}
 use Rattle.glb_completion.proofs.family.Family.add.Goals as goal
 

@@ -3,8 +3,8 @@ use Rattle.std.proofs.lemmas.List.{length-map}
 use Rattle.type_hierarchy.specs.Decls.{declared, decls_of, texts, number_of}
 use Rattle.type_hierarchy.specs.declared.decl.Decl.{Decl}
 use Rattle.std.specs.String.{string_bytes}
-use Rattle.type_hierarchy.specs.Reach.{lists}
-use Rattle.type_hierarchy.specs.Rows.{HoldOrder}
+use Rattle.type_hierarchy.specs.Inner.Reach.{lists}
+use Rattle.type_hierarchy.specs.Inner.Rows.{HoldOrder}
 use Rattle.type_hierarchy.proofs.NameLemmas.{place_is}
 use Rattle.type_hierarchy.proofs.DeclLemmas.{built_inside, built_is, range_of, unwritten_count, no_cycle_of, first_cycle_of, types_count, number_near}
 use Rattle.type_hierarchy.proofs.hierarchy.Hierarchy.build.Goals as goal

@@ -1,7 +1,7 @@
 use Rattle.std.proofs.Common.{◌∙◌, ◌<◌, ap, sym, arith, length}
 use Rattle.type_hierarchy.specs.Bits.{has_bit, bits_below}
 use Rattle.type_hierarchy.specs.Table.{TypeTable, is_set_below}
-use Rattle.type_hierarchy.specs.Inside.{types_table}
+use Rattle.type_hierarchy.specs.Inner.Tables.{types_table}
 use Rattle.std.proofs.lemmas.List.{length-map}
 use Rattle.type_hierarchy.proofs.TypeLemmas.{row_at_is, same_size, added_below, not_set_below, mark_read, member_below, table_member, table_subset}
 use Rattle.type_hierarchy.proofs.MarkLemmas.{marks_within, within_by_mark}

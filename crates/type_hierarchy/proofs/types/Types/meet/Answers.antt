@@ -2,7 +2,7 @@ use Rattle.std.proofs.Common.{◌∙◌, ◌<◌, ap, sym, subst, arith, length}
 use Rattle.type_hierarchy.specs.Bits.{bits_below}
 use Rattle.type_hierarchy.specs.Table.{meet_of, type_of_set, intersection, set_of}
 use Rattle.type_hierarchy.specs.Laws.{IsOrder}
-use Rattle.type_hierarchy.specs.Inside.{types_table, row_items}
+use Rattle.type_hierarchy.specs.Inner.Tables.{types_table, row_items}
 use Rattle.std.proofs.lemmas.List.{length-map}
 use Rattle.type_hierarchy.proofs.LawLemmas.{meet_sets}
 use Rattle.type_hierarchy.proofs.TypeLemmas.{meet_lower, meet_swaps, set_row}

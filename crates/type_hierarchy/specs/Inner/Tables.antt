@@ -5,7 +5,8 @@ use Rattle.type_hierarchy.specs.Bits.{bits_below, IsRow}
 use Rattle.type_hierarchy.specs.Decls.{texts}
 use Rattle.type_hierarchy.specs.Table.{TypeTable, is_same, intersection}
 use Rattle.type_hierarchy.specs.Named.{ArePlaces}
-use Rattle.type_hierarchy.specs.Marks.{AreMarks}
+use Rattle.type_hierarchy.specs.Inner.Marks.{AreMarks}
+use Rattle.type_hierarchy.specs.Inner.Columns.{AreColumns}
 use Rattle.type_hierarchy.specs.Laws.{IsOrder, IsClosed, IsHierarchy}
 
 -- the sets that rows stand for
@@ -28,7 +29,7 @@ pub record IsHierarchyInside (names : List (String Global)) (rows : List (Vec �
   pub rows_are : All (λ row. IsRow (length rows) row.items) rows
   pub laws : IsHierarchy (hierarchy_table names rows string_type)
 
-pub record IsTypesInside (names : List (String Global)) (rows : List (Vec ℕ Global)) (written string_type : ℕ) (places : List (String Global × ℕ)) (marks : List ℕ) : Type 0 where
+pub record IsTypesInside (names : List (String Global)) (rows : List (Vec ℕ Global)) (written string_type : ℕ) (places : List (String Global × ℕ)) (marks : List ℕ) (columns : List (Vec ℕ Global)) : Type 0 where
   pub rows_are : All (λ row. IsRow written row.items) rows
   pub few : written ≤ 16386
   pub numbered : length names < 2 ^ 32
@@ -36,6 +37,7 @@ pub record IsTypesInside (names : List (String Global)) (rows : List (Vec ℕ Gl
   pub closed : IsClosed (types_table names rows written string_type)
   pub places_are : ArePlaces places (take (length rows) (texts names))
   pub marks_are : AreMarks rows marks
+  pub columns_are : AreColumns written rows columns
 
 abbrev pub row_items : List (Vec ℕ Global) → ℕ → List ℕ
 row_items rows k = slice_index_or (map (λ row. row.items) rows) k []

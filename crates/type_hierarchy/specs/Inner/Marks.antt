@@ -3,7 +3,7 @@ use Rattle.std.specs.Prelude.{ℕ, ◌≡◌, ◌<◌, ◌/◌, ◌%◌, ◌^◌
 use Rattle.std.specs.Global.{Global}
 use Rattle.std.specs.Int.{bit_at}
 use Rattle.type_hierarchy.specs.Bits.{has_bit}
-use Rattle.type_hierarchy.specs.Reach.{lists}
+use Rattle.type_hierarchy.specs.Inner.Reach.{lists}
 
 -- the bit that stands for the word of a number
 abbrev pub bit_of : ℕ → ℕ

@@ -3,7 +3,7 @@ use Rattle.std.specs.Prelude.{ℕ, ◌≡◌, ◌≢◌, ◌<◌, ◌≤◌, ◌
 use Rattle.std.specs.Global.{Global}
 use Rattle.type_hierarchy.specs.Bits.{has_bit, IsRow}
 use Rattle.type_hierarchy.specs.Table.{TypeTable, set_of, has_member, intersection, IsIntersection, IsDistinct}
-use Rattle.type_hierarchy.specs.Inside.{sets_of, row_items}
+use Rattle.type_hierarchy.specs.Inner.Tables.{sets_of, row_items}
 use Rattle.glb_completion.specs.declared.fault.CompleteFault.{CompleteFault}
 use Rattle.glb_completion.specs.declared.fault.CompleteFault.TheVariants.{TooManyTypes, NoMemory}
 use Rattle.glb_completion.specs.Completion.{most_completed}
@@ -11,12 +11,6 @@ use Rattle.glb_completion.specs.Completion.{most_completed}
 -- the row of what is at or above a written type
 abbrev pub IsUpRow : TypeTable → ℕ → List ℕ → Type 0
 IsUpRow h t row = (u : ℕ) → u < h.written → has_bit row u ≡ has_member (set_of h u) t
-
--- the type u was put into the rows of the types at or below it
-pub record IsTurned (h : TypeTable) (old new : List (Vec ℕ Global)) (u : ℕ) : Type 0 where
-  pub size : length new ≡ length old
-  pub others : (t : ℕ) → t < length old → (x : ℕ) → x ≢ u → has_bit (row_items new t) x ≡ has_bit (row_items old t) x
-  pub put : (t : ℕ) → t < length old → has_bit (row_items new t) u ≡ (has_bit (row_items old t) u || has_member (set_of h u) t)
 
 abbrev pub set_at : TypeTable → List (Vec ℕ Global) → ℕ → List ℕ
 set_at h keys k = slice_index_or (sets_of h.written keys) k []

@@ -1,0 +1,7 @@
+pub mod Reach
+pub mod Ranks
+pub mod Rows
+pub mod Columns
+pub mod Marks
+pub mod Parents
+pub mod Tables
