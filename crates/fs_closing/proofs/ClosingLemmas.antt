@@ -39,16 +39,6 @@ apply_exists g nodes tasks n p nodes' tasks' m r = (
   r.1,
 )
 
-pub apply_below : (g : Grammar) (nodes : Nodes) (tasks : Tasks) (n : ℕ) (p : Path) (nodes' : Nodes) (tasks' tasks'' : Tasks) (m t : ℕ) →
-    Reaches g nodes tasks n p nodes' tasks' (Some m) → IsJoined (is_under m [] t ∷ []) (work_of g.rules tasks') (work_of g.rules tasks'') →
-    AreSound g nodes' tasks'' → StepsTo g nodes (is_under n p t ∷ work_of g.rules tasks) nodes' tasks'' true
-apply_below g nodes tasks n p nodes' tasks' tasks'' m t r joined sound = (
-  Turns-order (system_of g) (deep_of nodes) (deep_of nodes') (is_under n p t ∷ work_of g.rules tasks) (is_under n p t ∷ work_of g.rules tasks)
-      (work_of g.rules tasks'') (is_under m [] t ∷ work_of g.rules tasks') (same_itself (is_under n p t ∷ work_of g.rules tasks)) (r.0 (is_under 0 [] t))
-      (joined_same (is_under m [] t ∷ []) (work_of g.rules tasks') (work_of g.rules tasks'') joined),
-  sound,
-)
-
 -- a fact by its place
 pub fact_at : (facts : List Fact) (i : ℕ) (d : Fact) (claims : List Claim) (e : Claim) → claims_of facts ≡ claims → i < length facts →
     d ≡ slice_index_or facts i d → (claim_of d ≡ slice_index_or claims i e) × (i < length claims)

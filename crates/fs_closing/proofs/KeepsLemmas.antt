@@ -1,13 +1,15 @@
 -- Steps that follow one another, and work in another order.
 use Rattle.std.proofs.Common.{ℕ, ◌≡◌, ◌≢◌, ◌≤◌, ◌<◌, ◌+◌, ◌==◌, ◌⊎◌, inl, inr, true, false, Some, None, List, [], ◌∷◌, ◌++◌, length, append_assoc, refl, sym, ◌∙◌, ap, subst, arith, eq-eqb, length-append}
 use Rattle.std.proofs.lemmas.Bool.{cases_lt, ne_eqb}
+use Rattle.std.proofs.lemmas.Option.{none-some}
 use Rattle.fs_model.specs.Claims.{Path, Claim, System, IsOrder, IsBare, Has, here, there}
-use Rattle.fs_model.specs.Closure.{Closure, same_exists, same_sym}
+use Rattle.fs_model.specs.Closure.{Closure, same_exists, same_sym, same_trans, same_type}
 use Rattle.fs_model.specs.Sources.{Told}
-use Rattle.fs_model.specs.Table.{NodeClaim, is_there, is_same, is_under, by_merge, by_work, Follows, stated, same_back, same_on, read}
-use Rattle.fs_model.specs.Steps.{InTable, before, head, Closes, Grows, Links, Merges, Lowers}
+use Rattle.fs_model.specs.Table.{NodeClaim, is_there, is_same, is_under, by_merge, by_type, by_work, Follows, stated, same_back, same_on, read}
+use Rattle.fs_model.specs.Steps.{InTable, before, head, Closes, Grows, Links, Lowers, Joins}
 use Rattle.fs_model.proofs.StepLemmas.{Closes-rework, Closes-advance, Closes-drop, Closes-grows, at_live, first_feature}
-use Rattle.fs_model.proofs.MoreSteps.{Closes-merges, Closes-lowers}
+use Rattle.fs_model.proofs.MoreSteps.{Closes-lowers}
+use Rattle.fs_model.proofs.JoinStep.{Closes-joins}
 use Rattle.fs_model.proofs.Ends.{Closes-links}
 use Rattle.fs_closing.specs.Joined.{IsJoined}
 use Rattle.fs_closing.specs.Keeps.{Deep, Stands, Turns, Refutes, IsSameWork, begin}
@@ -254,17 +256,36 @@ Turns-one s x n m work is extra g w old =
       },
     )
 
-pub Turns-merges : (s : System) (x y : Deep) (n m : ℕ) (work work' : List NodeClaim) → x.table.live n ≢ x.table.live m →
-    ((extra : List NodeClaim) → Merges x.table y.table (work ++ extra) (work' ++ extra) (x.table.live n) (x.table.live m)) →
+-- two nodes become one, of the meet of their types
+pub Turns-joins : (s : System) → IsOrder s → (x y : Deep) (n m v : ℕ) (work work' : List NodeClaim) → x.table.live n ≢ x.table.live m →
+    ((extra : List NodeClaim) → Joins s x.table y.table (work ++ extra) (work' ++ extra) (x.table.live n) (x.table.live m) v) →
     ((k : ℕ) → y.depth k ≡ x.depth k) → Turns s x (is_same n [] m [] ∷ work) y work'
-Turns-merges s x y n m work work' apart merges depth extra g w old =
+Turns-joins s o x y n m v work work' apart joins depth extra g w old =
     let in_table = old.closes.in_table _ here in (
       w,
       record {
-        closes = Closes-merges s (Told g) x.table y.table (work ++ extra) (work' ++ extra) w n m in_table.0 in_table.1 apart (merges extra) old.closes;
-        deep = λ k h. omega (arith, depth k, old.deep k (let i : k < x.table.size = omega (arith, (merges extra).size_is) in i));
+        closes = Closes-joins s o (Told g) x.table y.table (work ++ extra) (work' ++ extra) w n m v in_table.0 in_table.1 apart (joins extra) old.closes;
+        deep = λ k h. omega (arith, depth k, old.deep k (let i : k < x.table.size = omega (arith, (joins extra).size_is) in i));
       },
     )
+
+-- two nodes whose types have no meet
+pub Refutes-meet : (s : System) (x : Deep) (n m a b : ℕ) (work : List NodeClaim) → x.table.live n ≡ a → x.table.live m ≡ b →
+    s.meet (x.table.type_of a) (x.table.type_of b) ≡ None → Refutes s x (is_same n [] m [] ∷ work)
+Refutes-meet s x n m a b work is_a is_b none extra g w old ok =
+    let in_table = old.closes.in_table _ here in
+    let a_in : a < x.table.size = subst (λ k. k < x.table.size) is_a (old.closes.table.live_in n in_table.0) in
+    let b_in : b < x.table.size = subst (λ k. k < x.table.size) is_b (old.closes.table.live_in m in_table.1) in
+    let a_live : x.table.live a ≡ a = ap x.table.live (sym is_a) ∙ old.closes.table.live_twice n ∙ is_a in
+    let b_live : x.table.live b ≡ b = ap x.table.live (sym is_b) ∙ old.closes.table.live_twice m ∙ is_b in
+    let a_type = old.closes.sound.stated_in _ (by_type a a_in a_live) in
+    let b_type = old.closes.sound.stated_in _ (by_type b b_in b_live) in
+    let n_m = old.closes.sound.stated_in _ (by_work _ here) in
+    let n_a = subst (λ k. Closure s (Told g) (read w (is_same n [] k []))) is_a (old.closes.sound.stated_in _ (by_merge n in_table.0)) in
+    let m_b = subst (λ k. Closure s (Told g) (read w (is_same m [] k []))) is_b (old.closes.sound.stated_in _ (by_merge m in_table.1)) in
+    let b_a = same_trans _ _ _ (same_sym _ _ m_b) (same_trans _ _ _ (same_sym _ _ n_m) n_a) in
+    let met = ok.typed (w a ++ []) (x.table.type_of a) (x.table.type_of b) a_type (same_type _ _ _ b_a b_type) in
+    none-some met.0 (sym none ∙ met.1)
 
 pub Turns-lowers : (s : System) → IsOrder s → (x y : Deep) (n u v : ℕ) (work work' : List NodeClaim) →
     ((extra : List NodeClaim) → Lowers s x.table y.table (work ++ extra) (work' ++ extra) (x.table.live n) u v) →

@@ -9,3 +9,4 @@ pub mod RangeLemmas
 pub mod StepLemmas
 pub mod ClosingLemmas
 pub mod LevelLemmas
+pub mod OrderLemmas

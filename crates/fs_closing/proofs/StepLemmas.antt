@@ -12,26 +12,27 @@ use Rattle.fs_paths.specs.Facts.{path_of}
 use Rattle.fs_closing.specs.declared.nodes.Nodes.{Nodes}
 use Rattle.fs_model.specs.Claims.{Path, Claim, System, IsBare, Has, here}
 use Rattle.fs_model.specs.Sources.{Told}
-use Rattle.fs_model.specs.Table.{NodeClaim, is_there, is_same, is_under, from, by_node, by_merge, by_type, Follows, stated, same_back, under_same, under_higher}
-use Rattle.fs_model.specs.Steps.{Grows, Links, Merges, Lowers}
-use Rattle.fs_model.proofs.StepLemmas.{Closes-drop}
+use Rattle.fs_model.specs.Table.{Table, NodeClaim, is_there, is_same, is_under, from, by_node, by_merge, by_type, Follows, stated, same_back, under_same, under_higher}
+use Rattle.fs_model.specs.Steps.{Grows, Links, Lowers, Joins}
+use Rattle.fs_model.proofs.StepLemmas.{Closes-drop, same_or_other}
 use Rattle.fs_model.proofs.Ends.{clash}
 use Rattle.type_hierarchy.specs.Table.{is_below}
 use Rattle.fs_closing.specs.declared.nodes.Cell.{Cell}
 use Rattle.fs_closing.specs.declared.tasks.Entry.{Entry}
-use Rattle.fs_closing.specs.Cells.{chase, live_of, chain, find_arc, Falls}
-use Rattle.fs_closing.specs.NodeTable.{table_from, AreWhole}
+use Rattle.fs_closing.specs.Cells.{chase, live_of, find_arc, Falls, AreOnce}
+use Rattle.fs_closing.specs.NodeTable.{table_from, AreWhole, AreWithin}
+use Rattle.fs_closing.specs.NodeSteps.{Unites}
 use Rattle.fs_closing.specs.Joined.{IsJoined}
 use Rattle.fs_closing.specs.Rules.{Rule, Grammar, no_rule, facts_in, rules_above, system_of}
 use Rattle.fs_closing.specs.declared.tasks.Tasks.{Tasks}
 use Rattle.fs_closing.specs.Work.{entry_claims, work_of}
-use Rattle.fs_closing.specs.Keeps.{Deep, Turns, Refutes, IsSameWork, begin, arc_claims, PushesFacts, deep_of, Leads, StepsTo, Reaches}
+use Rattle.fs_closing.specs.Keeps.{Deep, Turns, Refutes, IsSameWork, begin, arc_claims, IsHeld, PushesFacts, deep_of, Leads, StepsTo, Reaches}
 use Rattle.fs_closing.proofs.ChaseLemmas.{next, chase_stays, chase_goes, live_step}
 use Rattle.fs_closing.proofs.ChaseSet.{live-set, Falls-set}
 use Rattle.fs_closing.proofs.ChainLemmas.{find_arc-has, found_of_once}
 use Rattle.fs_closing.proofs.HasLemmas.{Has-left, Has-right, Has-either, Has-one, Has-map, Has-of_map}
 use Rattle.fs_closing.proofs.RangeLemmas.{Has-filter, Has-of_filter, Has-range, Has-of_range}
-use Rattle.fs_closing.proofs.KeepsLemmas.{same_itself, same_beside, same_swapped, joined_same, Turns-on, Turns-order, Turns-beside, Turns-advance, Turns-links, Turns-grows, Turns-back, Refutes-order}
+use Rattle.fs_closing.proofs.KeepsLemmas.{same_itself, same_beside, same_swapped, joined_same, Turns-on, Turns-order, Turns-beside, Turns-advance, Turns-links, Turns-grows, Turns-back, Refutes-after, Refutes-order, Refutes-beside}
 
 pub attach_found : (s : System) (x : Deep) (n f m to : ℕ) (work work' : List NodeClaim) → x.table.live n ≡ n → Some m ≡ x.table.arc n f →
     IsJoined (is_same m [] to [] ∷ []) work work' → Turns s x (is_same n (f ∷ []) to [] ∷ work) x work'
@@ -39,13 +40,10 @@ attach_found s x n f m to work work' stays arc joined =
     Turns-order s x x _ _ work' _ (same_itself (is_same n (f ∷ []) to [] ∷ work))
     (Turns-advance s x n f m [] (is_same 0 [] to []) work (ap (λ k. x.table.arc k f) stays ∙ sym arc)) (joined_same _ work work' joined)
 
-pub attach_linked : (s : System) (x y : Deep) (n f to intro : ℕ) (work work' : List NodeClaim) → x.table.live n ≡ n → None ≡ x.table.arc n f →
-    Links x.table y.table n f to → ((k : ℕ) → y.depth k ≡ x.depth k) → intro ≡ s.introducer f →
-    IsJoined (is_under n [] intro ∷ []) work work' → Turns s x (is_same n (f ∷ []) to [] ∷ work) y work'
-attach_linked s x y n f to intro work work' stays none links depth is joined =
-    Turns-order s x y _ _ work' _ (same_itself (is_same n (f ∷ []) to [] ∷ work))
-    (Turns-links s x y n f to work stays (sym none) links depth)
-    (subst (λ i. IsSameWork (is_under n [] i ∷ work) work') is (joined_same _ work work' joined))
+pub attach_linked : (s : System) (x y : Deep) (n f to : ℕ) (work : List NodeClaim) → x.table.live n ≡ n → None ≡ x.table.arc n f →
+    Links x.table y.table n f to → ((k : ℕ) → y.depth k ≡ x.depth k) →
+    Turns s x (is_same n (f ∷ []) to [] ∷ work) y (is_under n [] (s.introducer f) ∷ work)
+attach_linked s x y n f to work stays none links depth = Turns-links s x y n f to work stays (sym none) links depth
 
 -- one claim of several is worked off
 pub turn_one : (s : System) (x y z : Deep) (start : List NodeClaim) (k : NodeClaim) (rest a b : List NodeClaim) →
@@ -56,15 +54,38 @@ turn_one s x y z start k rest a b one two =
     (same_beside (k ∷ []) (k ∷ []) (rest ++ a) (a ++ rest) (same_itself (k ∷ [])) (same_swapped rest a))
     (Turns-beside s y z (k ∷ a) b rest two) (same_swapped b rest))
 
-pub grown_joined : (s : System) (x y : Deep) (n l f m intro : ℕ) (p : Path) (c : NodeClaim) (work work' : List NodeClaim) → IsBare s →
+-- the same, where that claim shows a clash
+pub refute_one : (s : System) (x y : Deep) (start : List NodeClaim) (k : NodeClaim) (rest a : List NodeClaim) →
+    Turns s x start y ((k ∷ rest) ++ a) → Refutes s y (k ∷ a) → Refutes s x start
+refute_one s x y start k rest a one two =
+    Refutes-after s x y start ((k ∷ rest) ++ a) one
+    (Refutes-order s y ((k ∷ rest) ++ a) ((k ∷ a) ++ rest)
+    (same_beside (k ∷ []) (k ∷ []) (rest ++ a) (a ++ rest) (same_itself (k ∷ [])) (same_swapped rest a))
+    (Refutes-beside s y (k ∷ a) rest two))
+
+-- a new node, and a type for the node that leads to it
+pub grown_bound : (s : System) (x y z : Deep) (n l f m : ℕ) (p : Path) (c : NodeClaim) (work work' : List NodeClaim) → IsBare s →
     l ≡ x.table.live n → None ≡ x.table.arc l f → Grows s.top x.table y.table l f → m ≡ x.table.size →
-    ((k : ℕ) → k < x.table.size → y.depth k ≡ x.depth k) → y.depth m ≡ x.depth l + 1 → intro ≡ s.introducer f →
-    IsJoined (is_under l [] intro ∷ []) work work' → Turns s x (begin n (f ∷ p) c ∷ work) y (begin m p c ∷ work')
-grown_joined s x y n l f m intro p c work work' bare is_l none grows is_m old new is joined =
-    Turns-order s x y _ _ (begin m p c ∷ work') _ (same_itself (begin n (f ∷ p) c ∷ work))
+    ((k : ℕ) → k < x.table.size → y.depth k ≡ x.depth k) → y.depth m ≡ x.depth l + 1 →
+    Turns s y (is_under l [] (s.introducer f) ∷ work) z work' → Turns s x (begin n (f ∷ p) c ∷ work) z (begin m p c ∷ work')
+grown_bound s x y z n l f m p c work work' bare is_l none grows is_m old new bound =
+    Turns-on s x y z (begin n (f ∷ p) c ∷ work) (begin m p c ∷ is_under l [] (s.introducer f) ∷ work) (begin m p c ∷ work')
     (Turns-grows s bare x y n l f m p c work (sym is_l) (sym none) grows is_m old new)
-    (same_beside (begin m p c ∷ []) (begin m p c ∷ []) (is_under l [] (s.introducer f) ∷ work) work' (same_itself _)
-    (subst (λ i. IsSameWork (is_under l [] i ∷ work) work') is (joined_same _ work work' joined)))
+    (Turns-order s y z (begin m p c ∷ is_under l [] (s.introducer f) ∷ work) ((is_under l [] (s.introducer f) ∷ work) ++ begin m p c ∷ [])
+    (begin m p c ∷ work') (work' ++ begin m p c ∷ []) (same_swapped (begin m p c ∷ []) (is_under l [] (s.introducer f) ∷ work))
+    (Turns-beside s y z (is_under l [] (s.introducer f) ∷ work) work' (begin m p c ∷ []) bound)
+    (same_swapped work' (begin m p c ∷ [])))
+
+pub grown_clash : (s : System) (x y : Deep) (n l f m : ℕ) (p : Path) (c : NodeClaim) (work : List NodeClaim) → IsBare s →
+    l ≡ x.table.live n → None ≡ x.table.arc l f → Grows s.top x.table y.table l f → m ≡ x.table.size →
+    ((k : ℕ) → k < x.table.size → y.depth k ≡ x.depth k) → y.depth m ≡ x.depth l + 1 →
+    Refutes s y (is_under l [] (s.introducer f) ∷ work) → Refutes s x (begin n (f ∷ p) c ∷ work)
+grown_clash s x y n l f m p c work bare is_l none grows is_m old new clashed =
+    Refutes-after s x y (begin n (f ∷ p) c ∷ work) (begin m p c ∷ is_under l [] (s.introducer f) ∷ work)
+    (Turns-grows s bare x y n l f m p c work (sym is_l) (sym none) grows is_m old new)
+    (Refutes-order s y (begin m p c ∷ is_under l [] (s.introducer f) ∷ work) ((is_under l [] (s.introducer f) ∷ work) ++ begin m p c ∷ [])
+    (same_swapped (begin m p c ∷ []) (is_under l [] (s.introducer f) ∷ work))
+    (Refutes-beside s y (is_under l [] (s.introducer f) ∷ work) (begin m p c ∷ []) clashed))
 
 pub live_le : (fs : List ℕ) → Falls fs → (n : ℕ) → live_of fs n ≤ n
 live_le fs falls n = go fs falls n n
@@ -84,73 +105,101 @@ live_next fs falls n e = go (cases_lt (next fs n) n)
     go (inl a) = absurd (omega (arith, live_step fs falls n (λ d. omega arith), live_le fs falls (next fs n), e))
     go (inr a) = omega (arith, falls n)
 
--- a node is forwarded to another
-module _ (types fs ds firsts : List ℕ) (cells : List Cell) (whole : AreWhole types fs ds firsts cells) (a b : ℕ) (order : a < b)
+-- a node is forwarded to another, which gets a type
+module _ (types fs ds firsts : List ℕ) (cells : List Cell) (whole : AreWhole types fs ds firsts cells) (a b ty : ℕ) (order : a < b)
     (b_in : b < length types) (a_stays : live_of fs a ≡ a) (b_stays : live_of fs b ≡ b) where
   fs_in : b < length fs
   fs_in = omega (arith, whole.forwards_even)
 
-  pub whole_merged : AreWhole types (set fs b a) ds firsts cells
-  whole_merged = record {
-    forwards_even = length-set fs b a ∙ whole.forwards_even;
-    depths_even = whole.depths_even;
-    firsts_even = whole.firsts_even;
-    small = whole.small;
+  pub whole_united : AreWhole (set types a ty) (set fs b a) ds firsts cells
+  whole_united = record {
+    forwards_even = length-set fs b a ∙ whole.forwards_even ∙ sym (length-set types a ty);
+    depths_even = whole.depths_even ∙ sym (length-set types a ty);
+    firsts_even = whole.firsts_even ∙ sym (length-set types a ty);
+    small = omega (arith, whole.small, length-set types a ty);
     few = whole.few;
     falls = Falls-set fs whole.falls a b order fs_in (live_next fs whole.falls a a_stays) (live_next fs whole.falls b b_stays);
     places = whole.places;
-    first_in = whole.first_in;
-    once = whole.once;
-    to_in = whole.to_in;
+    first_in = λ n h. whole.first_in n (omega (arith, h, length-set types a ty));
+    once = λ n h. whole.once n (omega (arith, h, length-set types a ty));
+    to_in = λ c h. omega (arith, whole.to_in c h, length-set types a ty);
   }
 
   moved : (k : ℕ) → (live_of fs k ≡ b → live_of (set fs b a) k ≡ a) × (live_of fs k ≢ b → live_of (set fs b a) k ≡ live_of fs k)
   moved k = live-set fs whole.falls a b order fs_in (live_next fs whole.falls a a_stays) (live_next fs whole.falls b b_stays) k
 
-  pub a_still : live_of (set fs b a) a ≡ a
-  a_still = (moved a).1 (λ e. omega (arith, a_stays)) ∙ a_stays
-
-  abbrev arcs_b : List Cell
-  arcs_b = chain cells (slice_index_or firsts b 0)
-
-  pub table_merged : (work pushed extra : List NodeClaim) → IsJoined (is_under a [] (slice_index_or types b 0) ∷ []) work pushed →
-      Merges (table_from types fs firsts cells) (table_from types (set fs b a) firsts cells) (work ++ extra)
-      ((arc_claims a (chain cells (slice_index_or firsts b 0)) ++ pushed) ++ extra) a b
-  table_merged work pushed extra joined = record {
-    size_is = refl;
+  pub table_united : Unites (table_from types fs firsts cells) (table_from (set types a ty) (set fs b a) firsts cells) a b ty
+  table_united = record {
+    size_is = length-set types a ty;
     live_b = λ k e. (moved k).0 e;
     live_other = λ k e. (moved k).1 e;
     arc_is = λ k g h. refl;
-    type_is = λ k h. refl;
-    work_type = Has-left _ _ extra (Has-right _ (arc_claims a arcs_b) pushed (joined.from_new _ here));
-    work_arcs = λ f m e.
-        let x = find_arc-has arcs_b f m e in
-        Has-left _ _ extra (Has-left _ (arc_claims a arcs_b) pushed
-        (subst (λ y. Has y (arc_claims a arcs_b))
-        (ap (λ y. is_same a (y ∷ []) x.0.to []) x.2 ∙ ap (λ y. is_same a (f ∷ []) y []) x.3)
-        (Has-map (λ c. is_same a (c.feat ∷ []) c.to []) x.0 arcs_b x.1)));
-    work_rest = λ c h. rest c (Has-either c work extra h);
-    work_only = λ c h. only c (Has-either c (arc_claims a arcs_b ++ pushed) extra h);
+    type_here = get_or-set_same types a ty 0 (omega (arith, order, b_in));
+    type_other = λ k h e. get_or-set_other types a k ty 0 e;
+  }
+
+  pub within_united : (size feats : ℕ) → ty < size → AreWithin size feats types cells → AreWithin size feats (set types a ty) cells
+  within_united size feats h old = record {
+    type_in = λ n i. go n (omega (arith, i, length-set types a ty)) (same_or_other n a);
+    feat_in = old.feat_in;
   }
     where
-      rest : (c : NodeClaim) → Has c work ⊎ Has c extra → Has c ((arc_claims a arcs_b ++ pushed) ++ extra)
-      rest c (inl h) = Has-left c _ extra (Has-right c (arc_claims a arcs_b) pushed (joined.from_old c h))
-      rest c (inr h) = Has-right c (arc_claims a arcs_b ++ pushed) extra h
+      go : (n : ℕ) → n < length types → (n ≡ a) ⊎ (n ≢ a) → slice_index_or (set types a ty) n 0 < size
+      go n i (inl e) = omega (arith, ap (λ k. slice_index_or (set types a ty) k 0) e, get_or-set_same types a ty 0 (omega (arith, order, b_in)))
+      go n i (inr e) = omega (arith, get_or-set_other types a n ty 0 e, old.type_in n i)
 
-      only : (c : NodeClaim) → Has c (arc_claims a arcs_b ++ pushed) ⊎ Has c extra →
-          (c ≡ is_under a [] (slice_index_or types b 0)) ⊎ ((f : ℕ) × (m : ℕ) × (find_arc arcs_b f ≡ Some m) × (c ≡ is_same a (f ∷ []) m [])) ⊎ Has c (work ++ extra)
-      only c (inr h) = inr (inr (Has-right c work extra h))
-      only c (inl h) = go (Has-either c (arc_claims a arcs_b) pushed h)
-        where
-          more : Has c (is_under a [] (slice_index_or types b 0) ∷ []) ⊎ Has c work →
-              (c ≡ is_under a [] (slice_index_or types b 0)) ⊎ ((f : ℕ) × (m : ℕ) × (find_arc arcs_b f ≡ Some m) × (c ≡ is_same a (f ∷ []) m [])) ⊎ Has c (work ++ extra)
-          more (inl x) = inl (Has-one c _ x)
-          more (inr x) = inr (inr (Has-left c work extra x))
+-- a fact of the new type, an arc of the node that goes, or other work
+abbrev IsJoinWork : System → Table → ℕ → ℕ → ℕ → List NodeClaim → NodeClaim → Type 0
+IsJoinWork s t a b v work c =
+    ((x : ℕ) × (d : Claim) × (s.is_below v x ≡ true) × Has d (s.facts_of x) × (c ≡ from a d)) ⊎
+    (((f : ℕ) × (m : ℕ) × (t.arc b f ≡ Some m) × (c ≡ is_same a (f ∷ []) m [])) ⊎ Has c work)
 
-          go : Has c (arc_claims a arcs_b) ⊎ Has c pushed →
-              (c ≡ is_under a [] (slice_index_or types b 0)) ⊎ ((f : ℕ) × (m : ℕ) × (find_arc arcs_b f ≡ Some m) × (c ≡ is_same a (f ∷ []) m [])) ⊎ Has c (work ++ extra)
-          go (inl x) = let r = Has-of_map (λ c. is_same a (c.feat ∷ []) c.to []) c arcs_b x in inr (inl (r.0.feat, r.0.to, found_of_once arcs_b (whole.once b b_in) r.0 r.1, r.2))
-          go (inr x) = more (joined.only c x)
+-- the arcs of the node that goes and the new facts are the work that is left of the pair
+pub joins_by : (s : System) (t t' : Table) (a b v : ℕ) (arcs : List Cell) (work pushed extra : List NodeClaim) → Unites t t' a b v →
+    s.meet (t.type_of a) (t.type_of b) ≡ Some v → ((f : ℕ) → t.arc b f ≡ find_arc arcs f) → AreOnce arcs →
+    PushesFacts s a v (t.type_of a) (t.type_of b) work pushed → Joins s t t' (work ++ extra) ((arc_claims a arcs ++ pushed) ++ extra) a b v
+joins_by s t t' a b v arcs work pushed extra joined meet listed once pushes = record {
+  size_is = joined.size_is;
+  live_b = joined.live_b;
+  live_other = joined.live_other;
+  arc_is = joined.arc_is;
+  meet_is = meet;
+  type_here = joined.type_here;
+  type_other = joined.type_other;
+  work_arcs = λ f m e.
+      let x = find_arc-has arcs f m (sym (listed f) ∙ e) in
+      Has-left _ _ extra (Has-left _ (arc_claims a arcs) pushed
+      (subst (λ y. Has y (arc_claims a arcs))
+      (ap (λ y. is_same a (y ∷ []) x.0.to []) x.2 ∙ ap (λ y. is_same a (f ∷ []) y []) x.3)
+      (Has-map (λ c. is_same a (c.feat ∷ []) c.to []) x.0 arcs x.1)));
+  work_facts = λ x c h i. facts x c (pushes.facts x c h i);
+  work_rest = λ c h. rest c (Has-either c work extra h);
+  work_only = λ c h. only c (Has-either c (arc_claims a arcs ++ pushed) extra h);
+}
+  where
+    facts : (x : ℕ) (c : Claim) → (s.is_below (t.type_of a) x ≡ true) ⊎ ((s.is_below (t.type_of b) x ≡ true) ⊎ Has (from a c) pushed) →
+        (s.is_below (t.type_of a) x ≡ true) ⊎ ((s.is_below (t.type_of b) x ≡ true) ⊎ Has (from a c) ((arc_claims a arcs ++ pushed) ++ extra))
+    facts x c (inl e) = inl e
+    facts x c (inr (inl e)) = inr (inl e)
+    facts x c (inr (inr h)) = inr (inr (Has-left _ _ extra (Has-right _ (arc_claims a arcs) pushed h)))
+
+    rest : (c : NodeClaim) → Has c work ⊎ Has c extra → Has c ((arc_claims a arcs ++ pushed) ++ extra)
+    rest c (inl h) = Has-left c _ extra (Has-right c (arc_claims a arcs) pushed (pushes.rest c h))
+    rest c (inr h) = Has-right c (arc_claims a arcs ++ pushed) extra h
+
+    fact : (c : NodeClaim) → ((x : ℕ) × (d : Claim) × (s.is_below v x ≡ true) × Has d (s.facts_of x) × (c ≡ from a d)) ⊎ Has c work → IsJoinWork s t a b v (work ++ extra) c
+    fact c (inl x) = inl x
+    fact c (inr i) = inr (inr (Has-left c work extra i))
+
+    new : (c : NodeClaim) → Has c (arc_claims a arcs) ⊎ Has c pushed → IsJoinWork s t a b v (work ++ extra) c
+    new c (inl x) =
+        let r = Has-of_map (λ c. is_same a (c.feat ∷ []) c.to []) c arcs x in
+        inr (inl (r.0.feat, r.0.to, listed r.0.feat ∙ found_of_once arcs once r.0 r.1, r.2))
+    new c (inr x) = fact c (pushes.only c x)
+
+    only : (c : NodeClaim) → Has c (arc_claims a arcs ++ pushed) ⊎ Has c extra → IsJoinWork s t a b v (work ++ extra) c
+    only c (inr h) = inr (inr (Has-right c work extra h))
+    only c (inl h) = new c (Has-either c (arc_claims a arcs) pushed h)
 
 -- a fact of a type stands in a rule of the type
 pub facts_of_rule : (rules : List Rule) (t : ℕ) (c : Claim) → Has c (facts_in rules t) →
@@ -193,26 +242,35 @@ rule_of_fact (r ∷ rules) (suc j) c h i = go (r.ty == (slice_index_or rules j n
     go false is x = subst (Has c)
         (sym (ap (λ b. elim b [ true ↦ r.claims ++ facts_in rules (slice_index_or rules j no_rule).ty | false ↦ facts_in rules (slice_index_or rules j no_rule).ty ]) is)) x
 
--- the rules of a list were taken, each pushed unless an old type is at or below its type
-pub record TakesRules (g : Grammar) (node old : ℕ) (taken : List ℕ) (work work' : List NodeClaim) : Type 0 where
-  pub facts : (j : ℕ) → Has j taken → (is_below g.types old (slice_index_or g.rules j no_rule).ty ≡ true) ⊎
+-- no rule is above a type that an old one is at or below, but those that are above the old one too
+pub pushes_none : (s : System) (node ty old other : ℕ) (work : List NodeClaim) → (ty ≡ old) ⊎ (ty ≡ other) → PushesFacts s node ty old other work work
+pushes_none s node ty old other work is = record { facts = λ x c below has. facts x c below is; rest = λ c h. h; only = λ c h. inr h }
+  where
+    facts : (x : ℕ) (c : Claim) → s.is_below ty x ≡ true → (ty ≡ old) ⊎ (ty ≡ other) →
+        (s.is_below old x ≡ true) ⊎ ((s.is_below other x ≡ true) ⊎ Has (from node c) work)
+    facts x c below (inl e) = inl (subst (λ t. s.is_below t x ≡ true) e below)
+    facts x c below (inr e) = inr (inl (subst (λ t. s.is_below t x ≡ true) e below))
+
+-- the rules of a list were taken, each pushed unless one of two old types is at or below its type
+pub record TakesRules (g : Grammar) (node old other : ℕ) (taken : List ℕ) (work work' : List NodeClaim) : Type 0 where
+  pub facts : (j : ℕ) → Has j taken → IsHeld g old other (slice_index_or g.rules j no_rule).ty ⊎
       ((c : Claim) → Has c (slice_index_or g.rules j no_rule).claims → Has (from node c) work')
   pub rest : (c : NodeClaim) → Has c work → Has c work'
   pub only : (c : NodeClaim) → Has c work' →
       ((j : ℕ) × (d : Claim) × Has j taken × Has d (slice_index_or g.rules j no_rule).claims × (c ≡ from node d)) ⊎ Has c work
 
-pub takes_none : (g : Grammar) (node old : ℕ) (work : List NodeClaim) → TakesRules g node old [] work work
-takes_none g node old work = record { facts = λ j h. elim h [ ]; rest = λ c h. h; only = λ c h. inr h }
+pub takes_none : (g : Grammar) (node old other : ℕ) (work : List NodeClaim) → TakesRules g node old other [] work work
+takes_none g node old other work = record { facts = λ j h. elim h [ ]; rest = λ c h. h; only = λ c h. inr h }
 
 drop_none : {X : Type 0} (xs : List X) → drop 0 xs ≡ xs
 drop_none [] = refl
 drop_none (x ∷ xs) = refl
 
-pub takes_more : (g : Grammar) (node old j : ℕ) (taken taken' : List ℕ) (work now work' : List NodeClaim) (entry : Entry) →
-    taken' ≡ taken ++ j ∷ [] → entry.node ≡ node → entry.rule ≡ j → entry.from ≡ 0 → TakesRules g node old taken work now →
-    ((is_below g.types old (slice_index_or g.rules j no_rule).ty ≡ true) × (work' ≡ now)) ⊎ IsJoined (entry_claims g.rules entry) now work' →
-    TakesRules g node old taken' work work'
-takes_more g node old j taken taken' work now work' entry is en er ef before step = record {
+pub takes_more : (g : Grammar) (node old other j : ℕ) (taken taken' : List ℕ) (work now work' : List NodeClaim) (entry : Entry) →
+    taken' ≡ taken ++ j ∷ [] → entry.node ≡ node → entry.rule ≡ j → entry.from ≡ 0 → TakesRules g node old other taken work now →
+    (IsHeld g old other (slice_index_or g.rules j no_rule).ty × (work' ≡ now)) ⊎ IsJoined (entry_claims g.rules entry) now work' →
+    TakesRules g node old other taken' work work'
+takes_more g node old other j taken taken' work now work' entry is en er ef before step = record {
   facts = λ k h. facts step k (Has-either k taken (j ∷ []) (subst (Has k) is h));
   rest = λ c h. kept step c (before.rest c h);
   only = λ c h. only step c h;
@@ -225,21 +283,21 @@ takes_more g node old j taken taken' work now work' entry is en er ef before ste
         ∙ ap (λ i. map (from node) (drop i (slice_index_or g.rules j no_rule).claims)) ef
         ∙ ap (map (from node)) (drop_none (slice_index_or g.rules j no_rule).claims)
 
-    kept : ((is_below g.types old (slice_index_or g.rules j no_rule).ty ≡ true) × (work' ≡ now)) ⊎ IsJoined (entry_claims g.rules entry) now work' →
+    kept : (IsHeld g old other (slice_index_or g.rules j no_rule).ty × (work' ≡ now)) ⊎ IsJoined (entry_claims g.rules entry) now work' →
         (c : NodeClaim) → Has c now → Has c work'
     kept (inl e) c h = subst (Has c) (sym e.1) h
     kept (inr e) c h = e.from_old c h
 
-    facts : ((is_below g.types old (slice_index_or g.rules j no_rule).ty ≡ true) × (work' ≡ now)) ⊎ IsJoined (entry_claims g.rules entry) now work' →
-        (k : ℕ) → Has k taken ⊎ Has k (j ∷ []) → (is_below g.types old (slice_index_or g.rules k no_rule).ty ≡ true) ⊎
+    facts : (IsHeld g old other (slice_index_or g.rules j no_rule).ty × (work' ≡ now)) ⊎ IsJoined (entry_claims g.rules entry) now work' →
+        (k : ℕ) → Has k taken ⊎ Has k (j ∷ []) → IsHeld g old other (slice_index_or g.rules k no_rule).ty ⊎
         ((c : Claim) → Has c (slice_index_or g.rules k no_rule).claims → Has (from node c) work')
     facts st k (inl h) = go (before.facts k h)
       where
-        go : (is_below g.types old (slice_index_or g.rules k no_rule).ty ≡ true) ⊎ ((c : Claim) → Has c (slice_index_or g.rules k no_rule).claims → Has (from node c) now) →
-            (is_below g.types old (slice_index_or g.rules k no_rule).ty ≡ true) ⊎ ((c : Claim) → Has c (slice_index_or g.rules k no_rule).claims → Has (from node c) work')
+        go : IsHeld g old other (slice_index_or g.rules k no_rule).ty ⊎ ((c : Claim) → Has c (slice_index_or g.rules k no_rule).claims → Has (from node c) now) →
+            IsHeld g old other (slice_index_or g.rules k no_rule).ty ⊎ ((c : Claim) → Has c (slice_index_or g.rules k no_rule).claims → Has (from node c) work')
         go (inl a) = inl a
         go (inr a) = inr (λ c i. kept st (from node c) (a c i))
-    facts (inl e) k (inr h) = inl (subst (λ i. is_below g.types old (slice_index_or g.rules i no_rule).ty ≡ true) (sym (Has-one k j h)) e.0)
+    facts (inl e) k (inr h) = inl (subst (λ i. IsHeld g old other (slice_index_or g.rules i no_rule).ty) (sym (Has-one k j h)) e.0)
     facts (inr e) k (inr h) =
         inr (λ c i. e.from_new (from node c) (subst (Has (from node c)) (sym claims_are)
         (Has-map (from node) c _ (subst (λ i. Has c (slice_index_or g.rules i no_rule).claims) (Has-one k j h) i))))
@@ -249,7 +307,7 @@ takes_more g node old j taken taken' work now work' entry is en er ef before ste
     wider c (inl (k, d, a, b, e)) = inl (k, d, subst (Has k) (sym is) (Has-left k taken (j ∷ []) a), b, e)
     wider c (inr h) = inr h
 
-    only : ((is_below g.types old (slice_index_or g.rules j no_rule).ty ≡ true) × (work' ≡ now)) ⊎ IsJoined (entry_claims g.rules entry) now work' →
+    only : (IsHeld g old other (slice_index_or g.rules j no_rule).ty × (work' ≡ now)) ⊎ IsJoined (entry_claims g.rules entry) now work' →
         (c : NodeClaim) → Has c work' →
         ((k : ℕ) × (d : Claim) × Has k taken' × Has d (slice_index_or g.rules k no_rule).claims × (c ≡ from node d)) ⊎ Has c work
     only (inl e) c h = wider c (before.only c (subst (Has c) e.1 h))
@@ -263,9 +321,9 @@ takes_more g node old j taken taken' work now work' entry is en er ef before ste
         go (inr x) = wider c (before.only c x)
 
 -- all rules above a type were taken
-pub takes_all : (g : Grammar) (node ty old : ℕ) (work work' : List NodeClaim) → TakesRules g node old (rules_above g.types g.rules ty) work work' →
-    PushesFacts (system_of g) node ty old work work'
-takes_all g node ty old work work' all = record {
+pub takes_all : (g : Grammar) (node ty old other : ℕ) (work work' : List NodeClaim) → TakesRules g node old other (rules_above g.types g.rules ty) work work' →
+    PushesFacts (system_of g) node ty old other work work'
+takes_all g node ty old other work work' all = record {
   facts = λ x c below has. facts x c below (facts_of_rule g.rules x c has);
   rest = all.rest;
   only = λ c h. only c (all.only c h);
@@ -276,15 +334,16 @@ takes_all g node ty old work work' all = record {
 
     facts : (x : ℕ) (c : Claim) → is_below g.types ty x ≡ true →
         ((j : ℕ) × (j < length g.rules) × ((slice_index_or g.rules j no_rule).ty ≡ x) × Has c (slice_index_or g.rules j no_rule).claims) →
-        (is_below g.types old x ≡ true) ⊎ Has (from node c) work'
+        (is_below g.types old x ≡ true) ⊎ ((is_below g.types other x ≡ true) ⊎ Has (from node c) work')
     facts x c below (j, h, is, has) =
         go (all.facts j (Has-filter (λ j. is_below g.types ty (slice_index_or g.rules j no_rule).ty) (range_with_len 0 (length g.rules)) j
         (Has-range (length g.rules) j h) (ap (is_below g.types ty) is ∙ below)))
       where
-        go : (is_below g.types old (slice_index_or g.rules j no_rule).ty ≡ true) ⊎ ((c : Claim) → Has c (slice_index_or g.rules j no_rule).claims → Has (from node c) work') →
-            (is_below g.types old x ≡ true) ⊎ Has (from node c) work'
-        go (inl a) = inl (ap (is_below g.types old) (sym is) ∙ a)
-        go (inr a) = inr (a c has)
+        go : IsHeld g old other (slice_index_or g.rules j no_rule).ty ⊎ ((c : Claim) → Has c (slice_index_or g.rules j no_rule).claims → Has (from node c) work') →
+            (is_below g.types old x ≡ true) ⊎ ((is_below g.types other x ≡ true) ⊎ Has (from node c) work')
+        go (inl (inl a)) = inl (ap (is_below g.types old) (sym is) ∙ a)
+        go (inl (inr a)) = inr (inl (ap (is_below g.types other) (sym is) ∙ a))
+        go (inr a) = inr (inr (a c has))
 
     only : (c : NodeClaim) →
         ((j : ℕ) × (d : Claim) × Has j (rules_above g.types g.rules ty) × Has d (slice_index_or g.rules j no_rule).claims × (c ≡ from node d)) ⊎ Has c work →
@@ -296,7 +355,7 @@ takes_all g node ty old work work' all = record {
 
 -- a type is written
 pub table_lowered : (s : System) (types fs ds firsts : List ℕ) (cells : List Cell) (n u v : ℕ) (work work' extra : List NodeClaim) → n < length types →
-    s.meet (slice_index_or types n 0) u ≡ Some v → PushesFacts s n v (slice_index_or types n 0) work work' →
+    s.meet (slice_index_or types n 0) u ≡ Some v → PushesFacts s n v (slice_index_or types n 0) (slice_index_or types n 0) work work' →
     Lowers s (table_from types fs firsts cells) (table_from (set types n v) fs firsts cells) (work ++ extra) (work' ++ extra) n u v
 table_lowered s types fs ds firsts cells n u v work work' extra h meet pushed = record {
   size_is = length-set types n v;
@@ -310,10 +369,12 @@ table_lowered s types fs ds firsts cells n u v work work' extra h meet pushed = 
   work_only = λ c i. only c (Has-either c work' extra i);
 }
   where
-    facts : (x : ℕ) (c : Claim) → (s.is_below (slice_index_or types n 0) x ≡ true) ⊎ Has (from n c) work' →
+    facts : (x : ℕ) (c : Claim) →
+        (s.is_below (slice_index_or types n 0) x ≡ true) ⊎ ((s.is_below (slice_index_or types n 0) x ≡ true) ⊎ Has (from n c) work') →
         (s.is_below (slice_index_or types n 0) x ≡ true) ⊎ Has (from n c) (work' ++ extra)
     facts x c (inl a) = inl a
-    facts x c (inr a) = inr (Has-left _ work' extra a)
+    facts x c (inr (inl a)) = inl a
+    facts x c (inr (inr a)) = inr (Has-left _ work' extra a)
 
     rest : (c : NodeClaim) → Has c work ⊎ Has c extra → Has c (work' ++ extra)
     rest c (inl a) = Has-left c work' extra (pushed.rest c a)
@@ -338,13 +399,13 @@ depth_pushed ds ds' size d is even = (
 )
 
 -- what a call that pushes a rule says, of work
-pub takes_step : (g : Grammar) (old j : ℕ) (tasks tasks' : Tasks) (entry : Entry) →
-    ((is_below g.types old (slice_index_or g.rules j no_rule).ty ≡ true) × (tasks' ≡ tasks)) ⊎
+pub takes_step : (g : Grammar) (old other j : ℕ) (tasks tasks' : Tasks) (entry : Entry) →
+    (IsHeld g old other (slice_index_or g.rules j no_rule).ty × (tasks' ≡ tasks)) ⊎
     IsJoined (entry_claims g.rules entry) (work_of g.rules tasks) (work_of g.rules tasks') →
-    ((is_below g.types old (slice_index_or g.rules j no_rule).ty ≡ true) × (work_of g.rules tasks' ≡ work_of g.rules tasks)) ⊎
+    (IsHeld g old other (slice_index_or g.rules j no_rule).ty × (work_of g.rules tasks' ≡ work_of g.rules tasks)) ⊎
     IsJoined (entry_claims g.rules entry) (work_of g.rules tasks) (work_of g.rules tasks')
-takes_step g old j tasks tasks' entry (inl e) = inl (e.0, ap (work_of g.rules) e.1)
-takes_step g old j tasks tasks' entry (inr e) = inr e
+takes_step g old other j tasks tasks' entry (inl e) = inl (e.0, ap (work_of g.rules) e.1)
+takes_step g old other j tasks tasks' entry (inr e) = inr e
 
 -- a type at or below another
 pub Turns-below : (s : System) (x : Deep) (n l u : ℕ) (work : List NodeClaim) → l ≡ x.table.live n → s.is_below (x.table.type_of l) u ≡ true →
@@ -404,6 +465,13 @@ entry_step rules n r i d h =
 pub entry_ends : (rules : List Rule) (n r i : ℕ) → length (slice_index_or rules r no_rule).claims ≤ i →
     entry_claims rules (record { node = n; rule = r; from = i }) ≡ []
 entry_ends rules n r i h = ap (map (from n)) (drop_all i (slice_index_or rules r no_rule).claims h)
+
+-- a step after another one
+pub steps_after : (g : Grammar) (nodes nodes1 nodes2 : Nodes) (a b : List NodeClaim) (tasks : Tasks) (ok : Bool) → Leads g nodes a nodes1 b →
+    StepsTo g nodes1 b nodes2 tasks ok → StepsTo g nodes a nodes2 tasks ok
+steps_after g nodes nodes1 nodes2 a b tasks true one (two, sound) =
+    (Turns-on (system_of g) (deep_of nodes) (deep_of nodes1) (deep_of nodes2) a b (work_of g.rules tasks) one two, sound)
+steps_after g nodes nodes1 nodes2 a b tasks false one two = Refutes-after (system_of g) (deep_of nodes) (deep_of nodes1) a b one two
 
 -- a step on the same work in another order
 pub steps_order : (g : Grammar) (nodes : Nodes) (a a' : List NodeClaim) (nodes' : Nodes) (tasks' : Tasks) (b : Bool) → IsSameWork a a' →

@@ -5,7 +5,7 @@ use Rattle.fs_model.specs.Closure.{IsConsistent}
 use Rattle.fs_model.specs.Sources.{Source, Told}
 use Rattle.fs_model.specs.Table.{Table, NodeClaim, is_there, is_same, is_under, from}
 use Rattle.fs_model.specs.Steps.{Closes}
-use Rattle.type_hierarchy.specs.Table.{count_of}
+use Rattle.type_hierarchy.specs.Table.{count_of, is_below}
 use Rattle.fs_closing.specs.declared.nodes.Cell.{Cell}
 use Rattle.fs_closing.specs.declared.nodes.Nodes.{Nodes}
 use Rattle.fs_closing.specs.declared.tasks.Tasks.{Tasks}
@@ -68,9 +68,14 @@ Clashes g nodes work = Refutes (system_of g) (deep_of nodes) work
 abbrev pub arc_claims : ℕ → List Cell → List NodeClaim
 arc_claims n cells = map (λ c. is_same n (c.feat ∷ []) c.to []) cells
 
--- the facts of types at or above a type become work at a node, but for types that are at or above the old one too
-pub record PushesFacts (s : System) (node ty old : ℕ) (work work' : List NodeClaim) : Type 0 where
-  pub facts : (x : ℕ) (c : Claim) → s.is_below ty x ≡ true → Has c (s.facts_of x) → (s.is_below old x ≡ true) ⊎ Has (from node c) work'
+-- one of two types is at or below a third one
+abbrev pub IsHeld : Grammar → ℕ → ℕ → ℕ → Type 0
+IsHeld g old other t = (is_below g.types old t ≡ true) ⊎ (is_below g.types other t ≡ true)
+
+-- the facts of types at or above a type become work at a node, but for types that are at or above one of two old ones too
+pub record PushesFacts (s : System) (node ty old other : ℕ) (work work' : List NodeClaim) : Type 0 where
+  pub facts : (x : ℕ) (c : Claim) → s.is_below ty x ≡ true → Has c (s.facts_of x) →
+      (s.is_below old x ≡ true) ⊎ ((s.is_below other x ≡ true) ⊎ Has (from node c) work')
   pub rest : (c : NodeClaim) → Has c work → Has c work'
   pub only : (c : NodeClaim) → Has c work' →
       ((x : ℕ) × (d : Claim) × (s.is_below ty x ≡ true) × Has d (s.facts_of x) × (c ≡ from node d)) ⊎ Has c work

@@ -1,5 +1,5 @@
--- A new node alone, and arcs alone.
-use Rattle.std.specs.Prelude.{ℕ, ◌≡◌, ◌<◌, ◌≤◌, ◌+◌, None, length}
+-- A new node alone, arcs alone, and two nodes that become one.
+use Rattle.std.specs.Prelude.{ℕ, ◌≡◌, ◌≢◌, ◌<◌, ◌≤◌, ◌+◌, None, length}
 use Rattle.fs_model.specs.Table.{Table}
 use Rattle.fs_closing.specs.declared.nodes.Nodes.{Nodes}
 use Rattle.fs_closing.specs.Cells.{chain}
@@ -21,3 +21,19 @@ pub record AddsArcs (nodes nodes' : Nodes) : Type 0 where
   pub depths : nodes'.depths.items ≡ nodes.depths.items
   pub more : length nodes.cells.items ≤ length nodes'.cells.items
   pub chains : (place : ℕ) → place ≤ length nodes.cells.items → chain nodes'.cells.items place ≡ chain nodes.cells.items place
+
+-- nodes keep what they were merged into and the cells of their arcs; types may be lowered and arcs added
+pub record KeepsArcs (nodes nodes' : Nodes) : Type 0 where
+  pub size : length nodes'.types.items ≡ length nodes.types.items
+  pub forwards : nodes'.forwards.items ≡ nodes.forwards.items
+  pub more : length nodes.cells.items ≤ length nodes'.cells.items
+  pub chains : (place : ℕ) → place ≤ length nodes.cells.items → chain nodes'.cells.items place ≡ chain nodes.cells.items place
+
+-- a node is merged into another, which gets a type
+pub record Unites (t t' : Table) (a b ty : ℕ) : Type 0 where
+  pub size_is : t'.size ≡ t.size
+  pub live_b : (k : ℕ) → t.live k ≡ b → t'.live k ≡ a
+  pub live_other : (k : ℕ) → t.live k ≢ b → t'.live k ≡ t.live k
+  pub arc_is : (k g : ℕ) → k < t.size → t'.arc k g ≡ t.arc k g
+  pub type_here : t'.type_of a ≡ ty
+  pub type_other : (k : ℕ) → k < t.size → k ≢ a → t'.type_of k ≡ t.type_of k

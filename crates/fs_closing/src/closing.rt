@@ -2,20 +2,19 @@
 
 ghost use Rattle.std.specs.Prelude.{◌≡◌, ℕ, ◌+◌, ◌<◌, ◌≤◌, length, List, [], ◌∷◌, ◌++◌, All, IfOk, OnOk, Some, None, true, false};
 ghost use Rattle.type_hierarchy.specs.Table.{count_of};
-ghost use Rattle.fs_model.specs.Claims.{IsBare, IsOrder};
+ghost use Rattle.fs_model.specs.Claims.{IsBare};
 ghost use Rattle.fs_model.specs.Table.{is_same, is_under, from};
 ghost use Rattle.fs_paths.specs.Facts.{path_of, claim_of};
 ghost use Rattle.fs_closing.specs.Rules.{system_of, IsClaimIn};
-ghost use Rattle.fs_closing.specs.Work.{work_of, pair_claim, bound_claim, entry_claims};
-ghost use Rattle.fs_closing.specs.Keeps.{AreSound, Leads, Clashes, StepsTo, Reaches, Progresses, Closed};
+ghost use Rattle.fs_closing.specs.Work.{work_of, pair_claim, entry_claims};
+ghost use Rattle.fs_closing.specs.Keeps.{AreSound, StepsTo, Reaches, Progresses, Closed};
 
 use crate::fault::NoMemory;
 use crate::nodes::{Nodes, live};
-use crate::steps::{go, lower, merge};
+use crate::steps::{go, merge, put_under};
 use crate::system::TypeSystem;
-use crate::tasks::{Bound, Entry, Pair, Tasks};
+use crate::tasks::{Entry, Pair, Tasks};
 use fs_paths::{Fact, Feat};
-use type_hierarchy::Ty;
 
 /// What one turn of a closing did.
 #[derive(Clone, Copy, Debug, PartialEq, Eq)]
@@ -25,7 +24,7 @@ pub enum Progress {
     Ended,
 }
 
-/// The node at the end of a path from a node; nodes are made where they aren't there. `None` where a path gets too long.
+/// The node at the end of a path from a node; nodes are made where they aren't there. `None` where there is no such path.
 pub fn reach(
     nodes: &mut Nodes,
     tasks: &mut Tasks,
@@ -49,61 +48,32 @@ pub fn reach(
     Ok(Some(at))
 }
 
-// Two nodes become one.
+// Two nodes become one. The answer is false where their types have no common subtype, or another clash was met.
 fn step_pair(
     nodes: &mut Nodes,
     tasks: &mut Tasks,
     system: &TypeSystem,
     pair: Pair,
-) -> Result<(), NoMemory>
+) -> Result<bool, NoMemory>
     requires sound { AreSound system.now nodes.old tasks.old }
     requires node { pair.node < length nodes.old.types.items }
     requires other { pair.other < length nodes.old.types.items }
-    ensures leads { OnOk result (Leads system.now nodes.old (pair_claim pair ∷ work_of system.now.rules tasks.old) nodes.new (work_of system.now.rules tasks.new)) }
-    ensures sound { OnOk result (AreSound system.now nodes.new tasks.new) }
+    ensures { IfOk result (StepsTo system.now nodes.old (pair_claim pair ∷ work_of system.now.rules tasks.old) nodes.new tasks.new) }
 {
     let a = live(&nodes.forwards, pair.node);
     let b = live(&nodes.forwards, pair.other);
     if a < b {
-        merge(nodes, tasks, system, a, b)?;
-        return Ok(());
+        let ok = merge(nodes, tasks, system, a, b)?;
+        return Ok(ok);
     }
     if b < a {
-        merge(nodes, tasks, system, b, a)?;
-        return Ok(());
+        let ok = merge(nodes, tasks, system, b, a)?;
+        return Ok(ok);
     }
-    Ok(())
-}
-
-// A node's type is put at or below a type. The answer is false where the two have no common subtype.
-fn step_bound(
-    nodes: &mut Nodes,
-    tasks: &mut Tasks,
-    system: &TypeSystem,
-    bound: Bound,
-) -> Result<bool, NoMemory>
-    requires order { IsOrder (system_of system.now) }
-    requires sound { AreSound system.now nodes.old tasks.old }
-    requires node { bound.node < length nodes.old.types.items }
-    requires ty_in { bound.ty < count_of system.now.types }
-    ensures { IfOk result (StepsTo system.now nodes.old (bound_claim bound ∷ work_of system.now.rules tasks.old) nodes.new tasks.new) }
-{
-    let n = live(&nodes.forwards, bound.node);
-    let old = Ty(nodes.types[n as usize]);
-    let ty = Ty(bound.ty);
-    let types = system.types();
-    if types.at_or_below(old, ty) {
-        return Ok(true);
-    }
-    types.laws();
-    let Some(met) = types.meet(old, ty) else {
-        return Ok(false);
-    };
-    lower(nodes, tasks, system, n, met.0)?;
     Ok(true)
 }
 
-/// A fact is put at a node. The answer is false where a path gets too long.
+/// A fact is put at a node. The answer is false where a path gets too long, or another clash was met.
 pub fn apply(
     nodes: &mut Nodes,
     tasks: &mut Tasks,
@@ -125,8 +95,8 @@ pub fn apply(
         },
         Fact::Below { path, ty } => match reach(nodes, tasks, system, node, path)? {
             Some(at) => {
-                tasks.push_bound(at, ty.0)?;
-                Ok(true)
+                let ok = put_under(nodes, tasks, system, at, ty.0)?;
+                Ok(ok)
             }
             None => Ok(false),
         },
@@ -192,17 +162,18 @@ fn step_entry(
 
 // One task.
 fn step(nodes: &mut Nodes, tasks: &mut Tasks, system: &TypeSystem) -> Result<Progress, NoMemory>
-    requires order { IsOrder (system_of system.now) }
     requires bare { IsBare (system_of system.now) }
     requires sound { AreSound system.now nodes.old tasks.old }
     ensures { IfOk result (Progresses system.now nodes.old tasks.old nodes.new tasks.new) }
 {
     if let Some(pair) = tasks.pop_pair() {
-        step_pair(nodes, tasks, system, pair)?;
-        return Ok(Progress::Stepped);
+        return match step_pair(nodes, tasks, system, pair)? {
+            true => Ok(Progress::Stepped),
+            false => Ok(Progress::Clashed),
+        };
     }
     if let Some(bound) = tasks.pop_bound() {
-        return match step_bound(nodes, tasks, system, bound)? {
+        return match put_under(nodes, tasks, system, bound.node, bound.ty)? {
             true => Ok(Progress::Stepped),
             false => Ok(Progress::Clashed),
         };
@@ -218,7 +189,6 @@ fn step(nodes: &mut Nodes, tasks: &mut Tasks, system: &TypeSystem) -> Result<Pro
 
 /// Works off all tasks. The answer is false where a clash was met: then there is no structure.
 pub fn close(nodes: &mut Nodes, tasks: &mut Tasks, system: &TypeSystem) -> Result<bool, NoMemory>
-    requires order { IsOrder (system_of system.now) }
     requires bare { IsBare (system_of system.now) }
     requires sound { AreSound system.now nodes.old tasks.old }
     ensures { IfOk result (Closed system.now nodes.old tasks.old nodes.new) }

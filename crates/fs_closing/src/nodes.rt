@@ -2,7 +2,7 @@
 
 ghost use Rattle.std.specs.Prelude.{◌≡◌, ℕ, ◌+◌, ◌<◌, ◌≤◌, ◌^◌, length, None, IfOk, OnOk, IfSome, slice_index_or, [], ◌∷◌, ◌++◌};
 ghost use Rattle.fs_model.specs.Steps.{Links, Grows};
-ghost use Rattle.fs_closing.specs.NodeSteps.{AddsNode, AddsArcs};
+ghost use Rattle.fs_closing.specs.NodeSteps.{AddsNode, AddsArcs, Unites};
 ghost use Rattle.fs_closing.specs.Cells.{live_of, find_arc, chain, Falls, PlacesFall};
 ghost use Rattle.fs_closing.specs.NodeTable.{table_of, IsWhole, IsWithin};
 
@@ -142,4 +142,21 @@ pub fn grow(nodes: &mut Nodes, n: u32, feat: u32, ty: u32, depth: u32) -> Result
     let to = add_node(nodes, ty, depth)?;
     add_arc(nodes, n, feat, to)?;
     Ok(to)
+}
+
+/// Merges b into a, which gets a type. Neither was merged before.
+pub fn unite(nodes: &mut Nodes, a: u32, b: u32, ty: u32)
+    requires whole { IsWhole nodes.old }
+    requires order { a < b }
+    requires b_in { b < length nodes.old.types.items }
+    requires a_stays { live_of nodes.old.forwards.items a ≡ a }
+    requires b_stays { live_of nodes.old.forwards.items b ≡ b }
+    ensures unites { Unites (table_of nodes.old) (table_of nodes.new) a b ty }
+    ensures depths { nodes.new.depths.items ≡ nodes.old.depths.items }
+    ensures cells { nodes.new.cells.items ≡ nodes.old.cells.items }
+    ensures whole { IsWhole nodes.new }
+    ensures within { (types feats : ℕ) → ty < types → IsWithin types feats nodes.old → IsWithin types feats nodes.new }
+{
+    nodes.types[a as usize] = ty;
+    nodes.forwards[b as usize] = a;
 }

@@ -6,14 +6,14 @@ ghost use Rattle.fs_model.specs.Claims.{Path, IsBare, IsOrder};
 ghost use Rattle.fs_model.specs.Table.{NodeClaim, is_same, is_under};
 ghost use Rattle.fs_closing.specs.Cells.{live_of, chain};
 ghost use Rattle.fs_closing.specs.NodeTable.{table_of, IsWhole};
-ghost use Rattle.fs_closing.specs.NodeSteps.{AddsArcs};
+ghost use Rattle.fs_closing.specs.NodeSteps.{KeepsArcs};
 ghost use Rattle.fs_closing.specs.Rules.{system_of, no_rule};
 ghost use Rattle.fs_closing.specs.Joined.{IsJoined};
 ghost use Rattle.fs_closing.specs.Work.{work_of, entry_claims, AreReady};
-ghost use Rattle.fs_closing.specs.Keeps.{AreSound, Leads, Clashes, begin, arc_claims, PushesFacts};
+ghost use Rattle.fs_closing.specs.Keeps.{AreSound, Leads, Clashes, StepsTo, begin, arc_claims, IsHeld, PushesFacts};
 
 use crate::fault::NoMemory;
-use crate::nodes::{Nodes, add_arc, grow, live, look_up};
+use crate::nodes::{Nodes, add_arc, grow, live, look_up, unite};
 use crate::system::TypeSystem;
 use crate::tasks::Tasks;
 use type_hierarchy::Ty;
@@ -28,124 +28,63 @@ fn arc_of(nodes: &Nodes, n: u32, feat: u32) -> Option<u32>
     look_up(&nodes.cells, nodes.firsts[n as usize], feat)
 }
 
-/// A node that isn't merged is to have an arc.
-pub fn attach(
-    nodes: &mut Nodes,
-    tasks: &mut Tasks,
-    system: &TypeSystem,
-    n: u32,
-    feat: u32,
-    to: u32,
-) -> Result<(), NoMemory>
-    requires sound { AreSound system.now nodes.old tasks.old }
-    requires node { n < length nodes.old.types.items }
-    requires to_in { to < length nodes.old.types.items }
-    requires feat_in { feat < length system.now.introducers }
-    requires stays { live_of nodes.old.forwards.items n ≡ n }
-    ensures leads { OnOk result (Leads system.now nodes.old (is_same n (feat ∷ []) to [] ∷ work_of system.now.rules tasks.old) nodes.new (work_of system.now.rules tasks.new)) }
-    ensures arcs { OnOk result (AddsArcs nodes.old nodes.new) }
-    ensures sound { OnOk result (AreSound system.now nodes.new tasks.new) }
-{
-    if let Some(found) = arc_of(nodes, n, feat) {
-        tasks.push_pair(found, to)?;
-        return Ok(());
-    }
-    tasks.push_bound(n, system.introducer(feat))?;
-    add_arc(nodes, n, feat, to)?;
-    Ok(())
-}
-
-/// A node that isn't merged is to have the arcs from a place on.
-pub fn attach_all(
-    nodes: &mut Nodes,
-    tasks: &mut Tasks,
-    system: &TypeSystem,
-    n: u32,
-    first: u32,
-) -> Result<(), NoMemory>
-    requires sound { AreSound system.now nodes.old tasks.old }
-    requires node { n < length nodes.old.types.items }
-    requires first_in { first ≤ length nodes.old.cells.items }
-    requires stays { live_of nodes.old.forwards.items n ≡ n }
-    ensures leads { OnOk result (Leads system.now nodes.old (arc_claims n (chain nodes.old.cells.items first) ++ work_of system.now.rules tasks.old) nodes.new (work_of system.now.rules tasks.new)) }
-    ensures sound { OnOk result (AreSound system.now nodes.new tasks.new) }
-{
-    let mut place = first;
-    while place != 0 {
-        let cell = nodes.cells[place as usize - 1];
-        attach(nodes, tasks, system, n, cell.feat, cell.to)?;
-        place = cell.next;
-    }
-    Ok(())
-}
-
-/// Merges b into a: b's type and arcs are to be a's.
-pub fn merge(
-    nodes: &mut Nodes,
-    tasks: &mut Tasks,
-    system: &TypeSystem,
-    a: u32,
-    b: u32,
-) -> Result<(), NoMemory>
-    requires sound { AreSound system.now nodes.old tasks.old }
-    requires order { a < b }
-    requires b_in { b < length nodes.old.types.items }
-    requires a_stays { live_of nodes.old.forwards.items a ≡ a }
-    requires b_stays { live_of nodes.old.forwards.items b ≡ b }
-    ensures leads { OnOk result ((n m : ℕ) → live_of nodes.old.forwards.items n ≡ a → live_of nodes.old.forwards.items m ≡ b → Leads system.now nodes.old (is_same n [] m [] ∷ work_of system.now.rules tasks.old) nodes.new (work_of system.now.rules tasks.new)) }
-    ensures sound { OnOk result (AreSound system.now nodes.new tasks.new) }
-{
-    tasks.push_bound(a, nodes.types[b as usize])?;
-    nodes.forwards[b as usize] = a;
-    let first = nodes.firsts[b as usize];
-    attach_all(nodes, tasks, system, a, first)?;
-    Ok(())
-}
-
-// The facts of a rule are to hold at a node, unless they hold at a type already.
+// The facts of a rule are to hold at a node, unless they hold at one of two types already.
 fn push_rule(
     tasks: &mut Tasks,
     system: &TypeSystem,
     node: u32,
     old: u32,
+    other: u32,
     rule: u32,
 ) -> Result<(), NoMemory>
     requires rule_in { rule < length system.now.rules }
     requires old_in { old < count_of system.now.types }
-    ensures work { OnOk result (((is_below system.now.types old (slice_index_or system.now.rules rule no_rule).ty ≡ true) × (tasks.new ≡ tasks.old)) ⊎ IsJoined (entry_claims system.now.rules (record { node = node; rule = rule; from = 0 })) (work_of system.now.rules tasks.old) (work_of system.now.rules tasks.new)) }
+    requires other_in { other < count_of system.now.types }
+    ensures work { OnOk result ((IsHeld system.now old other (slice_index_or system.now.rules rule no_rule).ty × (tasks.new ≡ tasks.old)) ⊎ IsJoined (entry_claims system.now.rules (record { node = node; rule = rule; from = 0 })) (work_of system.now.rules tasks.old) (work_of system.now.rules tasks.new)) }
     ensures ready { OnOk result ((size types : ℕ) → node < size → AreReady size types (length system.now.rules) tasks.old → AreReady size types (length system.now.rules) tasks.new) }
 {
-    if system
-        .types()
-        .at_or_below(Ty(old), Ty(system.rule_type(rule)))
-    {
+    let ty = Ty(system.rule_type(rule));
+    let types = system.types();
+    if types.at_or_below(Ty(old), ty) {
+        return Ok(());
+    }
+    if types.at_or_below(Ty(other), ty) {
         return Ok(());
     }
     tasks.push_entry(node, rule, 0)?;
     Ok(())
 }
 
-/// The facts of the types at or above a type are to hold at a node, but for those of types that an old type is at or below.
+/// The facts of the types at or above a type are to hold at a node, but for those of types that one of two old types is at or
+/// below.
 pub fn push_rules(
     tasks: &mut Tasks,
     system: &TypeSystem,
     node: u32,
     ty: u32,
     old: u32,
+    other: u32,
 ) -> Result<(), NoMemory>
     requires ty_in { ty < count_of system.now.types }
     requires old_in { old < count_of system.now.types }
-    ensures work { OnOk result (PushesFacts (system_of system.now) node ty old (work_of system.now.rules tasks.old) (work_of system.now.rules tasks.new)) }
+    requires other_in { other < count_of system.now.types }
+    ensures work { OnOk result (PushesFacts (system_of system.now) node ty old other (work_of system.now.rules tasks.old) (work_of system.now.rules tasks.new)) }
     ensures ready { OnOk result ((size types : ℕ) → node < size → AreReady size types (length system.now.rules) tasks.old → AreReady size types (length system.now.rules) tasks.new) }
 {
+    if ty == old {
+        return Ok(());
+    }
+    if ty == other {
+        return Ok(());
+    }
     for rule in system.rules_above(ty) {
-        push_rule(tasks, system, node, old, *rule)?;
+        push_rule(tasks, system, node, old, other, *rule)?;
     }
     Ok(())
 }
 
-/// A node's type becomes its meet with another type.
-pub fn lower(
+// A node's type becomes its meet with another type.
+fn lower(
     nodes: &mut Nodes,
     tasks: &mut Tasks,
     system: &TypeSystem,
@@ -157,15 +96,128 @@ pub fn lower(
     requires node { n < length nodes.old.types.items }
     requires ty_in { ty < count_of system.now.types }
     ensures leads { OnOk result ((m u : ℕ) → live_of nodes.old.forwards.items m ≡ n → meet_of system.now.types (slice_index_or nodes.old.types.items n 0) u ≡ Some ty → Leads system.now nodes.old (is_under m [] u ∷ work_of system.now.rules tasks.old) nodes.new (work_of system.now.rules tasks.new)) }
+    ensures arcs { OnOk result (KeepsArcs nodes.old nodes.new) }
     ensures sound { OnOk result (AreSound system.now nodes.new tasks.new) }
 {
     let old = nodes.types[n as usize];
     nodes.types[n as usize] = ty;
-    push_rules(tasks, system, n, ty, old)?;
+    push_rules(tasks, system, n, ty, old, old)?;
     Ok(())
 }
 
-/// The node one arc on, which is made where it isn't there. `None` where a path gets too long.
+/// A node's type is put at or below a type. The answer is false where the two have no common subtype.
+pub fn put_under(
+    nodes: &mut Nodes,
+    tasks: &mut Tasks,
+    system: &TypeSystem,
+    node: u32,
+    ty: u32,
+) -> Result<bool, NoMemory>
+    requires sound { AreSound system.now nodes.old tasks.old }
+    requires node { node < length nodes.old.types.items }
+    requires ty_in { ty < count_of system.now.types }
+    ensures steps { IfOk result (StepsTo system.now nodes.old (is_under node [] ty ∷ work_of system.now.rules tasks.old) nodes.new tasks.new) }
+    ensures arcs { OnOk result (KeepsArcs nodes.old nodes.new) }
+{
+    let n = live(&nodes.forwards, node);
+    let old = Ty(nodes.types[n as usize]);
+    let types = system.types();
+    if types.at_or_below(old, Ty(ty)) {
+        return Ok(true);
+    }
+    types.laws();
+    let Some(met) = types.meet(old, Ty(ty)) else {
+        return Ok(false);
+    };
+    lower(nodes, tasks, system, n, met.0)?;
+    Ok(true)
+}
+
+/// A node that isn't merged is to have an arc. The answer is false where its type and the feature's introducer have no common
+/// subtype.
+pub fn attach(
+    nodes: &mut Nodes,
+    tasks: &mut Tasks,
+    system: &TypeSystem,
+    n: u32,
+    feat: u32,
+    to: u32,
+) -> Result<bool, NoMemory>
+    requires sound { AreSound system.now nodes.old tasks.old }
+    requires node { n < length nodes.old.types.items }
+    requires to_in { to < length nodes.old.types.items }
+    requires feat_in { feat < length system.now.introducers }
+    requires stays { live_of nodes.old.forwards.items n ≡ n }
+    ensures steps { IfOk result (StepsTo system.now nodes.old (is_same n (feat ∷ []) to [] ∷ work_of system.now.rules tasks.old) nodes.new tasks.new) }
+    ensures arcs { OnOk result (KeepsArcs nodes.old nodes.new) }
+{
+    if let Some(found) = arc_of(nodes, n, feat) {
+        tasks.push_pair(found, to)?;
+        return Ok(true);
+    }
+    let introducer = system.introducer(feat);
+    add_arc(nodes, n, feat, to)?;
+    let ok = put_under(nodes, tasks, system, n, introducer)?;
+    Ok(ok)
+}
+
+/// A node that isn't merged is to have the arcs from a place on. The answer is false where a clash was met.
+pub fn attach_all(
+    nodes: &mut Nodes,
+    tasks: &mut Tasks,
+    system: &TypeSystem,
+    n: u32,
+    first: u32,
+) -> Result<bool, NoMemory>
+    requires sound { AreSound system.now nodes.old tasks.old }
+    requires node { n < length nodes.old.types.items }
+    requires first_in { first ≤ length nodes.old.cells.items }
+    requires stays { live_of nodes.old.forwards.items n ≡ n }
+    ensures { IfOk result (StepsTo system.now nodes.old (arc_claims n (chain nodes.old.cells.items first) ++ work_of system.now.rules tasks.old) nodes.new tasks.new) }
+{
+    let mut place = first;
+    while place != 0 {
+        let cell = nodes.cells[place as usize - 1];
+        match attach(nodes, tasks, system, n, cell.feat, cell.to)? {
+            true => place = cell.next,
+            false => return Ok(false),
+        }
+    }
+    Ok(true)
+}
+
+/// Merges b into a, whose type becomes the meet of both; b's arcs are to be a's. The answer is false where there is no meet,
+/// or another clash was met.
+pub fn merge(
+    nodes: &mut Nodes,
+    tasks: &mut Tasks,
+    system: &TypeSystem,
+    a: u32,
+    b: u32,
+) -> Result<bool, NoMemory>
+    requires sound { AreSound system.now nodes.old tasks.old }
+    requires order { a < b }
+    requires b_in { b < length nodes.old.types.items }
+    requires a_stays { live_of nodes.old.forwards.items a ≡ a }
+    requires b_stays { live_of nodes.old.forwards.items b ≡ b }
+    ensures { IfOk result (λ ok. (n m : ℕ) → live_of nodes.old.forwards.items n ≡ a → live_of nodes.old.forwards.items m ≡ b → StepsTo system.now nodes.old (is_same n [] m [] ∷ work_of system.now.rules tasks.old) nodes.new tasks.new ok) }
+{
+    let old = nodes.types[a as usize];
+    let other = nodes.types[b as usize];
+    let types = system.types();
+    types.laws();
+    let Some(met) = types.meet(Ty(old), Ty(other)) else {
+        return Ok(false);
+    };
+    let first = nodes.firsts[b as usize];
+    unite(nodes, a, b, met.0);
+    push_rules(tasks, system, a, met.0, old, other)?;
+    let ok = attach_all(nodes, tasks, system, a, first)?;
+    Ok(ok)
+}
+
+/// The node one arc on, which is made where it isn't there. `None` where a path gets too long, or the feature can't stand at
+/// the node.
 pub fn go(
     nodes: &mut Nodes,
     tasks: &mut Tasks,
@@ -190,7 +242,10 @@ pub fn go(
     if depth >= system.path_limit() {
         return Ok(None);
     }
-    tasks.push_bound(from, system.introducer(feat))?;
+    let introducer = system.introducer(feat);
     let to = grow(nodes, from, feat, 0, depth + 1)?;
-    Ok(Some(to))
+    match put_under(nodes, tasks, system, from, introducer)? {
+        true => Ok(Some(to)),
+        false => Ok(None),
+    }
 }

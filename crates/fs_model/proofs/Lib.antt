@@ -3,6 +3,7 @@ pub mod ListedLemmas
 pub mod TableLemmas
 pub mod StepLemmas
 pub mod MoreSteps
+pub mod JoinStep
 pub mod Ends
 pub mod NumberingLemmas
 pub mod SubsumeLemmas

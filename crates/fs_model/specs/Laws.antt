@@ -5,7 +5,7 @@ use Rattle.fs_model.specs.Closure.{Closure, IsConsistent}
 use Rattle.fs_model.specs.Listed.{FormsAgree}
 use Rattle.fs_model.specs.Sources.{Reader, IsSameStructure, Subsumes, Tells, Part, Source, Told, IsUnified, IsSameAnswer}
 use Rattle.fs_model.specs.Table.{Table, IsTable, NodeClaim, is_same, is_under, from, Follows, walk}
-use Rattle.fs_model.specs.Steps.{InTable, before, head, Closes, Starts, StandsIn, Grows, Links, Merges, Lowers}
+use Rattle.fs_model.specs.Steps.{InTable, before, head, Closes, Starts, StandsIn, Grows, Links, Merges, Lowers, Joins}
 use Rattle.fs_model.specs.Numbering.{seen, IsNumbered, HasHeights, IsSameTable, IsMatching}
 
 -- each claim of the one source follows from the other
@@ -89,6 +89,13 @@ abbrev pub TableLowers : Type 0
 TableLowers =
     (s : System) → IsOrder s → (source : Source) (t t' : Table) (rest work' : List NodeClaim) (w : ℕ → Path) (n u v : ℕ) → n < t.size →
     Lowers s t t' rest work' (t.live n) u v → Closes s (Told source) t (is_under n [] u ∷ rest) w → Closes s (Told source) t' work' w
+
+-- two equal nodes become one, of the meet of their types
+abbrev pub TableJoins : Type 0
+TableJoins =
+    (s : System) → IsOrder s → (source : Source) (t t' : Table) (rest work' : List NodeClaim) (w : ℕ → Path) (n m v : ℕ) → n < t.size → m < t.size →
+    t.live n ≢ t.live m → Joins s t t' rest work' (t.live n) (t.live m) v → Closes s (Told source) t (is_same n [] m [] ∷ rest) w →
+    Closes s (Told source) t' work' w
 
 -- two types at a node without a meet
 abbrev pub TypesClash : Type 0

@@ -87,3 +87,21 @@ pub record Lowers (s : System) (t t' : Table) (work work' : List NodeClaim) (n u
   pub work_rest : (c : NodeClaim) → Has c work → Has c work'
   pub work_only : (c : NodeClaim) → Has c work' →
       ((x : ℕ) × (d : Claim) × (s.is_below v x ≡ true) × Has d (s.facts_of x) × (c ≡ from n d)) ⊎ Has c work
+
+-- two live nodes become one, whose type is the meet of their types; the arcs of the one that goes become work, and the facts
+-- of the types that neither of the two was at or below
+pub record Joins (s : System) (t t' : Table) (work work' : List NodeClaim) (a b v : ℕ) : Type 0 where
+  pub size_is : t'.size ≡ t.size
+  pub live_b : (k : ℕ) → t.live k ≡ b → t'.live k ≡ a
+  pub live_other : (k : ℕ) → t.live k ≢ b → t'.live k ≡ t.live k
+  pub arc_is : (k g : ℕ) → k < t.size → t'.arc k g ≡ t.arc k g
+  pub meet_is : s.meet (t.type_of a) (t.type_of b) ≡ Some v
+  pub type_here : t'.type_of a ≡ v
+  pub type_other : (k : ℕ) → k < t.size → k ≢ a → t'.type_of k ≡ t.type_of k
+  pub work_arcs : (f m : ℕ) → t.arc b f ≡ Some m → Has (is_same a (f ∷ []) m []) work'
+  pub work_facts : (x : ℕ) (c : Claim) → s.is_below v x ≡ true → Has c (s.facts_of x) →
+      (s.is_below (t.type_of a) x ≡ true) ⊎ ((s.is_below (t.type_of b) x ≡ true) ⊎ Has (from a c) work')
+  pub work_rest : (c : NodeClaim) → Has c work → Has c work'
+  pub work_only : (c : NodeClaim) → Has c work' →
+      ((x : ℕ) × (d : Claim) × (s.is_below v x ≡ true) × Has d (s.facts_of x) × (c ≡ from a d)) ⊎
+      (((f : ℕ) × (m : ℕ) × (t.arc b f ≡ Some m) × (c ≡ is_same a (f ∷ []) m [])) ⊎ Has c work)

@@ -3,7 +3,7 @@
 //! Typed feature structures, their well-formedness and their unification: Copestake 2002.
 #![tactic(auto)]
 
-ghost use Rattle.fs_model.specs.Laws.{ClosureGrows, ConsistencyFalls, ListsAgree, AnswerIsOne, TablesStart, PartsFollow, WorkAdvances, WorkDrops, TableGrows, TableLinks, TableMerges, TableLowers, TypesClash, PathsClash, WalksClash, CyclesClash, TableIsUnified, NumbersAreOne, MatchingSubsumes};
+ghost use Rattle.fs_model.specs.Laws.{ClosureGrows, ConsistencyFalls, ListsAgree, AnswerIsOne, TablesStart, PartsFollow, WorkAdvances, WorkDrops, TableGrows, TableLinks, TableMerges, TableLowers, TableJoins, TypesClash, PathsClash, WalksClash, CyclesClash, TableIsUnified, NumbersAreOne, MatchingSubsumes};
 
 /// The laws of the closure. It does nothing.
 ///
@@ -29,6 +29,7 @@ pub fn table_laws()
     ensures links { TableLinks }
     ensures merges { TableMerges }
     ensures lowers { TableLowers }
+    ensures joins { TableJoins }
 
     ensures types { TypesClash }
     ensures paths { PathsClash }

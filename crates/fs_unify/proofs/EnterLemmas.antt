@@ -243,7 +243,7 @@ owes_none s offset g work = record {
 }
 
 pub owes_more : (s : System) (offset n at : ℕ) (g : GraphMap) (ty : ℕ) (arcs : List GraphArc) (work one two three : List NodeClaim) → IsBare s → s.top ≡ 0 →
-    at ≡ offset + n → ty ≡ type_at g n → arcs ≡ arcs_at g n → Owes s offset g n work one → PushesFacts s at ty 0 one two →
+    at ≡ offset + n → ty ≡ type_at g n → arcs ≡ arcs_at g n → Owes s offset g n work one → PushesFacts s at ty 0 0 one two →
     IsJoined (introducer_claims s at arcs) two three → Owes s offset g (n + 1) work three
 owes_more s offset n at g ty arcs work one two three bare top is_at is_ty is_arcs old pushed joined = record {
   facts = λ k x c h b i. facts k x c h b i (cases_lt k n);
@@ -259,9 +259,10 @@ owes_more s offset n at g ty arcs work one two three bare top is_at is_ty is_arc
         e : k ≡ n
         e = omega arith
 
-        go : (s.is_below 0 x ≡ true) ⊎ Has (from at c) two → Has (from (offset + k) c) three
+        go : (s.is_below 0 x ≡ true) ⊎ ((s.is_below 0 x ≡ true) ⊎ Has (from at c) two) → Has (from (offset + k) c) three
         go (inl z) = absurd (bare x c (ap (λ y. s.is_below y x) top ∙ z) i)
-        go (inr z) = subst (λ y. Has (from y c) three) (let d : at ≡ offset + k = omega (arith, is_at) in d) (joined.from_old _ z)
+        go (inr (inl z)) = absurd (bare x c (ap (λ y. s.is_below y x) top ∙ z) i)
+        go (inr (inr z)) = subst (λ y. Has (from y c) three) (let d : at ≡ offset + k = omega (arith, is_at) in d) (joined.from_old _ z)
 
     introduces : (k : ℕ) (a : GraphArc) → k < n + 1 → Has a (arcs_at g k) → (k < n) ⊎ (n ≤ k) → Has (is_under (offset + k) [] (s.introducer a.feat.0)) three
     introduces k a h i (inl b) = joined.from_old _ (pushed.rest _ (old.introduces k a b i))

@@ -10,7 +10,6 @@ use Rattle.fs_model.proofs.Ends.{Closes-starts}
 use Rattle.fs_closing.specs.declared.nodes.Nodes.{Nodes}
 use Rattle.fs_closing.specs.declared.tasks.Tasks.{Tasks}
 use Rattle.fs_closing.specs.NodeTable.{AreWhole, AreWithin, table_of, IsWhole, IsWithin}
-use Rattle.type_hierarchy.specs.Laws.{HasTypeLaws}
 use Rattle.fs_closing.specs.NodeSteps.{AddsNode}
 use Rattle.fs_closing.specs.Rules.{Grammar, system_of}
 use Rattle.fs_closing.specs.Work.{work_of}
@@ -25,6 +24,7 @@ use Rattle.fs_closing.specs.Levels.{BoundsPaths}
 use Rattle.fs_closing.specs.Keeps.{Deep, deep_of, Stands, Turns, Refutes, Leads, Clashes, StepsTo}
 use Rattle.fs_closing.proofs.HasLemmas.{Has-map, Has-of_map}
 use Rattle.fs_closing.proofs.KeepsLemmas.{Refutes-after, Refutes-order, Refutes-beside, same_beside, same_itself, same_swapped}
+pub use Rattle.fs_closing.proofs.OrderLemmas.{order_of_laws}
 
 pub whole_none : AreWhole [] [] [] [] []
 whole_none = record {
@@ -163,15 +163,3 @@ pub flat_one : (ds ds' : List ℕ) → ds' ≡ ds ++ 0 ∷ [] → ds ≡ [] → 
 flat_one ds ds' is none n h =
     let zero_is : n ≡ 0 = omega arith in
     ap (λ l. slice_index_or l n 0) (is ∙ ap (λ l. l ++ 0 ∷ []) none) ∙ ap (λ i. slice_index_or (0 ∷ []) i 0) zero_is
-
--- the laws of types are those of the order
-pub order_of_laws : (g : Grammar) → HasTypeLaws g.types → IsOrder (system_of g)
-order_of_laws g laws = record {
-  reflexive = laws.reflexive;
-  transitive = laws.transitive;
-  antisymmetric = laws.antisymmetric;
-  below_top = laws.below_top;
-  meet_below = laws.meet_below;
-  meet_greatest = laws.meet_greatest;
-  meet_exists = laws.meet_exists;
-}

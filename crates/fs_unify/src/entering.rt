@@ -100,7 +100,7 @@ pub fn push_nodes(
     let _ = system.path_limit();
     for k in 0..graph.nodes() {
         let node = Node(k);
-        push_rules(tasks, system, offset + k, graph.ty(node).0, 0)?;
+        push_rules(tasks, system, offset + k, graph.ty(node).0, 0, 0)?;
         push_introducers(tasks, system, offset + k, graph.arcs(node))?;
     }
     Ok(())

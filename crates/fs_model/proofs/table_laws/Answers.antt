@@ -1,6 +1,7 @@
 use Rattle.fs_model.specs.Sources.{Told}
 use Rattle.fs_model.proofs.StepLemmas.{Closes-advance, Closes-drop, Closes-grows}
 use Rattle.fs_model.proofs.MoreSteps.{Closes-merges, Closes-lowers}
+use Rattle.fs_model.proofs.JoinStep.{Closes-joins}
 use Rattle.fs_model.proofs.Ends.{Closes-links, clash, Closes-starts}
 use Rattle.fs_model.proofs.AnswerLemmas.{path_clash, walk_clash, cycle_clash, table_is_unified}
 use Rattle.fs_model.proofs.PartLemmas.{part_follows}
@@ -18,6 +19,7 @@ returns c =
       links = λ s source. Closes-links s (Told source);
       merges = λ s source. Closes-merges s (Told source);
       lowers = λ s o source. Closes-lowers s o (Told source);
+      joins = λ s o source. Closes-joins s o (Told source);
       types = λ s source. clash s (Told source);
       paths = λ s source. path_clash s (Told source);
       walks = λ s o source. walk_clash s o (Told source);

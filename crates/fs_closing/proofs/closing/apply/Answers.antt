@@ -1,11 +1,12 @@
-use Rattle.std.proofs.Common.{[], ◌∷◌, sym, ◌∙◌, ap, subst, true, false, length}
+use Rattle.std.proofs.Common.{[], ◌∷◌, sym, ◌∙◌, ap, subst, true, false, length, arith}
 use Rattle.fs_model.specs.Table.{is_there, is_same, is_under, from}
 use Rattle.fs_paths.specs.Facts.{path_of, claim_of}
 use Rattle.type_hierarchy.specs.Table.{count_of}
 use Rattle.fs_closing.specs.Rules.{IsClaimIn}
 use Rattle.fs_closing.specs.Work.{work_of}
 use Rattle.fs_closing.specs.Keeps.{StepsTo}
-use Rattle.fs_closing.proofs.ClosingLemmas.{reaches_by, steps_by, apply_exists, apply_below}
+use Rattle.fs_closing.proofs.ClosingLemmas.{reaches_by, steps_by, apply_exists}
+use Rattle.fs_closing.proofs.StepLemmas.{steps_after}
 use Rattle.fs_closing.proofs.closing.apply.Goals as goal
 
 pub returns-in-Some-clause-steps : goal.returns-in-Some-clause-steps
@@ -24,16 +25,16 @@ returns-in-None-clause-steps c =
     steps_by g c.args.nodes.now c.args.node _ _ (work_of g.rules c.args.tasks.now) c.reach.new.nodes c.reach.new.tasks false (ap claim_of c.in-Exists.is)
     (r (is_there 0 []))
 
-pub returns-in_ok-push_bound-in-Some-2-clause-steps : goal.returns-in_ok-push_bound-in-Some-2-clause-steps
-returns-in_ok-push_bound-in-Some-2-clause-steps c =
+pub returns-in_ok-ok-in-Some-2-clause-steps : goal.returns-in_ok-ok-in-Some-2-clause-steps
+returns-in_ok-ok-in-Some-2-clause-steps c =
     let g = c.args.system.now in
+    let n = c.args.node in
     let r = reaches_by g c.args.nodes.now c.args.tasks.now c.args.node c.deref-in-Below.result.now c.in-Below.path.items c.reach-in-Below.new.nodes
     c.reach-in-Below.new.tasks _ _ c.deref-in-Below.ensures.value c.in-Some-2.is c.in_ok-at-in-Below.ensures in
-    let fact = subst (λ f. IsClaimIn (count_of g.types) (length g.introducers) (claim_of f)) c.in-Below.is c.requires.fact in
-    steps_by g c.args.nodes.now c.args.node _ _ (work_of g.rules c.args.tasks.now) c.reach-in-Below.new.nodes c.push_bound.new.self true (ap claim_of c.in-Below.is)
-    (apply_below g c.args.nodes.now c.args.tasks.now c.args.node (path_of c.in-Below.path.items) c.reach-in-Below.new.nodes c.reach-in-Below.new.tasks
-    c.push_bound.new.self c.in-Some-2.at c.in-Below.ty.0 r (c.in_ok-push_bound-in-Some-2.ensures.work g.rules)
-    (record { whole = r.1.whole; within = r.1.within; ready = c.in_ok-push_bound-in-Some-2.ensures.ready _ _ _ r.2 fact.1 r.1.ready }))
+    steps_by g c.args.nodes.now c.args.node _ _ (work_of g.rules c.args.tasks.now) c.put_under.new.nodes c.put_under.new.tasks c.in_ok-ok-in-Some-2.ok (ap claim_of c.in-Below.is)
+    (steps_after g c.args.nodes.now c.reach-in-Below.new.nodes c.put_under.new.nodes (is_under n (path_of c.in-Below.path.items) c.in-Below.ty.0 ∷ work_of g.rules c.args.tasks.now)
+    (is_under c.in-Some-2.at [] c.in-Below.ty.0 ∷ work_of g.rules c.reach-in-Below.new.tasks) c.put_under.new.tasks c.in_ok-ok-in-Some-2.ok
+    (r.0 (is_under 0 [] c.in-Below.ty.0)) c.in_ok-ok-in-Some-2.ensures.steps)
 
 pub returns-in-None-2-clause-steps : goal.returns-in-None-2-clause-steps
 returns-in-None-2-clause-steps c =
@@ -60,9 +61,9 @@ returns-in-Some-clause-more c = λ _.
     c.deref.ensures.value c.in-Some.is c.in_ok-reach-in-Exists.ensures in
     r.3
 
-pub returns-in_ok-push_bound-in-Some-2-clause-more : goal.returns-in_ok-push_bound-in-Some-2-clause-more
-returns-in_ok-push_bound-in-Some-2-clause-more c = λ _.
+pub returns-in_ok-ok-in-Some-2-clause-more : goal.returns-in_ok-ok-in-Some-2-clause-more
+returns-in_ok-ok-in-Some-2-clause-more c = λ _.
     let g = c.args.system.now in
     let r = reaches_by g c.args.nodes.now c.args.tasks.now c.args.node c.deref-in-Below.result.now c.in-Below.path.items c.reach-in-Below.new.nodes
     c.reach-in-Below.new.tasks _ _ c.deref-in-Below.ensures.value c.in-Some-2.is c.in_ok-at-in-Below.ensures in
-    r.3
+    omega (arith, r.3, c.in_ok-ok-in-Some-2.ensures.arcs.size)

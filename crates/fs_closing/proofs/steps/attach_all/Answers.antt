@@ -1,11 +1,12 @@
-use Rattle.std.proofs.Common.{◌≡◌, ◌≤◌, ◌-◌, ◌++◌, length, slice_index_or, sym, ◌∙◌, ap, subst, arith}
+use Rattle.std.proofs.Common.{◌≡◌, ◌≤◌, ◌-◌, [], ◌∷◌, ◌++◌, length, slice_index_or, sym, ◌∙◌, ap, subst, arith}
 use Rattle.std.proofs.lemmas.List.{get_or_default}
+use Rattle.fs_model.specs.Table.{is_same}
 use Rattle.fs_closing.specs.Cells.{live_of, chain, no_cell}
 use Rattle.fs_closing.specs.Rules.{system_of}
 use Rattle.fs_closing.specs.Work.{work_of}
-use Rattle.fs_closing.specs.Keeps.{Turns, deep_of, arc_claims}
+use Rattle.fs_closing.specs.Keeps.{Turns, StepsTo, deep_of, arc_claims}
 use Rattle.fs_closing.proofs.ChainLemmas.{chain_at, chain-none}
-use Rattle.fs_closing.proofs.StepLemmas.{turn_one}
+use Rattle.fs_closing.proofs.StepLemmas.{turn_one, refute_one}
 use Rattle.fs_closing.proofs.steps.attach_all.Goals as goal
 
 pub attach-requires-clause-to_in : goal.attach-requires-clause-to_in
@@ -39,13 +40,17 @@ loop-place-preserved c =
     let before = subst (λ l. Turns s (deep_of c.args.nodes.now) start (deep_of c.loop-place.nodes) (arc_claims n l ++ work_of c.args.system.now.rules c.loop-place.tasks))
     at.0 c.loop-place.invariant.leads in
     let arcs = c.in_ok-attach.ensures.arcs in
+    let cell = c.index-cell.result.now in
+    let work = work_of c.args.system.now.rules c.loop-place.tasks in
+    let step = subst (StepsTo c.args.system.now c.loop-place.nodes (is_same n (cell.feat ∷ []) cell.to [] ∷ work) c.attach.new.nodes c.attach.new.tasks)
+    c.in-true.is c.in_ok-attach.ensures.steps in
     let next_in : c.index-cell.result.now.next ≤ length cells = omega (arith, at.1, c.loop-place.invariant.place_in) in
     record {
       leads = subst (λ l. Turns s (deep_of c.args.nodes.now) start (deep_of c.attach.new.nodes) (arc_claims n l ++ work_of c.args.system.now.rules c.attach.new.tasks))
           (sym (arcs.chains c.index-cell.result.now.next next_in))
-          (turn_one s (deep_of c.args.nodes.now) (deep_of c.loop-place.nodes) (deep_of c.attach.new.nodes) start _ _ _ _ before c.in_ok-attach.ensures.leads);
-      sound = c.in_ok-attach.ensures.sound;
-      node = omega (arith, ap length arcs.types, c.loop-place.invariant.node);
+          (turn_one s (deep_of c.args.nodes.now) (deep_of c.loop-place.nodes) (deep_of c.attach.new.nodes) start _ _ _ _ before step.0);
+      sound = step.1;
+      node = omega (arith, arcs.size, c.loop-place.invariant.node);
       place_in = omega (arith, next_in, arcs.more);
       stays = ap (λ l. live_of l n) arcs.forwards ∙ c.loop-place.invariant.stays;
     }
@@ -59,10 +64,31 @@ loop-place-smaller c =
     c.loop-place.invariant.sound.whole.places is in
     at.1
 
-pub returns-clause-leads : goal.returns-clause-leads
-returns-clause-leads c =
+pub returns-in-false : goal.returns-in-false
+returns-in-false c =
+    let cells = c.loop-place.nodes.cells.items in
+    let s = system_of c.args.system.now in
+    let n = c.args.n in
+    let is : c.index-cell.result.now ≡ slice_index_or c.loop-place.nodes.cells.items (c.loop-place.place - 1) no_cell =
+    c.index-cell.ensures ∙ get_or_default cells (c.loop-place.place - 1) _ no_cell (omega arith) in
+    let at = chain_at cells c.loop-place.place c.index-cell.result.now c.loop-place-test.true c.loop-place.invariant.place_in
+    c.loop-place.invariant.sound.whole.places is in
+    let start = arc_claims n (chain c.args.nodes.now.cells.items c.args.first) ++ work_of c.args.system.now.rules c.args.tasks.now in
+    let before = subst (λ l. Turns s (deep_of c.args.nodes.now) start (deep_of c.loop-place.nodes) (arc_claims n l ++ work_of c.args.system.now.rules c.loop-place.tasks))
+    at.0 c.loop-place.invariant.leads in
+    let cell = c.index-cell.result.now in
+    let work = work_of c.args.system.now.rules c.loop-place.tasks in
+    refute_one s (deep_of c.args.nodes.now) (deep_of c.loop-place.nodes) start (is_same n (cell.feat ∷ []) cell.to [])
+    (arc_claims n (chain c.loop-place.nodes.cells.items cell.next)) work before
+    (subst (StepsTo c.args.system.now c.loop-place.nodes (is_same n (cell.feat ∷ []) cell.to [] ∷ work) c.attach.new.nodes c.attach.new.tasks)
+    c.in-false.is c.in_ok-attach.ensures.steps)
+
+pub returns : goal.returns
+returns c =
     let none : c.loop-place.place ≡ 0 = omega (arith, c.loop-place-test.false) in
     let s = system_of c.args.system.now in
-    let start = arc_claims c.args.n (chain c.args.nodes.now.cells.items c.args.first) ++ work_of c.args.system.now.rules c.args.tasks.now in
-    subst (λ l. Turns s (deep_of c.args.nodes.now) start (deep_of c.loop-place.nodes) (arc_claims c.args.n l ++ work_of c.args.system.now.rules c.loop-place.tasks))
-    (ap (chain c.loop-place.nodes.cells.items) none ∙ chain-none c.loop-place.nodes.cells.items) c.loop-place.invariant.leads
+    let start = arc_claims c.args.n (chain c.args.nodes.now.cells.items c.args.first) ++ work_of c.args.system.now.rules c.args.tasks.now in (
+      subst (λ l. Turns s (deep_of c.args.nodes.now) start (deep_of c.loop-place.nodes) (arc_claims c.args.n l ++ work_of c.args.system.now.rules c.loop-place.tasks))
+          (ap (chain c.loop-place.nodes.cells.items) none ∙ chain-none c.loop-place.nodes.cells.items) c.loop-place.invariant.leads,
+      c.loop-place.invariant.sound,
+    )

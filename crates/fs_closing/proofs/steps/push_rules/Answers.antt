@@ -8,7 +8,7 @@ use Rattle.fs_closing.specs.Rules.{no_rule}
 use Rattle.fs_closing.specs.Work.{work_of}
 use Rattle.fs_closing.proofs.HasLemmas.{Has-at}
 use Rattle.fs_closing.proofs.RangeLemmas.{Has-of_filter, Has-of_range}
-use Rattle.fs_closing.proofs.StepLemmas.{TakesRules, takes_more, takes_step, takes_all}
+use Rattle.fs_closing.proofs.StepLemmas.{TakesRules, pushes_none, takes_more, takes_step, takes_all}
 use Rattle.fs_closing.proofs.steps.push_rules.Goals as goal
 
 pub push_rule-requires-clause-rule_in : goal.push_rule-requires-clause-rule_in
@@ -26,9 +26,9 @@ loop-rule-preserved c =
     let j = slice_index_or list c.loop-rule.rule-index 0 in
     let entry : Entry = record { node = c.args.node; rule = j; from = 0 } in
     record {
-      takes = takes_more c.args.system.now c.args.node c.args.old j _ _ _ _ _ entry (take_more list c.loop-rule.rule-index 0 c.loop-rule-test.true)
+      takes = takes_more c.args.system.now c.args.node c.args.old c.args.other j _ _ _ _ _ entry (take_more list c.loop-rule.rule-index 0 c.loop-rule-test.true)
           refl refl refl c.loop-rule.invariant.takes
-          (takes_step c.args.system.now c.args.old j c.loop-rule.tasks c.push_rule.new.tasks entry c.in_ok-push_rule.ensures.work);
+          (takes_step c.args.system.now c.args.old c.args.other j c.loop-rule.tasks c.push_rule.new.tasks entry c.in_ok-push_rule.ensures.work);
       ready = λ size types h old. c.in_ok-push_rule.ensures.ready size types h (c.loop-rule.invariant.ready size types h old);
     }
 
@@ -36,6 +36,6 @@ pub returns-clause-work : goal.returns-clause-work
 returns-clause-work c =
     let list = c.rules_above-rule-items.result.now in
     let g = c.args.system.now in
-    takes_all g c.args.node c.args.ty c.args.old _ _
-    (subst (λ l. TakesRules g c.args.node c.args.old l (work_of g.rules c.args.tasks.now) (work_of g.rules c.loop-rule.tasks))
+    takes_all g c.args.node c.args.ty c.args.old c.args.other _ _
+    (subst (λ l. TakesRules g c.args.node c.args.old c.args.other l (work_of g.rules c.args.tasks.now) (work_of g.rules c.loop-rule.tasks))
     (take_all c.loop-rule.rule-index list c.loop-rule-test.false ∙ c.rules_above-rule-items.ensures) c.loop-rule.invariant.takes)

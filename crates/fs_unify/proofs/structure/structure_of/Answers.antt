@@ -1,6 +1,6 @@
 use Rattle.std.proofs.Common.{subst}
 use Rattle.type_hierarchy.specs.Laws.{HasTypeLaws}
-use Rattle.fs_unify.proofs.GivenLemmas.{order_of_laws}
+use Rattle.fs_closing.proofs.OrderLemmas.{order_of_laws}
 use Rattle.fs_unify.proofs.structure.structure_of.Goals as goal
 
 pub structure-requires-clause-order : goal.structure-requires-clause-order

@@ -7,8 +7,8 @@ use Rattle.fs_model.specs.Closure.{IsConsistent}
 use Rattle.fs_model.specs.Sources.{Told}
 use Rattle.fs_closing.specs.Rules.{system_of}
 use Rattle.fs_closing.proofs.HasLemmas.{Has-map}
+use Rattle.fs_closing.proofs.OrderLemmas.{order_of_laws}
 use Rattle.fs_unify.specs.Placing.{placed, source_of, source_in}
-use Rattle.fs_unify.proofs.GivenLemmas.{order_of_laws}
 use Rattle.fs_unify.proofs.PlaceLemmas.{source_seen}
 use Rattle.fs_unify.proofs.unifier.unifies.Goals as goal
 

@@ -7,8 +7,8 @@ use Rattle.fs_model.specs.Sources.{IsUnified}
 use Rattle.fs_graph.specs.GraphMap.{reader_of}
 use Rattle.fs_closing.specs.Rules.{system_of}
 use Rattle.fs_closing.proofs.HasLemmas.{Has-map}
+use Rattle.fs_closing.proofs.OrderLemmas.{order_of_laws}
 use Rattle.fs_unify.specs.Placing.{placed, source_of, source_in}
-use Rattle.fs_unify.proofs.GivenLemmas.{order_of_laws}
 use Rattle.fs_unify.proofs.PlaceLemmas.{source_seen}
 use Rattle.fs_unify.proofs.unifier.unify.Goals as goal
 
