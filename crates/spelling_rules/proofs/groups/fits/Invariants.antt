@@ -1,0 +1,14 @@
+use Rattle.std.proofs.Common.{◌≡◌, ◌++◌, ◌+◌, ◌-◌, ◌<◌, ◌≤◌, ℕ, List, [], ◌∷◌, length, map, take, drop, None, string_bytes}
+use Rattle.spelling_rules.specs.Views.{sign_of, group_of, rule_of, line_of, words_in, letters_in}
+use Rattle.spelling_rules.specs.Inner.Rewriting.{value_in, fits_by, by_groups}
+use Rattle.spelling_rules.specs.Forms.{stands_for, joined, Rewrites, HasForm}
+use Rattle.spelling_rules.specs.Inner.Undoing.{occurs, longer, fillings}
+use Rattle.std.specs.List.{flat_map}
+use Rattle.std.specs.Prelude.{encode_utf8_all}
+use Rattle.word_lists.specs.Words.{Word, Has, Rises, noted}
+use Rattle.spelling_rules.specs.Inner.Tables.{IsTable, pair_of, words_of_rule, with_each}
+use Rattle.spelling_rules.specs.Inner.Keeping.{IsStem}
+use Rattle.spelling_rules.proofs.groups.fits.Given as goal
+
+abbrev pub invariant-loop-i : goal.invariant-loop-i
+invariant-loop-i l = fits_by (value_in (map sign_of l.signs) l.part) (drop l.i (map sign_of l.signs)) (drop l.i l.part) ≡ fits_by (value_in (map sign_of l.signs) l.part) (map sign_of l.signs) l.part

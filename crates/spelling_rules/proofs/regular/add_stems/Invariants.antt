@@ -1,0 +1,18 @@
+use Rattle.std.proofs.Common.{◌≡◌, ◌++◌, ◌+◌, ◌-◌, ◌<◌, ◌≤◌, ℕ, List, [], ◌∷◌, length, map, take, drop, None, string_bytes}
+use Rattle.spelling_rules.specs.Views.{sign_of, group_of, rule_of, line_of, words_in, letters_in}
+use Rattle.spelling_rules.specs.Inner.Rewriting.{value_in, fits_by, by_groups}
+use Rattle.spelling_rules.specs.Forms.{stands_for, joined, Rewrites, HasForm}
+use Rattle.spelling_rules.specs.Inner.Undoing.{occurs, longer, fillings}
+use Rattle.std.specs.List.{flat_map}
+use Rattle.std.specs.Prelude.{encode_utf8_all}
+use Rattle.word_lists.specs.Words.{Word, Has, Rises, noted}
+use Rattle.spelling_rules.specs.Inner.Tables.{IsTable, pair_of, words_of_rule, with_each}
+use Rattle.spelling_rules.specs.Inner.Keeping.{IsStem}
+use Rattle.spelling_rules.specs.Inner.Keeping.{group_at}
+use Rattle.spelling_rules.proofs.regular.add_stems.Given as goal
+
+abbrev pub invariant-loop-group : goal.invariant-loop-group
+invariant-loop-group l = record {
+  kept : (w : Word) → Has w (words_in l.initial.out) → Has w (words_in l.out);
+  added : (w : Word) (k : ℕ) → k < l.group-index → Rewrites l.rule.suffix (group_at (map group_of l.rule.groups.items) k) w (encode_utf8_all l.letters) → Has w (words_in l.out);
+}

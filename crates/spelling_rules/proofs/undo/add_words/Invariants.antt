@@ -1,0 +1,17 @@
+use Rattle.std.proofs.Common.{◌≡◌, ◌++◌, ◌+◌, ◌-◌, ◌<◌, ◌≤◌, ℕ, List, [], ◌∷◌, length, map, take, drop, None, string_bytes}
+use Rattle.spelling_rules.specs.Views.{sign_of, group_of, rule_of, line_of, words_in, letters_in}
+use Rattle.spelling_rules.specs.Inner.Rewriting.{value_in, fits_by, by_groups}
+use Rattle.spelling_rules.specs.Forms.{stands_for, joined, Rewrites, HasForm}
+use Rattle.spelling_rules.specs.Inner.Undoing.{occurs, longer, fillings}
+use Rattle.std.specs.List.{flat_map}
+use Rattle.std.specs.Prelude.{encode_utf8_all}
+use Rattle.word_lists.specs.Words.{Word, Has, Rises, noted}
+use Rattle.spelling_rules.specs.Inner.Tables.{IsTable, pair_of, words_of_rule, with_each}
+use Rattle.spelling_rules.specs.Inner.Keeping.{IsStem}
+use Rattle.spelling_rules.proofs.undo.add_words.Given as goal
+
+abbrev pub invariant-loop-part : goal.invariant-loop-part
+invariant-loop-part l = record {
+  kept : (w : Word) → Has w (words_in l.initial.out) → Has w (words_in l.out);
+  added : (letters : List ℕ) → Has letters (map letters_in (take l.part-index l.parts)) → Has (encode_utf8_all (joined l.suffix l.rest letters)) (words_in l.out);
+}

@@ -1,0 +1,4 @@
+pub mod Trees
+pub mod Forms
+pub mod Views
+pub mod Inner
