@@ -1,10 +1,10 @@
 -- Written types that are at or below a type.
-use Rattle.std.proofs.Common.{ℕ, ◌≡◌, ◌≢◌, ◌≤◌, ◌<◌, ◌⊎◌, inl, inr, true, false, List, [], length, Vec, sym, ◌∙◌, ap, arith}
+use Rattle.std.proofs.Common.{ℕ, ◌≡◌, ◌≤◌, ◌<◌, ◌⊎◌, inl, inr, true, false, List, length, Vec, sym, ◌∙◌, arith}
 use Rattle.std.specs.Global.{Global}
 use Rattle.std.proofs.lemmas.Bool.{cases_lt}
 use Rattle.std.proofs.Common.{String}
-use Rattle.type_hierarchy.specs.Bits.{has_bit, IsRow}
-use Rattle.type_hierarchy.specs.Table.{TypeTable, set_of, has_member, is_below, is_set_below}
+use Rattle.type_hierarchy.specs.Bits.{has_bit}
+use Rattle.type_hierarchy.specs.Table.{TypeTable, set_of, has_member, is_below}
 use Rattle.type_hierarchy.specs.Laws.{IsOrder}
 use Rattle.type_hierarchy.specs.Inner.Tables.{types_table, row_items}
 use Rattle.type_hierarchy.proofs.SetLemmas.{differ, subset_elim, and_right, some_member, rising_below}

@@ -1,11 +1,11 @@
 -- Rows of bits turned to columns.
-use Rattle.std.proofs.Common.{ℕ, ◌≡◌, ◌≢◌, ◌≤◌, ◌<◌, ◌+◌, ◌*◌, ◌||◌, ◌⊎◌, inl, inr, Bool, true, false, List, [], length, slice_index_or, slice_set, Vec, All, refl, sym, ◌∙◌, ap, subst, arith}
+use Rattle.std.proofs.Common.{ℕ, ◌≡◌, ◌≢◌, ◌≤◌, ◌<◌, ◌+◌, ◌||◌, ◌⊎◌, inl, inr, Bool, true, false, List, [], length, slice_index_or, slice_set, Vec, All, refl, sym, ◌∙◌, ap, subst, arith}
 use Rattle.std.specs.Global.{Global}
 use Rattle.std.proofs.lemmas.Bool.{cases_lt}
 use Rattle.std.proofs.lemmas.List.{length-set, get_or-set_same, get_or-set_other, get_or-map}
 use Rattle.type_hierarchy.specs.Bits.{has_bit, IsRow}
 use Rattle.type_hierarchy.specs.Inner.Tables.{row_items}
-use Rattle.type_hierarchy.specs.Inner.Columns.{AreColumns, IsEntered}
+use Rattle.type_hierarchy.specs.Inner.Columns.{IsEntered}
 
 same_or_other : (k x : ℕ) → (k ≡ x) ⊎ (k ≢ x)
 same_or_other k x = go (cases_lt k x) (cases_lt x k)

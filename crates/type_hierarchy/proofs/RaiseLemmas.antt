@@ -1,12 +1,12 @@
 -- Rows that go into those of parents.
-use Rattle.std.proofs.Common.{ℕ, zero, suc, ◌≡◌, ◌≢◌, ◌≤◌, ◌<◌, ◌+◌, ◌==◌, ◌||◌, ◌↔◌, ◌⊎◌, inl, inr, Bool, true, false, List, [], ◌∷◌, ◌++◌, length, slice_index_or, slice_set, Vec, All, refl, sym, ◌∙◌, ap, subst, arith}
+use Rattle.std.proofs.Common.{ℕ, zero, suc, ◌≡◌, ◌≢◌, ◌≤◌, ◌<◌, ◌==◌, ◌||◌, ◌↔◌, ◌⊎◌, inl, inr, Bool, true, false, List, [], ◌∷◌, ◌++◌, length, slice_index_or, slice_set, Vec, All, refl, sym, ◌∙◌, ap, subst, arith}
 use Rattle.std.specs.Global.{Global}
 use Rattle.std.proofs.lemmas.Bool.{cases_lt}
 use Rattle.std.proofs.lemmas.List.{length-map, length-set, length-append, get_or-set_same, get_or-set_other, get_or-map, get_or_append_left, get_or_push, map-append}
 use Rattle.type_hierarchy.specs.Bits.{has_bit}
 use Rattle.type_hierarchy.specs.Inner.Reach.{lists}
 use Rattle.type_hierarchy.specs.Order.{Has, here, there, IsAtOrBelow, itself, above_parent}
-use Rattle.type_hierarchy.specs.Inner.Rows.{row_at, HoldOrder, AreOwn, IsRaised, HoldBelow, IsClosedAt, AreClosed}
+use Rattle.type_hierarchy.specs.Inner.Rows.{row_at, AreOwn, IsRaised, HoldBelow, AreClosed}
 use Rattle.type_hierarchy.proofs.SetLemmas.{eq_true, eq_false, or_cases, or_left}
 use Rattle.type_hierarchy.proofs.ReachLemmas.{Has-All}
 use Rattle.type_hierarchy.proofs.HierarchyLemmas.{below_trans}

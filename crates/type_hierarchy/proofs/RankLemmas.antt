@@ -1,6 +1,6 @@
 -- Ranks of types along parents.
-use Rattle.std.proofs.Common.{ℕ, ◌≤◌, ◌<◌, List, [], slice_index_or, arith}
-use Rattle.type_hierarchy.specs.Order.{Has, IsAtOrBelow, itself, above_parent, IsBelow}
+use Rattle.std.proofs.Common.{ℕ, ◌≤◌, List, [], slice_index_or, arith}
+use Rattle.type_hierarchy.specs.Order.{IsAtOrBelow, itself, above_parent, IsBelow}
 use Rattle.type_hierarchy.specs.Inner.Ranks.{rank_of, NeverRise, AreBelow}
 
 not_higher : (parents : List (List ℕ)) (ranks : List ℕ) → NeverRise parents ranks → (a b : ℕ) → IsAtOrBelow parents a b → rank_of ranks b ≤ rank_of ranks a

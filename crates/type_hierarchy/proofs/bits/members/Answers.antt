@@ -1,4 +1,4 @@
-use Rattle.std.proofs.Common.{◌+◌, ◌∷◌, ◌++◌, [], ◌∙◌, refl, ap, arith}
+use Rattle.std.proofs.Common.{◌+◌, ◌∷◌, ◌++◌, [], ◌∙◌, ap}
 use Rattle.type_hierarchy.proofs.BitLemmas.{members_skip, filter_push}
 use Rattle.type_hierarchy.specs.Bits.{has_bit}
 use Rattle.type_hierarchy.proofs.bits.members.Goals as goal

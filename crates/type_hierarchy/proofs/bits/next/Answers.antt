@@ -1,4 +1,4 @@
-use Rattle.std.proofs.Common.{ℕ, ◌≡◌, ◌<◌, ◌+◌, ◌/◌, ◌∙◌, false, true, refl, subst, inl, inr, arith}
+use Rattle.std.proofs.Common.{◌≡◌, ◌/◌, true, refl, subst, inl, inr, arith}
 use Rattle.std.proofs.lemmas.Bool.{cases_lt}
 use Rattle.type_hierarchy.specs.Bits.{has_bit}
 use Rattle.type_hierarchy.proofs.BitLemmas.{next_in_word, none_in_word}

@@ -1,4 +1,4 @@
-use Rattle.std.proofs.Common.{◌≡◌, ◌<◌, ◌∙◌, length, sym, ap, arith}
+use Rattle.std.proofs.Common.{◌∙◌, length, sym, arith}
 use Rattle.std.proofs.lemmas.List.{length-map}
 use Rattle.type_hierarchy.proofs.RowLemmas.{row_is}
 use Rattle.type_hierarchy.proofs.ColumnLemmas.{entered_more}

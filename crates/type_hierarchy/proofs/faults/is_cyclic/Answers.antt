@@ -1,4 +1,4 @@
-use Rattle.std.proofs.Common.{◌≡◌, ◌<◌, ◌∙◌, length, false, sym, subst, arith}
+use Rattle.std.proofs.Common.{◌<◌, ◌∙◌, length, false, sym, subst, arith}
 use Rattle.std.proofs.lemmas.List.{length-map, get_or_read}
 use Rattle.type_hierarchy.specs.Order.{Has}
 use Rattle.type_hierarchy.specs.Inner.Reach.{lists}

@@ -1,4 +1,4 @@
-use Rattle.std.proofs.Common.{◌∷◌, [], ◌∙◌, length-append, ap, length, arith}
+use Rattle.std.proofs.Common.{◌∷◌, [], length-append, ap, length, arith}
 use Rattle.type_hierarchy.specs.Bits.{IsRow}
 use Rattle.type_hierarchy.proofs.RowLemmas.{push_all}
 use Rattle.type_hierarchy.proofs.RaiseLemmas.{own_bits, own_push}

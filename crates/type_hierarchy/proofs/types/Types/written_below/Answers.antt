@@ -1,8 +1,8 @@
-use Rattle.std.proofs.Common.{◌≡◌, ◌≤◌, ◌<◌, ◌∙◌, true, false, ap, sym, subst, arith, length}
+use Rattle.std.proofs.Common.{◌≡◌, ◌<◌, ◌∙◌, true, ap, sym, subst, arith, length}
 use Rattle.std.proofs.lemmas.List.{length-map}
 use Rattle.type_hierarchy.specs.Bits.{has_bit, bits_below}
 use Rattle.type_hierarchy.specs.Table.{TypeTable, set_of, has_member, is_below}
-use Rattle.type_hierarchy.specs.Inner.Tables.{types_table, row_items}
+use Rattle.type_hierarchy.specs.Inner.Tables.{types_table}
 use Rattle.type_hierarchy.proofs.TypeLemmas.{row_at_is, table_member}
 use Rattle.type_hierarchy.proofs.CandidateLemmas.{string_in, member_in, some_bit}
 use Rattle.type_hierarchy.proofs.types.Types.written_below.Goals as goal
