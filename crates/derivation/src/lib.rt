@@ -9,8 +9,6 @@ ghost use Rattle.derivation.specs.Views.{derivation_of, in_order};
 mod counts;
 mod names;
 mod order;
-#[cfg(test)]
-mod tests;
 mod text;
 
 pub use names::is_named;

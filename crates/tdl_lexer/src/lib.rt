@@ -3,8 +3,6 @@
 
 mod pieces;
 mod scan;
-#[cfg(test)]
-mod tests;
 mod values;
 
 ghost use Rattle.std.specs.Prelude.{◌≡◌, ℕ, ◌+◌, ◌<◌, ◌^◌, ◌⊎◌, List, length, IfOk, IfErr, Some, None, Option};

@@ -6,8 +6,6 @@ mod points;
 mod stages;
 mod statements;
 mod terms;
-#[cfg(test)]
-mod tests;
 
 ghost use Rattle.std.specs.Prelude.{◌≡◌, ◌⊎◌, map, IfOk, IfErr, None, List};
 ghost use Rattle.tdl_lexer.specs.Readings.{Tokens};

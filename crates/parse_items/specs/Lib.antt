@@ -1,0 +1,3 @@
+pub mod Lattices
+pub mod Licensed
+pub mod Answers
