@@ -1,10 +1,15 @@
 -- The lines of a list of bytes. A line ends with byte 10; the last may have no end.
 use Rattle.std.specs.Prelude.{◌≡◌, ◌≢◌, ℕ, ◌<◌, ◌≤◌, ◌==◌, if◌then◌else◌, List, [], ◌∷◌, ◌++◌, length, take, drop, ◌+◌, Option, None, Some, ◌⊎◌, Bool, true, false}
+use Rattle.std.specs.List.{list_any}
 
 -- no byte is a line end
 abbrev pub HasNoEnd : List ℕ → Type 0
 HasNoEnd [] = Unit {0}
 HasNoEnd (b ∷ bs) = (b ≢ 10) × HasNoEnd bs
+
+-- whether a line end stands among these bytes
+abbrev pub has_end : List ℕ → Bool
+has_end bytes = list_any (λ b. b == 10) bytes
 
 -- a byte before a text that is cut into its whole lines and a rest
 abbrev pub put_before : ℕ → List (List ℕ) × List ℕ → List (List ℕ) × List ℕ

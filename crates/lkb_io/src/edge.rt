@@ -40,8 +40,10 @@ impl<R: Read + Drop> Source for StdSource<R> {
     }
 }
 
-/// Standard output, standard error, or another writer of the system, as a sink. It keeps no bytes
-/// back, and a write that takes nothing is a fault.
+/// Standard output, standard error, or another writer of the system, as a sink. It tells nothing of
+/// content, and a write that takes nothing is a fault. Over a buffering writer it may keep bytes back
+/// until `flush`; so a fault may come at a later call than the bytes that it concerns, and after a
+/// fault no clause says which of the accepted bytes came out.
 #[derive(Drop)]
 pub struct StdSink<W> {
     writer: W,

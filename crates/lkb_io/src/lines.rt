@@ -1,7 +1,7 @@
 //! Lines of a source.
 ghost use Rattle.std.specs.Prelude.{◌≡◌, ◌≢◌, ℕ, ◌+◌, ◌<◌, ◌≤◌, List, [], ◌∷◌, ◌++◌, length, take, drop, Option, MatchOption, IfOk, IfErr, OnOk, OnErr, IsErrOf, ◌↔◌, option_map, false, IsTrue, MatchResult, true, None, Ok};
 ghost use Rattle.lkb_io.specs.Outside.{HasRisen, Takes, IsAtEnd, Adds, AddsFront};
-ghost use Rattle.lkb_io.specs.Lines.{HasNoEnd, IsTooLong, Kept, IsNext, IsEndAt, last_of};
+ghost use Rattle.lkb_io.specs.Lines.{HasNoEnd, IsTooLong, Kept, IsNext, IsEndAt, last_of, has_end};
 
 use crate::buffer::{Buffer, line_end};
 use crate::{Failed, Source};
@@ -67,6 +67,13 @@ impl Held {
             buffer: Buffer::new(alloc),
             ended: false,
         }
+    }
+
+    /// Whether a line end is held. Where one is, the next call of `read_line` asks the source for nothing.
+    pub fn has_line(&self) -> bool
+        ensures { result ≡ has_end self.now.bytes }
+    {
+        self.buffer.as_slice().contains(&b'\n')
     }
 }
 

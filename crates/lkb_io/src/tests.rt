@@ -4,8 +4,9 @@ use crate::{
     Sink, Source, StdSink, StdSource, WholeShelf, WholeSink, WholeSource, put_all, read_line,
 };
 use std::alloc::{AllocError, Global};
-use std::fs;
+use std::io::{Read, Write};
 use std::test::Fail;
+use std::{fs, io};
 
 fn is_line(line: &Option<Vec<u8>>, want: &[u8]) -> bool {
     match line {
@@ -137,9 +138,56 @@ fn the_system_reads_and_writes(rt: HostRuntime) -> Result<(), Fail> {
     let mut sink = StdSink::new(rt.stdout());
     assert_eq!(rt; put_all(&mut sink, b"written\n"), Ok(()));
     assert_eq!(rt; sink.flush(), Ok(()));
-    let mut source = StdSource::new(b"ab".as_slice());
-    let mut piece = [0; 4];
-    assert_eq!(rt; source.read(&mut piece), Ok(2));
-    assert_eq!(rt; source.read(&mut piece), Ok(0));
+    Ok(())
+}
+
+// A reader and a writer that give and take at most two bytes at a call; the writer marks each flush
+// by a bar.
+#[derive(Drop)]
+struct Slow<'a> {
+    bytes: &'a mut Vec<u8>,
+}
+
+impl Read for Slow<'_> {
+    fn read(&mut self, into: &mut [u8]) -> io::Result<usize> {
+        let count = self.bytes.len().min(into.len()).min(2);
+        into[..count].copy_from_slice(&self.bytes[..count]);
+        self.bytes.drain(..count);
+        Ok(count)
+    }
+}
+
+impl Write for Slow<'_> {
+    fn write(&mut self, piece: &[u8]) -> io::Result<usize> {
+        let count = piece.len().min(2);
+        self.bytes.extend_from_slice(&piece[..count])?;
+        Ok(count)
+    }
+
+    fn flush(&mut self) -> io::Result<()> {
+        self.bytes.push(b'|')?;
+        Ok(())
+    }
+}
+
+#[test]
+fn the_edge_passes_the_bytes_on(rt: HostRuntime) -> Result<(), Fail> {
+    let alloc = rt.alloc();
+    let mut given = Vec::from_slice(alloc, b"dogs\nb")?;
+    let mut source = StdSource::new(Slow { bytes: &mut given });
+    let mut held = Held::new(alloc);
+    let line = read_line(alloc, &mut source, &mut held)?;
+    assert!(rt; is_line(&line, b"dogs"));
+    assert!(rt; !held.has_line());
+    let line = read_line(alloc, &mut source, &mut held)?;
+    assert!(rt; is_line(&line, b"b"));
+    let mut taken = Vec::new(alloc);
+    {
+        let mut sink = StdSink::new(Slow { bytes: &mut taken });
+        assert_eq!(rt; put_all(&mut sink, b"dogs\n"), Ok(()));
+        assert_eq!(rt; sink.flush(), Ok(()));
+        assert_eq!(rt; put_all(&mut sink, b"b"), Ok(()));
+    }
+    assert_eq!(rt; taken.as_slice(), b"dogs\n|b".as_slice());
     Ok(())
 }
