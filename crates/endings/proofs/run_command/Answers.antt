@@ -1,0 +1,68 @@
+use Rattle.std.proofs.Common.{◌≡◌, ◌∙◌, ◌⊎◌, inl, inr, sym, subst, List, ℕ}
+use Rattle.lkb_io.specs.Lines.{lines_of}
+use Rattle.endings.specs.declared.Status.{Status}
+use Rattle.endings.specs.declared.Status.TheVariants.{Done, Items, Grammar, ReadFault, NoMemory}
+use Rattle.endings.specs.Meanings.{Shelves, Lawful, shelves}
+use Rattle.endings.specs.Reports.{Streams, streams}
+use Rattle.endings.specs.Endings.{is_items, status_of, IsWhole, Tells}
+use Rattle.endings.proofs.Clauses.{report-so, no-grammar, first-so, complete-so, unread-so}
+use Rattle.endings.proofs.run_command.Given.{Over}
+use Rattle.endings.proofs.run_command.Goals as goal
+
+abbrev shelves-at : (g : Over) → goal.Joined-end g → Shelves
+shelves-at g c = shelves g.S.Shelf.files g.S.Shelf.faults g.S.Shelf.asked c.args.shelf.now c.perform-end.new.shelf
+
+abbrev streams-at : (g : Over) → goal.Joined-end g → Streams
+streams-at g c = streams g.I.Source.left g.I.Source.faults g.O.Sink.written g.O.Sink.flushed g.O.Sink.faults c.args.input.now c.perform-end.new.input c.args.out.now c.perform-end.new.out
+
+abbrev idle-at : (g : Over) → goal.Joined-end g → Type 0
+idle-at g c = c.perform-end.new.input ≡ c.args.input.now
+
+abbrev untouched-at : (g : Over) → goal.Joined-end g → Type 0
+untouched-at g c = (c.perform-end.new.input ≡ c.args.input.now) × (c.perform-end.new.out ≡ c.args.out.now)
+
+abbrev lawful-at : (g : Over) (c : goal.Joined-end g) → Lawful (g.C.Command.meaning c.args.command.now)
+lawful-at g c = c.lawful.ensures
+
+as-ended : (s t : Status) → s ≡ t → (s ≡ Done) ⊎ (s ≡ Items) → (t ≡ Done) ⊎ (t ≡ Items)
+as-ended s t e d = subst (λ u. (u ≡ Done) ⊎ (u ≡ Items)) e d
+
+pub returns-clause-report : goal.returns-clause-report
+returns-clause-report g c = λ bytes before after d l w v. (
+    let e = c.conclude.ensures.status in
+    let m = g.C.Command.meaning c.args.command.now in
+    let r = report-so m (shelves-at g c) (streams-at g c) (idle-at g c) (untouched-at g c) c.perform-end.result bytes before after c.perform-end.ensures.ended (as-ended c.conclude.result (status_of c.perform-end.result) e d) l w v in
+    (r.0, subst (λ s. m.report (g.S.Shelf.files c.args.shelf.now) (lines_of bytes) r.0 (is_items s)) (sym e) r.1, r.2, r.3))
+
+pub returns-clause-no_grammar : goal.returns-clause-no_grammar
+returns-clause-no_grammar g c = λ n. (
+    let m = g.C.Command.meaning c.args.command.now in
+    subst (λ s. (s ≡ Grammar) ⊎ (s ≡ NoMemory)) (sym c.conclude.ensures.status)
+    (no-grammar m (shelves-at g c) (streams-at g c) (idle-at g c) (untouched-at g c) c.perform-end.result (lawful-at g c) c.perform-end.ensures.ended n))
+
+pub returns-clause-first_fault : goal.returns-clause-first_fault
+returns-clause-first_fault g c = λ files fault told first calm. (
+    let m = g.C.Command.meaning c.args.command.now in
+    let tells = λ (text : List ℕ). Tells (g.X.Sink.written c.args.err.now) (g.X.Sink.written c.conclude.new.err) (g.X.Sink.faults c.args.err.now) (g.X.Sink.faults c.conclude.new.err) text in
+    elim (first-so m (shelves-at g c) (streams-at g c) (idle-at g c) (untouched-at g c) c.perform-end.result files fault (lawful-at g c) c.perform-end.ensures.ended told first calm) [
+      | inl memory ↦ inl (c.conclude.ensures.status ∙ memory)
+      | inr t ↦ inr (c.conclude.ensures.status ∙ t.0, subst tells t.1 c.conclude.ensures.tells)
+    ])
+
+pub returns-clause-complete : goal.returns-clause-complete
+returns-clause-complete g c = λ files bytes told l is can calm. (
+    let m = g.C.Command.meaning c.args.command.now in
+    subst (IsWhole m (shelves-at g c) (streams-at g c) bytes) (sym c.conclude.ensures.status)
+    (complete-so m (shelves-at g c) (streams-at g c) (idle-at g c) (untouched-at g c) c.perform-end.result files bytes (lawful-at g c) c.perform-end.ensures.ended told l is can calm))
+
+pub returns-clause-ended : goal.returns-clause-ended
+returns-clause-ended g c = (c.perform-end.result, c.perform-end.ensures.ended, c.conclude.ensures.status, c.conclude.ensures.tells)
+
+pub returns-clause-unreadable : goal.returns-clause-unreadable
+returns-clause-unreadable g c = λ files bytes reads told l is can calm. (
+    let m = g.C.Command.meaning c.args.command.now in
+    subst (λ s. (s ≡ ReadFault) ⊎ (s ≡ NoMemory)) (sym c.conclude.ensures.status)
+    (unread-so m (shelves-at g c) (streams-at g c) (idle-at g c) (untouched-at g c) c.perform-end.result files bytes (lawful-at g c) c.perform-end.ensures.ended reads told l is can calm))
+
+pub returns-clause-one_report : goal.returns-clause-one_report
+returns-clause-one_report g c = c.lawful.ensures.one_report

@@ -1,0 +1,134 @@
+-- The report over lines, and how a run over lines ends.
+use Rattle.std.specs.Prelude.{◌≡◌, ℕ, ◌<◌, ◌≤◌, ◌^◌, ◌-◌, List, [], ◌∷◌, ◌++◌, length, Option, Bool, false, ◌||◌, suc, Result, Ok, Err}
+use Rattle.std.specs.List.{concat}
+use Rattle.lkb_io.specs.Outside.{HasRisen, Adds, AddsFront}
+use Rattle.lkb_io.specs.Lines.{HasNoEnd, IsTooLong}
+use Rattle.endings.specs.declared.Stop.{Stop}
+use Rattle.endings.specs.declared.Stop.TheVariants.{Read, TooLong, TooMany, Write, NoMemory}
+use Rattle.endings.specs.Readings.{ReadsAll, ReadsPart, Reads}
+
+-- The reports of lines that are numbered from here on, one after the other, and whether a line is refused.
+-- The first argument says what an answer to a line is: by its number and the line, the report lines, and whether it is refused.
+pub data AreAnswers (answers : ℕ → List ℕ → List (List ℕ) → Bool → Type 0) : ℕ → List (List ℕ) → List (List ℕ) → Bool → Type 0 where
+  no_line : (n : ℕ) → AreAnswers answers n [] [] false
+  a_line : (n : ℕ) (line : List ℕ) (lines own rest : List (List ℕ)) (refused later : Bool) → answers n line own refused
+      → AreAnswers answers (suc n) lines rest later → AreAnswers answers n (line ∷ lines) (own ++ rest) (refused || later)
+
+-- what the streams tell of a run, before and after it
+pub record Streams : Type 0 where
+  pub left_old : Option (List ℕ)
+  pub left_new : Option (List ℕ)
+  pub in_old : ℕ
+  pub in_new : ℕ
+  pub written_old : Option (List ℕ)
+  pub written_new : Option (List ℕ)
+  pub flushed_new : Option (List ℕ)
+  pub out_old : ℕ
+  pub out_new : ℕ
+
+abbrev pub streams : {I O : Type 0} (left : I → Option (List ℕ)) (in_faults : I → ℕ) (written flushed : O → Option (List ℕ)) (out_faults : O → ℕ) → I → I → O → O → Streams
+streams left in_faults written flushed out_faults input_old input_new out_old out_new = record { left_old = left input_old; left_new = left input_new; in_old = in_faults input_old; in_new = in_faults input_new; written_old = written out_old; written_new = written out_new; flushed_new = flushed out_new; out_old = out_faults out_old; out_new = out_faults out_new }
+
+-- what a sink tells of a run, before and after it
+pub record Output : Type 0 where
+  pub written_old : Option (List ℕ)
+  pub written_new : Option (List ℕ)
+  pub flushed_new : Option (List ℕ)
+  pub faults_old : ℕ
+  pub faults_new : ℕ
+
+abbrev pub output : {O : Type 0} (written flushed : O → Option (List ℕ)) (faults : O → ℕ) → O → O → Output
+output written flushed faults out_old out_new = record { written_old = written out_old; written_new = written out_new; flushed_new = flushed out_new; faults_old = faults out_old; faults_new = faults out_new }
+
+abbrev pub output_of : Streams → Output
+output_of o = record { written_old = o.written_old; written_new = o.written_new; flushed_new = o.flushed_new; faults_old = o.out_old; faults_new = o.out_new }
+
+-- This text was put: the whole of it at `Ok`, else a front of it, and a fault was counted.
+abbrev pub IsPut : {X Y : Type 0} → List ℕ → Output → Result X Y → Type 0
+IsPut text p (Ok x) = Adds p.written_old p.written_new text × (p.faults_old ≤ p.faults_new)
+IsPut text p (Err y) = AddsFront p.written_old p.written_new text × (p.faults_old ≤ p.faults_new) × HasRisen p.faults_old p.faults_new
+
+-- In what follows `reports` says what the report over lines is: the report lines, and whether a line is refused.
+
+-- All lines were read, and their whole report was written and flushed.
+pub record IsServed (reports : List (List ℕ) → List (List ℕ) → Bool → Type 0) (o : Streams) (refused : Bool) : Type 0 where
+  pub lines : List (List ℕ)
+  pub pieces : List (List ℕ)
+  pub reads : ReadsAll o.left_old o.left_new lines
+  pub report : reports lines pieces refused
+  pub writes : Adds o.written_old o.written_new (concat pieces)
+  pub flushed : o.flushed_new ≡ o.written_new
+  pub few : length lines < 2 ^ 64 - 1
+
+-- Exactly the report over the whole lines that were read was written, and a part was read of what follows them.
+pub record IsServedTo (reports : List (List ℕ) → List (List ℕ) → Bool → Type 0) (o : Streams) : Type 0 where
+  pub lines : List (List ℕ)
+  pub part : List ℕ
+  pub pieces : List (List ℕ)
+  pub refused : Bool
+  pub reads : ReadsPart o.left_old o.left_new lines part
+  pub report : reports lines pieces refused
+  pub writes : Adds o.written_old o.written_new (concat pieces)
+
+-- So many lines were read that none can have a number, and exactly the report over them was written.
+pub record IsServedToLast (reports : List (List ℕ) → List (List ℕ) → Bool → Type 0) (o : Streams) : Type 0 where
+  pub lines : List (List ℕ)
+  pub part : List ℕ
+  pub pieces : List (List ℕ)
+  pub refused : Bool
+  pub reads : Reads o.left_old o.left_new lines part
+  pub report : reports lines pieces refused
+  pub writes : Adds o.written_old o.written_new (concat pieces)
+  pub many : length lines ≡ 2 ^ 64 - 1
+
+-- A front of the report over lines that were read was written.
+pub record IsServedInPart (reports : List (List ℕ) → List (List ℕ) → Bool → Type 0) (o : Streams) : Type 0 where
+  pub lines : List (List ℕ)
+  pub part : List ℕ
+  pub pieces : List (List ℕ)
+  pub refused : Bool
+  pub reads : Reads o.left_old o.left_new lines part
+  pub report : reports lines pieces refused
+  pub writes : AddsFront o.written_old o.written_new (concat pieces)
+
+-- How a run over lines ends.
+abbrev pub Served : (List (List ℕ) → List (List ℕ) → Bool → Type 0) → Streams → Result Bool Stop → Type 0
+Served reports o (Ok refused) = IsServed reports o refused
+Served reports o (Err Read) = (r : IsServedTo reports o) × HasNoEnd r.part × HasRisen o.in_old o.in_new
+Served reports o (Err TooLong) = (r : IsServedTo reports o) × IsTooLong r.part
+Served reports o (Err TooMany) = IsServedToLast reports o
+Served reports o (Err Write) = IsServedInPart reports o × HasRisen o.out_old o.out_new
+Served reports o (Err NoMemory) = IsServedInPart reports o
+
+-- How the answer to one line ends: its whole report was written, or a front of it, or nothing.
+abbrev pub ServedLine : (List (List ℕ) → Bool → Type 0) → Option (List ℕ) → Option (List ℕ) → ℕ → ℕ → Result Bool Stop → Type 0
+ServedLine reports old new faults_old faults_new (Ok refused) = (pieces : List (List ℕ)) × reports pieces refused × Adds old new (concat pieces)
+ServedLine reports old new faults_old faults_new (Err Write) = (pieces : List (List ℕ)) × (refused : Bool) × reports pieces refused × AddsFront old new (concat pieces) × HasRisen faults_old faults_new
+ServedLine reports old new faults_old faults_new (Err NoMemory) = Adds old new []
+ServedLine reports old new faults_old faults_new (Err stop) = ⊥
+
+-- The whole report of a command that reads no lines was written and flushed.
+pub record IsSaid (reports : List (List ℕ) → List (List ℕ) → Bool → Type 0) (p : Output) (refused : Bool) : Type 0 where
+  pub pieces : List (List ℕ)
+  -- the lines of the input say nothing to it
+  pub report : (lines : List (List ℕ)) → reports lines pieces refused
+  pub writes : Adds p.written_old p.written_new (concat pieces)
+  pub flushed : p.flushed_new ≡ p.written_new
+
+-- A front of the report of a command that reads no lines was written.
+pub record IsSaidInPart (reports : List (List ℕ) → List (List ℕ) → Bool → Type 0) (p : Output) : Type 0 where
+  pub pieces : List (List ℕ)
+  pub refused : Bool
+  pub report : (lines : List (List ℕ)) → reports lines pieces refused
+  pub writes : AddsFront p.written_old p.written_new (concat pieces)
+
+-- How a report ends that is written without reading lines.
+abbrev pub Said : (List (List ℕ) → List (List ℕ) → Bool → Type 0) → Output → Result Bool Stop → Type 0
+Said reports p (Ok refused) = IsSaid reports p refused
+Said reports p (Err Write) = IsSaidInPart reports p × HasRisen p.faults_old p.faults_new
+Said reports p (Err NoMemory) = IsSaidInPart reports p
+Said reports p (Err stop) = ⊥
+
+-- the report that has these report lines, and tells this of a refusal
+abbrev pub Exactly : List (List ℕ) → Bool → List (List ℕ) → List (List ℕ) → Bool → Type 0
+Exactly own told lines pieces refused = (pieces ≡ own) × (refused ≡ told)

@@ -1,0 +1,255 @@
+//! How a run of the program ends: over any command, that reads lines or none.
+#![tactic(auto)]
+
+ghost use Rattle.std.specs.Prelude.{◌≡◌, ◌++◌, ◌⊎◌, ℕ, List, Bool, Option, Some, Result, Ok, true, false};
+ghost use Rattle.std.specs.List.{concat};
+ghost use Rattle.lkb_io.specs.Outside.{HasRisen};
+ghost use Rattle.lkb_io.specs.Lines.{lines_of};
+ghost use Rattle.endings.specs.Meanings.{Meaning, Lawful, FileFault, Fails, shelves};
+ghost use Rattle.endings.specs.Readings.{AreReadable};
+ghost use Rattle.endings.specs.Reports.{streams};
+ghost use Rattle.endings.specs.Endings.{Ended, RanInPart, StopsReading, IsFaultless, IsWhole, IsReadThrough, Tells, usage_line, fault_text, status_of, is_items};
+ghost use Rattle.endings.specs.declared.Fault.{Fault};
+
+pub mod commands;
+pub mod lines;
+pub mod pieces;
+pub mod plain;
+
+use lkb_io::{Shelf, Sink, Source, put_all};
+use std::alloc::AllocGlobal;
+use std::sync::Wait;
+use std::thread::Threads;
+use worker_gate::Gate;
+
+// The usage text and its line end.
+const USAGE: &[u8] =
+    b"usage: lkb parse|generate|types|check GRAMMAR, lkb expand GRAMMAR NAME, lkb self-test NUMBER SIZE, lkb scope, lkb batch GRAMMAR PROFILE, lkb transfer RULES, with options\n";
+
+/// Why a run over lines stops before the end.
+#[derive(Clone, Copy, Debug, PartialEq, Eq)]
+pub enum Stop {
+    /// The source failed.
+    Read,
+    /// 65,536 bytes came without a line end.
+    TooLong,
+    /// 2^64 - 1 lines were answered, and the next would have no number.
+    TooMany,
+    /// The sink failed.
+    Write,
+    /// Memory was wanting.
+    NoMemory,
+}
+
+/// Why a run ends without its whole report.
+#[derive(Debug, Drop)]
+pub enum Fault {
+    /// The words of the command line are outside the form.
+    Usage,
+    /// The command's files have a fault, which is told by this line.
+    Files(Vec<u8>),
+    /// The run stopped, at a line or for want of memory.
+    Stopped(Stop),
+}
+
+/// How a run of the program ends.
+#[derive(Clone, Copy, Debug, PartialEq, Eq)]
+pub enum Status {
+    /// All was done, and no line is refused.
+    Done,
+    /// The words of the command line are outside the form.
+    Usage,
+    /// The command's files have a fault.
+    Grammar,
+    /// All was done, and some line is refused.
+    Items,
+    /// The source failed, or a line is too long.
+    ReadFault,
+    /// The sink failed.
+    WriteFault,
+    /// Memory was wanting.
+    NoMemory,
+}
+
+impl Status {
+    ghost use Rattle.endings.specs.Endings.{code_of};
+
+    /// The number by which the status goes out, as the exit status of the program.
+    pub fn code(&self) -> u8
+        ensures { result ≡ code_of self.now }
+    {
+        match self {
+            Status::Done => 0,
+            Status::Usage => 2,
+            Status::Grammar => 3,
+            Status::Items => 4,
+            Status::ReadFault => 5,
+            Status::WriteFault => 6,
+            Status::NoMemory => 7,
+        }
+    }
+}
+
+impl From<Stop> for Fault {
+    ghost use Rattle.endings.specs.declared.Fault.{Fault};
+
+    ghost from_gives = { λ stop e. e ≡ Fault.Stopped stop };
+
+    fn from(stop: Stop) -> Fault {
+        Fault::Stopped(stop)
+    }
+}
+
+/// A command of the program, with its positional words and its options.
+pub trait Command {
+    /// What the command is to do.
+    ghost meaning: { Self → Meaning };
+
+    /// What holds of the command's files and reports. It does nothing.
+    fn lawful(&self)
+        ensures { Lawful (meaning self.now) };
+
+    /// Does what the command says. `Ok` tells whether something is refused.
+    fn perform<S: Shelf, I: Source, O: Sink, Rt: AllocGlobal + Threads + Wait + Sync, G: Gate>(
+        &self,
+        rt: &Rt,
+        shelf: &mut S,
+        input: &mut I,
+        out: &mut O,
+        gate: &G,
+    ) -> Result<bool, Fault>
+        ensures ended { Ended (meaning self.now) (shelves S.files S.faults S.asked shelf.old shelf.new) (streams I.left I.faults O.written O.flushed O.faults input.old input.new out.old out.new)
+            (input.new ≡ input.old) ((input.new ≡ input.old) × (out.new ≡ out.old)) result }
+        ensures unopened { (meaning self.now).opens ≡ false → shelf.new ≡ shelf.old };
+}
+
+/// The usage text and its line end.
+pub fn usage_text() -> &'static [u8]
+    ensures { result.now ≡ usage_line }
+{
+    USAGE
+}
+
+// What is told of this end of a run.
+fn text_of(end: &Result<bool, Fault>) -> &[u8]
+    ensures { result.now ≡ fault_text end.now }
+{
+    match end {
+        Ok(_) => b"",
+        Err(Fault::Usage) => USAGE,
+        Err(Fault::Files(text)) => text,
+        Err(Fault::Stopped(Stop::Read)) | Err(Fault::Stopped(Stop::TooMany)) => {
+            b"lkb: read fault\n"
+        }
+        Err(Fault::Stopped(Stop::TooLong)) => b"lkb: line too long\n",
+        Err(Fault::Stopped(Stop::Write)) => b"lkb: write fault\n",
+        Err(Fault::Stopped(Stop::NoMemory)) => b"lkb: no memory\n",
+    }
+}
+
+// The status of this end of a run.
+fn status_at(end: &Result<bool, Fault>) -> Status
+    ensures { result ≡ status_of end.now }
+{
+    match end {
+        Ok(false) => Status::Done,
+        Ok(true) => Status::Items,
+        Err(Fault::Usage) => Status::Usage,
+        Err(Fault::Files(_)) => Status::Grammar,
+        Err(Fault::Stopped(Stop::Write)) => Status::WriteFault,
+        Err(Fault::Stopped(Stop::NoMemory)) => Status::NoMemory,
+        Err(Fault::Stopped(_)) => Status::ReadFault,
+    }
+}
+
+/// The status of this end of a run. Where it is a fault, its text is written to the error stream; a
+/// fault of that stream changes nothing.
+pub fn conclude<X: Sink>(err: &mut X, end: &Result<bool, Fault>) -> Status
+    ensures status { result ≡ status_of end.now }
+    ensures tells { Tells (X.written err.old) (X.written err.new) (X.faults err.old) (X.faults err.new) (fault_text end.now) }
+    ensures silent { (refused : _) → end.now ≡ Ok refused → err.new ≡ err.old }
+{
+    if end.is_err() {
+        let _told = put_all(err, text_of(end));
+    }
+    status_at(end)
+}
+
+/// Does what the command says, tells a fault on `err` by its text, and ends with the command's status. A fault of
+/// `err` itself changes nothing. What the workers are, and when the gate lets them go on, no clause names.
+pub fn run_command<
+    C: Command,
+    S: Shelf,
+    I: Source,
+    O: Sink,
+    X: Sink,
+    Rt: AllocGlobal + Threads + Wait + Sync,
+    G: Gate,
+>(rt: &Rt, command: &C, shelf: &mut S, input: &mut I, out: &mut O, err: &mut X, gate: &G) -> Status
+    // How the run ended. The status, and what was told of a fault, are those of this end.
+    ensures ended { let h = shelves S.files S.faults S.asked shelf.old shelf.new in
+        let o = streams I.left I.faults O.written O.flushed O.faults input.old input.new out.old out.new in
+        (end : Result Bool Fault) × Ended (C.meaning command.now) h o (input.new ≡ input.old) ((input.new ≡ input.old) × (out.new ≡ out.old)) end
+        × (result ≡ status_of end) × Tells (X.written err.old) (X.written err.new) (X.faults err.old) (X.faults err.new) (fault_text end) }
+
+    // The headline: after `Done` and `Items` the bytes written are the report over all lines of the input, which was
+    // read to its end. It is `Items` where something is refused, and `Done` where nothing is.
+    ensures report { (bytes before after : List ℕ) → (result ≡ Status.Done) ⊎ (result ≡ Status.Items)
+        → I.left input.old ≡ Some bytes → O.written out.old ≡ Some before → O.written out.new ≡ Some after
+        → (pieces : List (List ℕ)) × (C.meaning command.now).report (S.files shelf.old) (lines_of bytes) pieces (is_items result)
+        × (after ≡ before ++ concat pieces) × IsReadThrough (C.meaning command.now) (I.left input.new) }
+    ensures flushed { (result ≡ Status.Done) ⊎ (result ≡ Status.Items) → O.flushed out.new ≡ O.written out.new }
+    ensures silent { (result ≡ Status.Done) ⊎ (result ≡ Status.Items) → err.new ≡ err.old }
+
+    // A command is never outside the form of the words. One that has no files leaves the shelf as it was.
+    ensures no_usage { result ≡ Status.Usage → ⊥ }
+    ensures unopened { (C.meaning command.now).opens ≡ false → shelf.new ≡ shelf.old }
+
+    // `Grammar` only where the command's files have the fault that is told, and always where they have no report.
+    // Nothing is read of the input, and nothing written to `out`.
+    ensures grammar { let h = shelves S.files S.faults S.asked shelf.old shelf.new in
+        result ≡ Status.Grammar → (fault : FileFault) × Fails (C.meaning command.now) h fault
+        × Tells (X.written err.old) (X.written err.new) (X.faults err.old) (X.faults err.new) fault.text
+        × (input.new ≡ input.old) × (out.new ≡ out.old) }
+    ensures no_grammar { ((C.meaning command.now).loadable (S.files shelf.old) → ⊥) → (result ≡ Status.Grammar) ⊎ (result ≡ Status.NoMemory) }
+
+    // Where the shelf tells its files and counts no fault, it is their first fault that is told.
+    ensures first_fault { (files : List ℕ → Option (List ℕ)) (fault : FileFault) → S.files shelf.old ≡ Some files
+        → (C.meaning command.now).first (Some files) (λ name. false) fault → (HasRisen (S.faults shelf.old) (S.faults shelf.new) → ⊥)
+        → (result ≡ Status.NoMemory) ⊎ ((result ≡ Status.Grammar)
+        × Tells (X.written err.old) (X.written err.new) (X.faults err.old) (X.faults err.new) fault.text) }
+
+    // `ReadFault` only where the source failed, a line is too long, or a line has no number; and always where a line
+    // can't be read. Exactly the report over the lines before was written.
+    ensures read_fault { let h = shelves S.files S.faults S.asked shelf.old shelf.new in
+        let o = streams I.left I.faults O.written O.flushed O.faults input.old input.new out.old out.new in
+        result ≡ Status.ReadFault → StopsReading (C.meaning command.now) h o }
+    ensures unreadable { let h = shelves S.files S.faults S.asked shelf.old shelf.new in
+        let o = streams I.left I.faults O.written O.flushed O.faults input.old input.new out.old out.new in
+        (files : List ℕ → Option (List ℕ)) (bytes : List ℕ) → (C.meaning command.now).reads ≡ true
+        → S.files shelf.old ≡ Some files → I.left input.old ≡ Some bytes → (C.meaning command.now).loadable (Some files)
+        → (AreReadable (lines_of bytes) → ⊥) → IsFaultless h o → (result ≡ Status.ReadFault) ⊎ (result ≡ Status.NoMemory) }
+
+    // `WriteFault` only where the sink failed. Then, and after `NoMemory`, a front of the report over lines that were
+    // read was written; where memory was wanting before the first line, nothing was read or written.
+    ensures write_fault { let h = shelves S.files S.faults S.asked shelf.old shelf.new in
+        let o = streams I.left I.faults O.written O.flushed O.faults input.old input.new out.old out.new in
+        result ≡ Status.WriteFault → RanInPart (C.meaning command.now) h o × HasRisen (O.faults out.old) (O.faults out.new) }
+    ensures no_memory { let h = shelves S.files S.faults S.asked shelf.old shelf.new in
+        let o = streams I.left I.faults O.written O.flushed O.faults input.old input.new out.old out.new in
+        result ≡ Status.NoMemory → ((input.new ≡ input.old) × (out.new ≡ out.old)) ⊎ RanInPart (C.meaning command.now) h o }
+
+    // Completeness: where the told files have no fault, each line can be read and nothing fails, the whole report is
+    // written, or memory was wanting. That report is the only one.
+    ensures complete { let h = shelves S.files S.faults S.asked shelf.old shelf.new in
+        let o = streams I.left I.faults O.written O.flushed O.faults input.old input.new out.old out.new in
+        (files : List ℕ → Option (List ℕ)) (bytes : List ℕ) → S.files shelf.old ≡ Some files → I.left input.old ≡ Some bytes
+        → (C.meaning command.now).loadable (Some files) → AreReadable (lines_of bytes) → IsFaultless h o → IsWhole (C.meaning command.now) h o bytes result }
+    ensures one_report { (files : List ℕ → Option (List ℕ)) (lines pieces others : List (List ℕ)) (refused may : Bool)
+        → (C.meaning command.now).report (Some files) lines pieces refused → (C.meaning command.now).report (Some files) lines others may
+        → (pieces ≡ others) × (refused ≡ may) }
+{
+    command.lawful();
+    let end = command.perform(rt, shelf, input, out, gate);
+    conclude(err, &end)
+}
