@@ -1,5 +1,5 @@
 -- The list of sets while it grows.
-use Rattle.std.specs.Prelude.{ℕ, ◌≡◌, ◌≢◌, ◌<◌, ◌≤◌, ◌||◌, true, List, [], ◌∷◌, ◌++◌, length, slice_index_or, All, Contains, Vec}
+use Rattle.std.specs.Prelude.{ℕ, ◌≡◌, ◌≢◌, ◌<◌, ◌≤◌, true, List, [], ◌∷◌, ◌++◌, length, slice_index_or, All, Contains, Vec}
 use Rattle.std.specs.Global.{Global}
 use Rattle.type_hierarchy.specs.Bits.{has_bit, IsRow}
 use Rattle.type_hierarchy.specs.Table.{TypeTable, set_of, has_member, intersection, IsIntersection, IsDistinct}

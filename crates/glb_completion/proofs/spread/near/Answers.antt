@@ -1,5 +1,5 @@
-use Rattle.std.proofs.Common.{◌∙◌, ◌<◌, ◌-◌, ◌||◌, length, ap, subst, sym, refl, arith}
-use Rattle.type_hierarchy.specs.Bits.{has_bit, IsRow}
+use Rattle.std.proofs.Common.{◌<◌, ◌-◌, length, subst, sym, refl, arith}
+use Rattle.type_hierarchy.specs.Bits.{IsRow}
 use Rattle.type_hierarchy.proofs.TypeLemmas.{row_at_is}
 use Rattle.glb_completion.specs.Inner.Growing.{IsUpRow}
 use Rattle.glb_completion.proofs.GrowingLemmas.{nearing_starts, nearer, near_of, row_seen}

@@ -1,8 +1,7 @@
-use Rattle.std.proofs.Common.{◌≡◌, ◌∙◌, ◌<◌, ◌+◌, ◌≤◌, [], false, ap, subst, sym, arith}
+use Rattle.std.proofs.Common.{◌≡◌, ◌<◌, ◌+◌, [], false, subst, sym, arith}
 use Rattle.std.proofs.lemmas.List.{append-nil}
-use Rattle.type_hierarchy.specs.Bits.{has_bit, IsRow}
+use Rattle.type_hierarchy.specs.Bits.{has_bit}
 use Rattle.glb_completion.specs.declared.family.Family.{Family}
-use Rattle.glb_completion.specs.Inner.Growing.{HasNear}
 use Rattle.glb_completion.proofs.GrowingLemmas.{IsSpreading, spreading_same, spreading_more, spreading_passed, closed_met, row_seen, still_in, row_bits}
 use Rattle.glb_completion.proofs.spread.spread.Goals as goal
 use Rattle.glb_completion.proofs.spread.spread.Goals.{then-is_open+in_ok-meet_with, else-is_open}

@@ -1,5 +1,4 @@
-use Rattle.std.proofs.Common.{◌≡◌, ◌≤◌, ◌<◌, ◌-◌, true}
-use Rattle.type_hierarchy.specs.Bits.{has_bit}
+use Rattle.std.proofs.Common.{◌≤◌, ◌-◌}
 use Rattle.glb_completion.proofs.GrowingLemmas.{IsSpreading}
 use Rattle.glb_completion.proofs.spread.spread.Given as goal
 
