@@ -2,6 +2,7 @@
 //! It reads nothing.
 #![tactic(auto)]
 
+mod hierarchies;
 mod statements;
 mod tokens;
 mod trees;
@@ -12,5 +13,6 @@ fn main(rt: HostRuntime) -> io::Result<()> {
     tokens::print(&rt, rt.alloc())?;
     statements::print(&rt, rt.alloc())?;
     trees::print(&rt, rt.alloc())?;
+    hierarchies::print(&rt, rt.alloc())?;
     Ok(())
 }

@@ -9,6 +9,3 @@ mod spread;
 pub use completion::complete;
 pub use family::MOST_COMPLETED;
 pub use fault::CompleteFault;
-
-#[cfg(test)]
-mod tests;

@@ -20,6 +20,3 @@ pub use decl::{Decl, TypeFault};
 pub use faults::is_glb_name;
 pub use hierarchy::{Hierarchy, MOST_TYPES};
 pub use types::{NoMemory, Ty, TypeCounts, Types};
-
-#[cfg(test)]
-mod tests;
