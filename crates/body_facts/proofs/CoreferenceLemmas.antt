@@ -1,11 +1,11 @@
 -- Paths that carry one coreference are equal.
-use Rattle.std.proofs.Common.{ℕ, ◌≡◌, ◌⊎◌, inl, inr, Bool, true, false, cond, Option, Some, None, List, [], ◌∷◌, map, refl, ◌∙◌, ap, subst}
+use Rattle.std.proofs.Common.{ℕ, ◌≡◌, Bool, true, false, cond, Some, List, [], ◌∷◌, map, refl, ap, subst}
 use Rattle.std.specs.Prelude.{unwrap_or}
 use Rattle.std.specs.Str.{bytes_eq}
 use Rattle.std.proofs.lemmas.Slice.Eq.{bytes_eq-Decides}
 use Rattle.type_hierarchy.specs.Decls.{Name}
 use Rattle.type_hierarchy.specs.Table.{TypeTable}
-use Rattle.fs_model.specs.Claims.{Path, Claim, System, Has, here, there, same}
+use Rattle.fs_model.specs.Claims.{Path, System, Has, here, there, same}
 use Rattle.fs_model.specs.Closure.{Closure, given_claim, same_sym, same_trans}
 use Rattle.body_facts.specs.Claimed.{first_carrier, claim_said, claims_of_sayings}
 use Rattle.body_facts.specs.Sayings.{Saying, has_type, has_text, carries, is_there, are_equal}

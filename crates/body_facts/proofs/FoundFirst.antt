@@ -1,5 +1,5 @@
 -- The first that passes a test, part after part.
-use Rattle.std.proofs.Common.{ℕ, ◌≡◌, ◌<◌, ◌+◌, Bool, true, false, Option, Some, None, List, [], ◌∷◌, ◌++◌, length, take, drop, get_or, refl, sym, ◌∙◌, ap, arith}
+use Rattle.std.proofs.Common.{ℕ, ◌≡◌, ◌<◌, ◌+◌, Bool, true, false, Option, Some, None, List, ◌++◌, length, take, drop, get_or, refl, sym, ◌∙◌, ap}
 use Rattle.std.specs.List.{flat_map, find}
 use Rattle.std.specs.Option.{option_or, option_map}
 use Rattle.std.specs.Prelude.{is_some}

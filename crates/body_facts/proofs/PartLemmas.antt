@@ -9,7 +9,7 @@ use Rattle.body_facts.specs.Numbers.{type_number}
 use Rattle.body_facts.specs.Running.{Running, moved, claimed, told_all, body_told, attrs_told, items_told, end_told, list_told, difference_told}
 use Rattle.body_facts.specs.Sayings.{Saying, has_type, is_there, are_equal, body_says, items_say, end_says}
 use Rattle.body_facts.specs.Writing.{past_items}
-use Rattle.body_facts.proofs.RunningLemmas.{told_append, told_path, back, back_from, take_front, past_after, past_front}
+use Rattle.body_facts.proofs.RunningLemmas.{told_append, told_path, back_from, take_front, past_after, past_front}
 
 pub on_to : {T E A : Type 0} (r : Result T E) (new x y : A) → x ≡ y → OnOk r (new ≡ x) → OnOk r (new ≡ y)
 on_to r new x y e = subst (λ z. OnOk r (new ≡ z)) e
@@ -27,35 +27,43 @@ attr_done w s s1 s2 s3 s4 path body depth e e1 e2 e3 e4 =
     ∙ ap (λ p. moved p far) (ap (take depth) (told_path w.types (moved q s) xs) ∙ ap (λ d. take d q) e ∙ take_front s.path (map f path))
     ∙ back_from w.types s.path q s xs refl ∙ ap (told_all w.types s) (sym (append-nil xs))
 
--- an item: a cons, what stands at its first, and back
-pub item_done : (w : WordTable) (s s1 s2 s3 s4 : Running) (body : BodyTree) (depth cons first : ℕ) → depth ≡ length s.path → cons ≡ type_number w.types w.names.cons →
-    first ≡ number_of w.feats w.names.first → s1 ≡ claimed (below s.path cons) s → s2 ≡ moved (s1.path ++ first ∷ []) s1 → s3 ≡ body_told w s2 body →
-    s4 ≡ moved (take depth s3.path) s3 →
-    s4 ≡ told_all w.types s (has_type s.path w.names.cons ∷ body_says (number_of w.feats) w.names (s.path ++ number_of w.feats w.names.first ∷ []) body)
-item_done w s s1 s2 s3 s4 body depth cons first e ec ef e1 e2 e3 e4 =
+-- what a list says of an item: that there is a cons, and what stands at its first
+abbrev pub cell_says : WordTable → Path → BodyTree → List (Saying ℕ)
+cell_says w p body =
+    let q = p ++ number_of w.feats w.names.first ∷ [] in
+    has_type p w.names.cons ∷ is_there q ∷ body_says (number_of w.feats) w.names q body
+
+-- an item: a cons, its first with what stands there, and back
+pub item_done : (w : WordTable) (s s1 s2 s3 s4 s5 : Running) (body : BodyTree) (depth cons first : ℕ) → depth ≡ length s.path → cons ≡ type_number w.types w.names.cons →
+    first ≡ number_of w.feats w.names.first → s1 ≡ claimed (below s.path cons) s → s2 ≡ moved (s1.path ++ first ∷ []) s1 → s3 ≡ claimed (exists_at s2.path) s2 →
+    s4 ≡ body_told w s3 body → s5 ≡ moved (take depth s4.path) s4 → s5 ≡ told_all w.types s (cell_says w s.path body)
+item_done w s s1 s2 s3 s4 s5 body depth cons first e ec ef e1 e2 e3 e4 e5 =
     let k = number_of w.feats w.names.first in
     let q = s.path ++ k ∷ [] in
-    let xs = body_says (number_of w.feats) w.names q body in
+    let xs = is_there q ∷ body_says (number_of w.feats) w.names q body in
     let had = claimed (below s.path (type_number w.types w.names.cons)) s in
     let far = told_all w.types (moved q had) xs in
-    e4
+    e5
     ∙ ap (λ r. moved (take depth r.path) r)
-    (e3
+    (e4
     ∙ ap (λ r. body_told w r body)
-    (e2 ∙ ap (λ r. moved (r.path ++ first ∷ []) r) (e1 ∙ ap (λ t. claimed (below s.path t) s) ec) ∙ ap (λ n. moved (s.path ++ n ∷ []) had) ef))
+    (e3
+    ∙ ap (λ r. claimed (exists_at r.path) r)
+    (e2 ∙ ap (λ r. moved (r.path ++ first ∷ []) r) (e1 ∙ ap (λ t. claimed (below s.path t) s) ec) ∙ ap (λ n. moved (s.path ++ n ∷ []) had) ef)))
     ∙ ap (λ p. moved p far) (ap (take depth) (told_path w.types (moved q had) xs) ∙ ap (λ d. take d q) e ∙ take_front s.path (k ∷ []))
     ∙ back_from w.types s.path q had xs refl
 
--- and on to the rest
-pub item_past : (w : WordTable) (s s4 : Running) (body : BodyTree) (rest : ℕ) → rest ≡ number_of w.feats w.names.rest →
-    s4 ≡ told_all w.types s (has_type s.path w.names.cons ∷ body_says (number_of w.feats) w.names (s.path ++ number_of w.feats w.names.first ∷ []) body) →
-    moved (s4.path ++ rest ∷ []) s4 ≡ items_told w s (more_items body no_items)
-item_past w s s4 body rest er e4 =
-    let xs = has_type s.path w.names.cons ∷ body_says (number_of w.feats) w.names (s.path ++ number_of w.feats w.names.first ∷ []) body in
+-- and on to the rest, which exists
+pub item_past : (w : WordTable) (s s5 s6 : Running) (body : BodyTree) (rest : ℕ) → rest ≡ number_of w.feats w.names.rest →
+    s5 ≡ told_all w.types s (cell_says w s.path body) → s6 ≡ moved (s5.path ++ rest ∷ []) s5 → claimed (exists_at s6.path) s6 ≡ items_told w s (more_items body no_items)
+item_past w s s5 s6 body rest er e5 e6 =
+    let xs = cell_says w s.path body in
     let k = number_of w.feats w.names.rest in
-    ap (λ n. moved (s4.path ++ n ∷ []) s4) er ∙ ap (λ r. moved (r.path ++ k ∷ []) r) e4
-    ∙ ap (λ p. moved (p ++ k ∷ []) (told_all w.types s xs)) (told_path w.types s xs)
-    ∙ ap (λ l. moved (s.path ++ k ∷ []) (told_all w.types s l)) (sym (append-nil xs))
+    let q = s.path ++ k ∷ [] in
+    ap (λ r. claimed (exists_at r.path) r)
+    (e6 ∙ ap (λ n. moved (s5.path ++ n ∷ []) s5) er ∙ ap (λ r. moved (r.path ++ k ∷ []) r) e5
+    ∙ ap (λ p. moved (p ++ k ∷ []) (told_all w.types s xs)) (told_path w.types s xs))
+    ∙ ap (λ r. moved q r) (sym (told_append w.types s xs (is_there q ∷ [])))
 
 -- a list: its items, its end, and back
 pub list_done : (w : WordTable) (s s1 s2 s3 : Running) (items : ItemTrees) (rest : RestTree) (depth : ℕ) → depth ≡ length s.path →

@@ -1,7 +1,6 @@
 -- What is gathered from the parts of bodies, as lists.
-use Rattle.std.proofs.Common.{◌≡◌, List, [], ◌∷◌, ◌++◌, map, refl, ap, ◌∙◌, sym}
+use Rattle.std.proofs.Common.{◌≡◌, List, [], ◌∷◌, ◌++◌, map, ap, ◌∙◌, sym}
 use Rattle.std.specs.List.{flat_map}
-use Rattle.std.specs.String.{string_bytes}
 use Rattle.tdl_reader.specs.declared.Attr.{Attr}
 use Rattle.tdl_reader.specs.declared.Body.{Body}
 use Rattle.tdl_reader.specs.declared.Term.{Term}

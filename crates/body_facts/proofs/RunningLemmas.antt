@@ -85,8 +85,11 @@ say_more : (f : Name → ℕ) (n : ListNames) (p : Path) (m : ItemTrees) (b : Bo
 unfolding one_more
 say_more f n p no_items b = refl
 say_more f n p (more_items a m) b =
-    ap (λ l. (has_type p n.cons ∷ body_says f n (p ++ f n.first ∷ []) a) ++ l) (say_more f n (p ++ f n.rest ∷ []) m b)
-    ∙ sym (append_assoc (has_type p n.cons ∷ body_says f n (p ++ f n.first ∷ []) a) (items_say f n (p ++ f n.rest ∷ []) m) (items_say f n (past_items (f n.rest) (p ++ f n.rest ∷ []) m) (more_items b no_items)))
+    let q = p ++ f n.first ∷ [] in
+    let r = p ++ f n.rest ∷ [] in
+    let cell = has_type p n.cons ∷ is_there q ∷ body_says f n q a in
+    ap (λ l. cell ++ is_there r ∷ l) (say_more f n r m b)
+    ∙ sym (append_assoc cell (is_there r ∷ items_say f n r m) (items_say f n (past_items (f n.rest) r m) (more_items b no_items)))
 
 -- one more item of a list
 pub items_step : (w : WordTable) (s : Running) (m : ItemTrees) (b : BodyTree) →

@@ -38,11 +38,12 @@ abbrev mutual
   attrs_say f n p (more_attrs path body more) =
       is_there (p ++ map f path) ∷ body_says f n (p ++ map f path) body ++ attrs_say f n p more
 
-  -- an item stands at `first` of a cons, and the next one along `rest`
+  -- an item stands at `first` of a cons, and what follows it at its `rest`; both exist, whatever stands there
   pub items_say : {F : Type 0} → (Name → F) → ListNames → List F → ItemTrees → List (Saying F)
   items_say f n p no_items = []
   items_say f n p (more_items body more) =
-      has_type p n.cons ∷ body_says f n (p ++ f n.first ∷ []) body ++ items_say f n (p ++ f n.rest ∷ []) more
+      has_type p n.cons ∷ is_there (p ++ f n.first ∷ []) ∷ body_says f n (p ++ f n.first ∷ []) body
+      ++ is_there (p ++ f n.rest ∷ []) ∷ items_say f n (p ++ f n.rest ∷ []) more
 
   -- a list ends as the null list, as any list, or as its tail says
   pub end_says : {F : Type 0} → (Name → F) → ListNames → List F → RestTree → List (Saying F)

@@ -236,9 +236,11 @@ fn add_item(told: &mut Told, words: &Words<'_>, item: &Body) -> Result<(), NoMem
     told.add_type(words.type_of(&words.names.cons))?;
     let depth = told.path.len();
     told.enter(words.feature(&words.names.first))?;
+    told.add_existence()?;
     add_body(told, words, item)?;
     told.back_to(depth);
-    told.enter(words.feature(&words.names.rest))
+    told.enter(words.feature(&words.names.rest))?;
+    told.add_existence()
 }
 
 // Tells how a list ends.

@@ -83,7 +83,15 @@ fn facts_of_bodies(rt: HostRuntime) -> Result<(), Fail> {
         ),
         (
             "t := < a, #r . [ G #r ] >.",
-            "[Below { path: [], ty: Ty(3) }, Below { path: [Feat(1)], ty: Ty(5) }, Below { path: [Feat(5)], ty: Ty(3) }, Same { a: [Feat(5), Feat(1)], b: [Feat(5), Feat(1)] }, Exists { path: [Feat(5), Feat(5), Feat(2)] }, Same { a: [Feat(5), Feat(1)], b: [Feat(5), Feat(5), Feat(2)] }]",
+            "[Below { path: [], ty: Ty(3) }, Exists { path: [Feat(1)] }, Below { path: [Feat(1)], ty: Ty(5) }, Exists { path: [Feat(5)] }, Below { path: [Feat(5)], ty: Ty(3) }, Exists { path: [Feat(5), Feat(1)] }, Same { a: [Feat(5), Feat(1)], b: [Feat(5), Feat(1)] }, Exists { path: [Feat(5), Feat(5)] }, Exists { path: [Feat(5), Feat(5), Feat(2)] }, Same { a: [Feat(5), Feat(1)], b: [Feat(5), Feat(5), Feat(2)] }]",
+        ),
+        (
+            "t := a & [ F < [ ] > ].",
+            "[Below { path: [], ty: Ty(5) }, Exists { path: [Feat(0)] }, Below { path: [Feat(0)], ty: Ty(3) }, Exists { path: [Feat(0), Feat(1)] }, Exists { path: [Feat(0), Feat(5)] }, Below { path: [Feat(0), Feat(5)], ty: Ty(4) }]",
+        ),
+        (
+            "t := <! [ ] !> & < a . [ ] >.",
+            "[Below { path: [Feat(4)], ty: Ty(3) }, Exists { path: [Feat(4), Feat(1)] }, Exists { path: [Feat(4), Feat(5)] }, Same { a: [Feat(4), Feat(5)], b: [Feat(3)] }, Below { path: [], ty: Ty(3) }, Exists { path: [Feat(1)] }, Below { path: [Feat(1)], ty: Ty(5) }, Exists { path: [Feat(5)] }]",
         ),
         (
             "t := [ F < >, G < ... > ].",
@@ -91,7 +99,7 @@ fn facts_of_bodies(rt: HostRuntime) -> Result<(), Fail> {
         ),
         (
             "t := <! !> & <! a !>.",
-            "[Same { a: [Feat(4)], b: [Feat(3)] }, Below { path: [Feat(4)], ty: Ty(3) }, Below { path: [Feat(4), Feat(1)], ty: Ty(5) }, Same { a: [Feat(4), Feat(5)], b: [Feat(3)] }]",
+            "[Same { a: [Feat(4)], b: [Feat(3)] }, Below { path: [Feat(4)], ty: Ty(3) }, Exists { path: [Feat(4), Feat(1)] }, Below { path: [Feat(4), Feat(1)], ty: Ty(5) }, Exists { path: [Feat(4), Feat(5)] }, Same { a: [Feat(4), Feat(5)], b: [Feat(3)] }]",
         ),
     ] {
         assert_eq!(rt; told(alloc, &words, text)?.as_str(), want);

@@ -183,14 +183,19 @@ module _ (types : TypeTable) (count : ℕ) (feats : List Name) (n : ListNames) w
     items_in at own p (more_items body more) pin cm cu km ku kt =
         let first = p ++ number_of feats n.first ∷ [] in
         let rest = p ++ number_of feats n.rest ∷ [] in
-        each_cons SayingIn (has_type p n.cons) (body_says (number_of feats) n first body ++ items_say (number_of feats) n rest more) (pin, cm (mention at n.cons) here)
-        (each_both SayingIn (body_says (number_of feats) n first body) (items_say (number_of feats) n rest more)
-        (body_in_range false first body (All-push (λ f. f < length feats) p (number_of feats n.first) pin (cu (used at own n.first) here))
-        (each_left MentionIn (body_mentions n body) (items_mention n more) km) (each_left UseIn (body_uses n false body) (items_use n more) ku)
+        let fin = All-push (λ f. f < length feats) p (number_of feats n.first) pin (cu (used at own n.first) here) in
+        let rin = All-push (λ f. f < length feats) p (number_of feats n.rest) pin (cu (used at own n.rest) (there here)) in
+        let within = body_says (number_of feats) n first body in
+        let after = items_say (number_of feats) n rest more in
+        each_cons SayingIn (has_type p n.cons) (is_there first ∷ within ++ is_there rest ∷ after) (pin, cm (mention at n.cons) here)
+        (each_cons SayingIn (is_there first) (within ++ is_there rest ∷ after) fin
+        (each_both SayingIn within (is_there rest ∷ after)
+        (body_in_range false first body fin (each_left MentionIn (body_mentions n body) (items_mention n more) km) (each_left UseIn (body_uses n false body) (items_use n more) ku)
         (each_left TextIn (texts_of_body body) (texts_of_items more) kt))
-        (items_in at own rest more (All-push (λ f. f < length feats) p (number_of feats n.rest) pin (cu (used at own n.rest) (there here))) (cells_next at body more cm) (uses_next at own body more cu)
+        (each_cons SayingIn (is_there rest) after rin
+        (items_in at own rest more rin (cells_next at body more cm) (uses_next at own body more cu)
         (each_right MentionIn (body_mentions n body) (items_mention n more) km) (each_right UseIn (body_uses n false body) (items_use n more) ku)
-        (each_right TextIn (texts_of_body body) (texts_of_items more) kt)))
+        (each_right TextIn (texts_of_body body) (texts_of_items more) kt)))))
 
     end_in : (at : ℕ) (own : Bool) (p : Path) (rest : RestTree) → PathIn (length feats) p → Each MentionIn (end_mentions n at rest) → Each MentionIn (tail_mentions n rest) →
         Each UseIn (end_uses n own rest) → Each TextIn (texts_of_rest rest) → Each SayingIn (end_says (number_of feats) n p rest)

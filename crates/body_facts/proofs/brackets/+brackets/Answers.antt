@@ -1,4 +1,4 @@
-use Rattle.std.proofs.Common.{◌≡◌, ◌<◌, ◌≤◌, ◌∙◌, ◌&&◌, ◌++◌, ◌∷◌, [], false, length, map, sym, ap, get_or, arith, refl}
+use Rattle.std.proofs.Common.{◌<◌, ◌≤◌, ◌∙◌, ◌&&◌, ◌++◌, ◌∷◌, [], false, length, map, sym, ap, get_or, arith, refl}
 use Rattle.std.specs.List.{flat_map}
 use Rattle.std.proofs.lemmas.List.{take_all}
 use Rattle.std.specs.String.{string_bytes}
@@ -6,7 +6,7 @@ use Rattle.tdl_reader.specs.Trees.{items_of}
 use Rattle.tdl_reader.specs.Views.{term_of, body_in, rest_of, attr_of}
 use Rattle.tdl_reader.proofs.Rows.{view_of_avm, view_of_list, view_of_diff, view_of_tail}
 use Rattle.body_facts.specs.Writing.{list_names}
-use Rattle.body_facts.specs.BracketUses.{used_of, used, is_empty_path, is_empty_list, path_uses, cell_uses, term_uses, body_uses, attrs_use, items_use, end_uses}
+use Rattle.body_facts.specs.BracketUses.{used_of, used, is_empty_path, path_uses, cell_uses, term_uses, body_uses, attrs_use, items_use, end_uses}
 use Rattle.body_facts.proofs.Appended.{on_same, on_then, push_step}
 use Rattle.body_facts.proofs.BracketLemmas.{no_end, no_bracket, added_none, added_two, attr_uses}
 use Rattle.body_facts.proofs.Parts.{body_flat, attrs_flat, items_flat}

@@ -1,8 +1,6 @@
-use Rattle.std.proofs.Common.{◌∙◌, ◌++◌, ◌∷◌, ◌<◌, [], length, map, ap, sym, arith}
-use Rattle.tdl_reader.specs.Trees.{items_of}
-use Rattle.tdl_reader.specs.Views.{body_in}
+use Rattle.std.proofs.Common.{◌∙◌, ◌++◌, ◌∷◌, ◌<◌, [], length, map, ap, sym}
 use Rattle.body_facts.specs.Writing.{list_names}
-use Rattle.body_facts.specs.BracketUses.{used_of, used, cell_uses}
+use Rattle.body_facts.specs.BracketUses.{used_of, used}
 use Rattle.body_facts.proofs.Appended.{on_then}
 use Rattle.body_facts.proofs.BracketLemmas.{cell_full, filled}
 use Rattle.body_facts.proofs.brackets.add_cell.Goals as goal

@@ -1,4 +1,4 @@
-use Rattle.std.proofs.Common.{◌∙◌, ◌&&◌, ◌==◌, ap, sym, map, true}
+use Rattle.std.proofs.Common.{◌∙◌, ◌&&◌, ◌==◌, ap, sym, map}
 use Rattle.tdl_reader.specs.Trees.{items_of}
 use Rattle.tdl_reader.specs.Views.{body_in}
 use Rattle.body_facts.specs.BracketUses.{is_empty_list}

@@ -1,4 +1,4 @@
-use Rattle.std.proofs.Common.{ℕ, ◌≡◌, ◌<◌, ◌+◌, ◌∙◌, [], ap, sym, arith, length, slice_index_or, length-drop, get_or-drop}
+use Rattle.std.proofs.Common.{◌<◌, ◌+◌, ◌∙◌, [], ap, sym, arith, length, slice_index_or, length-drop, get_or-drop}
 use Rattle.type_hierarchy.specs.Table.{completed_count}
 use Rattle.type_hierarchy.proofs.PlaceLemmas.{places_more}
 use Rattle.body_facts.specs.Numbers.{strings_of}

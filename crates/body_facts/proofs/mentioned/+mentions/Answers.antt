@@ -8,7 +8,7 @@ use Rattle.tdl_reader.specs.Views.{term_of, body_in, rest_of, attr_of}
 use Rattle.tdl_reader.proofs.Rows.{view_of_name, view_of_avm, view_of_list, view_of_diff, view_of_tail}
 use Rattle.body_facts.specs.Writing.{list_names}
 use Rattle.body_facts.specs.Mentions.{mention, mention_of, is_unknown, cell_mentions, end_mentions, term_mentions, body_mentions, attrs_mention, items_mention, tail_mentions}
-use Rattle.body_facts.proofs.FoundFirst.{both_hit, both_miss, both_none, hit, miss, some_of_map}
+use Rattle.body_facts.proofs.FoundFirst.{both_hit, both_miss, hit, miss, some_of_map}
 use Rattle.body_facts.proofs.MentionLemmas.{no_tail, no_mention}
 use Rattle.body_facts.proofs.Parts.{body_flat, attrs_flat, items_flat}
 use Rattle.body_facts.proofs.mentioned.+mentions.Goals as goal

@@ -1,4 +1,4 @@
-use Rattle.std.proofs.Common.{◌≡◌, None, map, take}
+use Rattle.std.proofs.Common.{◌≡◌, None, take}
 use Rattle.std.specs.List.{flat_map, find}
 use Rattle.tdl_reader.specs.Views.{term_of, attr_of, body_in}
 use Rattle.body_facts.specs.Writing.{list_names}

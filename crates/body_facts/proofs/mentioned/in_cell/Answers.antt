@@ -1,4 +1,4 @@
-use Rattle.std.proofs.Common.{◌≡◌, ◌∙◌, ◌∷◌, ◌<◌, [], length, ap, sym, arith}
+use Rattle.std.proofs.Common.{◌∙◌, ◌∷◌, ◌<◌, [], length, ap, sym}
 use Rattle.std.specs.List.{find}
 use Rattle.body_facts.specs.Writing.{list_names}
 use Rattle.body_facts.specs.Mentions.{mention, is_unknown}

@@ -1,14 +1,14 @@
-use Rattle.std.proofs.Common.{◌≡◌, ◌<◌, ◌≤◌, ◌∙◌, ◌++◌, ◌∷◌, [], length, map, take, sym, ap, get_or, arith, refl}
+use Rattle.std.proofs.Common.{◌<◌, ◌≤◌, ◌∙◌, ◌++◌, length, map, take, sym, ap, get_or, arith, refl}
 use Rattle.std.specs.List.{flat_map}
 use Rattle.std.proofs.lemmas.List.{take_all}
 use Rattle.type_hierarchy.specs.Decls.{texts, number_of}
 use Rattle.fs_model.specs.Claims.{below}
 use Rattle.fs_paths.specs.Facts.{path_of}
 use Rattle.tdl_reader.specs.Trees.{items_of, more_items, no_items}
-use Rattle.tdl_reader.specs.Views.{term_of, body_in, rest_of, attr_of}
+use Rattle.tdl_reader.specs.Views.{term_of, body_in, rest_of}
 use Rattle.tdl_reader.proofs.Rows.{view_of_name, view_of_text, view_of_coref, view_of_avm, view_of_list, view_of_diff, view_of_closed, view_of_open, view_of_tail}
 use Rattle.body_facts.specs.Numbers.{type_number, text_number}
-use Rattle.body_facts.specs.Running.{running_of, moved, claimed, carried, told_all, term_told, body_told, attrs_told, items_told, end_told, difference_told}
+use Rattle.body_facts.specs.Running.{running_of, moved, claimed, carried, told_all, term_told, items_told, end_told}
 use Rattle.body_facts.specs.Sayings.{term_says, body_says, attrs_say}
 use Rattle.body_facts.specs.WordTables.{table_of}
 use Rattle.body_facts.proofs.Parts.{body_flat, attrs_flat}
@@ -106,15 +106,16 @@ add_item-returns t c =
     let w = table_of c.args.words.now in
     let s = running_of c.args.told.now in
     let s1 = running_of c.add_type.new.self in
-    let s4 = running_of c.back_to.new.self in
+    let s5 = running_of c.back_to.new.self in
     let body = body_in c.args.item.now in
     on_to _ _ _ _
-    (item_past w s s4 body c.feature-2.result.0 (c.feature-2.ensures ∙ ap (number_of w.feats) c.deref-3.ensures)
-    (item_done w s s1 (running_of c.enter.new.self) (running_of c.add_body.new.told) s4 body c.len-depth.result c.type_of.result.0 c.feature.result.0
+    (item_past w s s5 (running_of c.enter-2.new.self) body c.feature-2.result.0 (c.feature-2.ensures ∙ ap (number_of w.feats) c.deref-3.ensures)
+    (item_done w s s1 (running_of c.enter.new.self) (running_of c.add_existence.new.self) (running_of c.add_body.new.told) s5 body c.len-depth.result c.type_of.result.0 c.feature.result.0
     (depth_is c.add_type.new.self.path c.len-depth.result c.len-depth.ensures ∙ ap (λ r. length r.path) c.in_ok-add_type.ensures)
     (c.type_of.ensures ∙ ap (type_number w.types) c.deref.ensures) (c.feature.ensures ∙ ap (number_of w.feats) c.deref-2.ensures)
-    c.in_ok-add_type.ensures c.in_ok-enter.ensures c.in_ok-add_body.ensures c.back_to.ensures))
-    c.enter-2.ensures
+    c.in_ok-add_type.ensures c.in_ok-enter.ensures c.in_ok-add_existence.ensures c.in_ok-add_body.ensures c.back_to.ensures)
+    c.in_ok-enter-2.ensures)
+    c.add_existence-2.ensures
 
 pub add_items-loop-item-preserved : goal.add_items-loop-item-preserved
 add_items-loop-item-preserved t c =

@@ -1,11 +1,10 @@
-use Rattle.std.proofs.Common.{◌≡◌, ◌++◌, map, take}
+use Rattle.std.proofs.Common.{◌≡◌, map, take}
 use Rattle.std.specs.List.{flat_map}
-use Rattle.type_hierarchy.specs.Decls.{number_of, texts}
-use Rattle.tdl_reader.specs.Trees.{items_of, attrs_of}
-use Rattle.tdl_reader.specs.Views.{term_of, attr_of, body_in}
+use Rattle.type_hierarchy.specs.Decls.{number_of}
+use Rattle.tdl_reader.specs.Trees.{items_of}
+use Rattle.tdl_reader.specs.Views.{term_of, body_in}
 use Rattle.fs_paths.specs.Facts.{path_of}
-use Rattle.body_facts.specs.Writing.{list_names}
-use Rattle.body_facts.specs.Sayings.{term_says, attrs_say}
+use Rattle.body_facts.specs.Sayings.{term_says}
 use Rattle.body_facts.specs.Running.{running_of, told_all, items_told}
 use Rattle.body_facts.specs.WordTables.{table_of}
 use Rattle.body_facts.proofs.RunningLemmas.{attr_says}

@@ -1,4 +1,4 @@
-use Rattle.std.proofs.Common.{◌≡◌, ◌∙◌, [], ap}
+use Rattle.std.proofs.Common.{◌∙◌, [], ap}
 use Rattle.type_hierarchy.specs.Decls.{number_of}
 use Rattle.tdl_reader.specs.Views.{body_in}
 use Rattle.body_facts.specs.Running.{body_told}
