@@ -44,9 +44,8 @@ impl From<AllocError> for NoMemory {
 
 /// What an edge of a chart covers: in parsing a span of the line, in generation counts of predicates.
 ///
-/// The order tells all covers apart, and a chart finds equal covers by it. Workers share covers, shapes and scratch, so that
-/// each may go to another thread.
-pub trait Cover: Ord + Drop + Send + Sync {
+/// The order tells all covers apart, and a chart finds equal covers by it.
+pub trait Cover: Ord + Drop {
     /// What joined covers stay within.
     type Bound;
 
@@ -143,11 +142,11 @@ impl<T, C> Tuple<T, C> {
 pub trait Shapes {
     ghost use Rattle.cover.specs.Tuples.{shapes_of, covers_of, IsFor};
 
-    type Shape: Drop + Send + Sync;
+    type Shape: Drop;
 
     type Cover: Cover;
     /// Scratch for unification, reused from call to call.
-    type Work: Drop + Send + Sync;
+    type Work: Drop;
 
     // the structures that shapes stand for
     ghost Meaning: { Type 0 };
