@@ -23,9 +23,9 @@ use Rattle.body_facts.specs.Claimed.{WordTable}
 use Rattle.body_facts.specs.Numbers.{type_number, strings_of, text_number}
 use Rattle.body_facts.specs.BracketUses.{Used}
 use Rattle.body_facts.specs.Writing.{ListNames}
-use Rattle.constraint_expand.specs.Placings.{PlacedTree}
+use Rattle.placed_statements.specs.Placings.{PlacedTree}
 use Rattle.constraint_expand.specs.Statements.{no_statement, statement_at, name_of, body_of, defines_type, adds_to_type, adds_to, addenda_to, type_definitions, speaks_of_type, defines_instance}
-use Rattle.constraint_expand.specs.Texts.{texts_of_body}
+use Rattle.placed_statements.specs.BodyStrings.{strings_of_body}
 use Rattle.constraint_expand.specs.Conditions.{AreTypesFor}
 use Rattle.constraint_expand.specs.Features.{uses_in, all_uses, features_used, writers_of, AreFeatures}
 use Rattle.constraint_expand.specs.Introducers.{IsIntroducer, numbers_of}
@@ -101,11 +101,11 @@ said_known types s ps feats types_for le features p has heeded =
     (λ u h. place_in feats u.feature u.feature (features.all u.feature (heeded_uses s.lists ps p u has heeded h)))
     (λ t h. text_in t (strings t h))
   where
-    strings : (t : Name) → Has t (texts_of_body (body_of p)) → Has t (strings_of types)
+    strings : (t : Name) → Has t (strings_of_body (body_of p)) → Has t (strings_of types)
     strings t h =
         let r = Has-place p no_statement ps has in
         types_for.strings r.0 t r.1 (subst (λ q. (speaks_of_type q || defines_instance q) ≡ true) (sym r.2) (or_either (speaks_of_type p) (defines_instance p) heeded))
-        (subst (λ q. Has t (texts_of_body (body_of q))) (sym r.2) h)
+        (subst (λ q. Has t (strings_of_body (body_of q))) (sym r.2) h)
 
     text_in : (t : Name) → Has t (strings_of types) → text_number types t < count_of types
     text_in t h = omega (arith, place_in (strings_of types) t t h, length-drop (completed_count types) types.names, le)

@@ -10,9 +10,9 @@ use Rattle.fs_model.specs.Claims.{Has}
 use Rattle.type_hierarchy.specs.declared.types.Ty.{Ty}
 use Rattle.type_hierarchy.specs.Decls.{Name}
 use Rattle.type_hierarchy.specs.Table.{TypeTable, count_of, completed_count}
-use Rattle.constraint_expand.specs.declared.fault.ExpandFault.{ExpandFault}
-use Rattle.constraint_expand.specs.declared.fault.ExpandFault.TheVariants.{UnknownName, NoIntro, Intro, NoStructure, NoMemory}
-use Rattle.constraint_expand.specs.Placings.{PlacedTree}
+use Rattle.placed_statements.specs.declared.fault.ExpandFault.{ExpandFault}
+use Rattle.placed_statements.specs.declared.fault.ExpandFault.TheVariants.{UnknownName, NoIntro, Intro, NoStructure, NoMemory}
+use Rattle.placed_statements.specs.Placings.{PlacedTree}
 use Rattle.constraint_expand.specs.Conditions.{AreTypesFor, IsDefined}
 use Rattle.constraint_expand.specs.Features.{features_used, writers_of}
 use Rattle.constraint_expand.specs.Introducers.{IsIntroducer}

@@ -16,3 +16,4 @@ pub mod FaultLemmas
 pub mod NumberLemmas
 pub mod BookLemmas
 pub mod FeatureLemmas
+pub mod KindLemmas

@@ -14,7 +14,7 @@ use Rattle.body_facts.specs.Mentions.{Mention, mention, cell_mentions, end_menti
 use Rattle.body_facts.specs.Numbers.{type_number, text_number}
 use Rattle.body_facts.specs.Sayings.{Saying, has_type, has_text, carries, is_there, are_equal, term_says, body_says, attrs_say, items_say, end_says}
 use Rattle.body_facts.specs.Claimed.{first_carrier, claim_said, claims_of_sayings, claims_said}
-use Rattle.constraint_expand.specs.Texts.{texts_of_term, texts_of_body, texts_of_attrs, texts_of_items, texts_of_rest}
+use Rattle.placed_statements.specs.BodyStrings.{strings_of_term, strings_of_body, strings_of_attrs, strings_of_items, strings_of_rest}
 use Rattle.constraint_expand.proofs.ListLemmas.{Has-left, Has-right, Has-either, Has-of_map}
 
 abbrev pub Each : {X : Type 0} → (X → Type 0) → List X → Type 0
@@ -119,7 +119,7 @@ module _ (types : TypeTable) (count : ℕ) (feats : List Name) (n : ListNames) w
       past_in at own (p ++ number_of feats n.rest ∷ []) more (All-push (λ f. f < length feats) p (number_of feats n.rest) pin (k (used at own n.rest) (there here))) (uses_next at own body more k)
 
   mutual
-    term_in : (own : Bool) (p : Path) (t : TermTree) → PathIn (length feats) p → Each MentionIn (term_mentions n t) → Each UseIn (term_uses n own t) → Each TextIn (texts_of_term t) →
+    term_in : (own : Bool) (p : Path) (t : TermTree) → PathIn (length feats) p → Each MentionIn (term_mentions n t) → Each UseIn (term_uses n own t) → Each TextIn (strings_of_term t) →
         Each SayingIn (term_says (number_of feats) n p t)
     term_in own p (of_name name at) pin km ku kt = each_one SayingIn (has_type p name) (pin, km (mention at name) here)
     term_in own p (of_text text at) pin km ku kt = each_one SayingIn (has_text p text) (pin, kt text here)
@@ -133,12 +133,12 @@ module _ (types : TypeTable) (count : ℕ) (feats : List Name) (n : ListNames) w
         each_both SayingIn (items_say (number_of feats) n p items) (end_says (number_of feats) n (past_items (number_of feats n.rest) p items) rest)
         (items_in at own p items pin (each_left MentionIn (cell_mentions n at items) (end_mentions n at rest) m2) cu
         (each_right MentionIn (cell_mentions n at items ++ end_mentions n at rest) (items_mention n items) m3)
-        (each_right UseIn (cell_uses n at own items) (items_use n items) u2) (each_left TextIn (texts_of_items items) (texts_of_rest rest) kt))
+        (each_right UseIn (cell_uses n at own items) (items_use n items) u2) (each_left TextIn (strings_of_items items) (strings_of_rest rest) kt))
         (end_in at (own && is_empty_list items) (past_items (number_of feats n.rest) p items) rest (past_in at own p items pin cu)
         (each_right MentionIn (cell_mentions n at items) (end_mentions n at rest) m2)
         (each_right MentionIn (cell_mentions n at items ++ end_mentions n at rest ++ items_mention n items) (tail_mentions n rest) km)
         (each_right UseIn (cell_uses n at own items ++ items_use n items) (end_uses n (own && is_empty_list items) rest) ku)
-        (each_right TextIn (texts_of_items items) (texts_of_rest rest) kt))
+        (each_right TextIn (strings_of_items items) (strings_of_rest rest) kt))
     term_in own p (of_diff items at) pin km ku kt =
         let two = used at own n.diff_list ∷ used at own n.diff_last ∷ [] in
         let u2 = each_left UseIn (two ++ cell_uses n at false items) (items_use n items) ku in
@@ -152,18 +152,18 @@ module _ (types : TypeTable) (count : ℕ) (feats : List Name) (n : ListNames) w
         (each_right MentionIn (cell_mentions n at items) (items_mention n items) km) (each_right UseIn (two ++ cell_uses n at false items) (items_use n items) ku) kt)
         (each_one SayingIn (are_equal (past_items (number_of feats n.rest) q items) (p ++ number_of feats n.diff_last ∷ [])) (past_in at false q items qin cu, lin))
 
-    body_in_range : (own : Bool) (p : Path) (b : BodyTree) → PathIn (length feats) p → Each MentionIn (body_mentions n b) → Each UseIn (body_uses n own b) → Each TextIn (texts_of_body b) →
+    body_in_range : (own : Bool) (p : Path) (b : BodyTree) → PathIn (length feats) p → Each MentionIn (body_mentions n b) → Each UseIn (body_uses n own b) → Each TextIn (strings_of_body b) →
         Each SayingIn (body_says (number_of feats) n p b)
     body_in_range own p no_terms pin km ku kt = each_nil SayingIn
     body_in_range own p (and_term t more) pin km ku kt =
         each_both SayingIn (term_says (number_of feats) n p t) (body_says (number_of feats) n p more)
         (term_in own p t pin (each_left MentionIn (term_mentions n t) (body_mentions n more) km) (each_left UseIn (term_uses n own t) (body_uses n own more) ku)
-        (each_left TextIn (texts_of_term t) (texts_of_body more) kt))
+        (each_left TextIn (strings_of_term t) (strings_of_body more) kt))
         (body_in_range own p more pin (each_right MentionIn (term_mentions n t) (body_mentions n more) km) (each_right UseIn (term_uses n own t) (body_uses n own more) ku)
-        (each_right TextIn (texts_of_term t) (texts_of_body more) kt))
+        (each_right TextIn (strings_of_term t) (strings_of_body more) kt))
 
     attrs_in : (own : Bool) (p : Path) (at : ℕ) (attrs : AttrTrees) → PathIn (length feats) p → Each MentionIn (attrs_mention n attrs) → Each UseIn (attrs_use n own at attrs) →
-        Each TextIn (texts_of_attrs attrs) → Each SayingIn (attrs_say (number_of feats) n p attrs)
+        Each TextIn (strings_of_attrs attrs) → Each SayingIn (attrs_say (number_of feats) n p attrs)
     attrs_in own p at no_attrs pin km ku kt = each_nil SayingIn
     attrs_in own p at (more_attrs path body more) pin km ku kt =
         let q = p ++ map (number_of feats) path in
@@ -173,12 +173,12 @@ module _ (types : TypeTable) (count : ℕ) (feats : List Name) (n : ListNames) w
         each_cons SayingIn (is_there q) (body_says (number_of feats) n q body ++ attrs_say (number_of feats) n p more) qin
         (each_both SayingIn (body_says (number_of feats) n q body) (attrs_say (number_of feats) n p more)
         (body_in_range inner q body qin (each_left MentionIn (body_mentions n body) (attrs_mention n more) km) (each_right UseIn (path_uses at own path) (body_uses n inner body) u2)
-        (each_left TextIn (texts_of_body body) (texts_of_attrs more) kt))
+        (each_left TextIn (strings_of_body body) (strings_of_attrs more) kt))
         (attrs_in own p at more pin (each_right MentionIn (body_mentions n body) (attrs_mention n more) km) (each_right UseIn (path_uses at own path ++ body_uses n inner body) (attrs_use n own at more) ku)
-        (each_right TextIn (texts_of_body body) (texts_of_attrs more) kt)))
+        (each_right TextIn (strings_of_body body) (strings_of_attrs more) kt)))
 
     items_in : (at : ℕ) (own : Bool) (p : Path) (items : ItemTrees) → PathIn (length feats) p → Each MentionIn (cell_mentions n at items) → Each UseIn (cell_uses n at own items) →
-        Each MentionIn (items_mention n items) → Each UseIn (items_use n items) → Each TextIn (texts_of_items items) → Each SayingIn (items_say (number_of feats) n p items)
+        Each MentionIn (items_mention n items) → Each UseIn (items_use n items) → Each TextIn (strings_of_items items) → Each SayingIn (items_say (number_of feats) n p items)
     items_in at own p no_items pin cm cu km ku kt = each_nil SayingIn
     items_in at own p (more_items body more) pin cm cu km ku kt =
         let first = p ++ number_of feats n.first ∷ [] in
@@ -191,20 +191,20 @@ module _ (types : TypeTable) (count : ℕ) (feats : List Name) (n : ListNames) w
         (each_cons SayingIn (is_there first) (within ++ is_there rest ∷ after) fin
         (each_both SayingIn within (is_there rest ∷ after)
         (body_in_range false first body fin (each_left MentionIn (body_mentions n body) (items_mention n more) km) (each_left UseIn (body_uses n false body) (items_use n more) ku)
-        (each_left TextIn (texts_of_body body) (texts_of_items more) kt))
+        (each_left TextIn (strings_of_body body) (strings_of_items more) kt))
         (each_cons SayingIn (is_there rest) after rin
         (items_in at own rest more rin (cells_next at body more cm) (uses_next at own body more cu)
         (each_right MentionIn (body_mentions n body) (items_mention n more) km) (each_right UseIn (body_uses n false body) (items_use n more) ku)
-        (each_right TextIn (texts_of_body body) (texts_of_items more) kt)))))
+        (each_right TextIn (strings_of_body body) (strings_of_items more) kt)))))
 
     end_in : (at : ℕ) (own : Bool) (p : Path) (rest : RestTree) → PathIn (length feats) p → Each MentionIn (end_mentions n at rest) → Each MentionIn (tail_mentions n rest) →
-        Each UseIn (end_uses n own rest) → Each TextIn (texts_of_rest rest) → Each SayingIn (end_says (number_of feats) n p rest)
+        Each UseIn (end_uses n own rest) → Each TextIn (strings_of_rest rest) → Each SayingIn (end_says (number_of feats) n p rest)
     end_in at own p closed pin em km ku kt = each_one SayingIn (has_type p n.null) (pin, em (mention at n.null) here)
     end_in at own p open_end pin em km ku kt = each_one SayingIn (has_type p n.list) (pin, em (mention at n.list) here)
     end_in at own p (tail_of body) pin em km ku kt = body_in_range own p body pin km ku kt
 
   -- what a body says, where its names are known
-  pub said_in : (b : BodyTree) → Each MentionIn (body_mentions n b) → Each UseIn (body_uses n true b) → Each TextIn (texts_of_body b) →
+  pub said_in : (b : BodyTree) → Each MentionIn (body_mentions n b) → Each UseIn (body_uses n true b) → Each TextIn (strings_of_body b) →
       Each (IsClaimIn count (length feats)) (claims_said (record { types = types; names = n; feats = feats }) b)
   said_in b km ku kt =
       claims_in types count (length feats) (body_says (number_of feats) n [] b) (body_in_range true [] b (All-nil (λ f. f < length feats)) km ku kt)

@@ -14,10 +14,10 @@ use Rattle.type_hierarchy.specs.Table.{TypeTable, count_of, completed_count}
 use Rattle.body_facts.specs.Numbers.{type_number}
 use Rattle.body_facts.specs.Writing.{ListNames}
 use Rattle.body_facts.specs.BracketUses.{Used}
-use Rattle.constraint_expand.specs.declared.fault.ExpandFault.{ExpandFault}
-use Rattle.constraint_expand.specs.declared.fault.ExpandFault.TheVariants.{UnknownName, NoIntro, Intro, NoStructure, NoMemory}
-use Rattle.constraint_expand.specs.Placings.{PlacedTree}
-use Rattle.constraint_expand.specs.Statements.{no_statement, statement_at, name_of, body_of, place_written, speaks_of_type, defines_type, adds_to_type, defines_instance}
+use Rattle.placed_statements.specs.declared.fault.ExpandFault.{ExpandFault}
+use Rattle.placed_statements.specs.declared.fault.ExpandFault.TheVariants.{UnknownName, NoIntro, Intro, NoStructure, NoMemory}
+use Rattle.placed_statements.specs.Placings.{PlacedTree}
+use Rattle.constraint_expand.specs.Statements.{no_statement, statement_at, name_of, body_of, place_of, speaks_of_type, defines_type, adds_to_type, defines_instance}
 use Rattle.constraint_expand.specs.Conditions.{AreTypesFor, IsDefined}
 use Rattle.constraint_expand.specs.Unknowns.{is_defined, own_unknown, NamesUnknown}
 use Rattle.constraint_expand.specs.Features.{uses_in, all_uses, features_used, is_writing, writings_in, writers_of}
@@ -222,10 +222,10 @@ writers_defined types s ps f types_for known t h =
         refuted : is_defined ps (name_of p) ≡ false → ⊥
         refuted e =
             let k = Has-place p no_statement ps has in
-            let own : own_unknown ps p ≡ Some (mention (place_written p.statement) (name_of p)) =
-            ap (λ b. cond b (Some (mention (place_written p.statement) (name_of p))) None) (ap (λ b. b && not (is_defined ps (name_of p))) adds ∙ ap not e) in
+            let own : own_unknown ps p ≡ Some (mention (place_of p.statement) (name_of p)) =
+            ap (λ b. cond b (Some (mention (place_of p.statement) (name_of p))) None) (ap (λ b. b && not (is_defined ps (name_of p))) adds ∙ ap not e) in
             known.of_types k.0 k.1 (subst (λ q. speaks_of_type q ≡ true) (sym k.2) speaks)
-            (subst (NamesUnknown types s.lists ps) (sym k.2) (mention (place_written p.statement) (name_of p), ap (λ o. option_or o (unknown_in types s.lists (body_of p))) own))
+            (subst (NamesUnknown types s.lists ps) (sym k.2) (mention (place_of p.statement) (name_of p), ap (λ o. option_or o (unknown_in types s.lists (body_of p))) own))
 
         known_name : (is_defined ps (name_of p) ≡ true) ⊎ (is_defined ps (name_of p) ≡ false) → is_defined ps (name_of p) ≡ true
         known_name (inl e) = e

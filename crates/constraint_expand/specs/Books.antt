@@ -15,7 +15,7 @@ use Rattle.fs_unify.specs.Placing.{IsAnswerIn}
 use Rattle.constraint_expand.specs.declared.books.Book.{Book}
 use Rattle.constraint_expand.specs.declared.books.BookNames.{BookNames}
 use Rattle.constraint_expand.specs.declared.books.Instance.{Instance}
-use Rattle.constraint_expand.specs.Placings.{PlacedTree}
+use Rattle.placed_statements.specs.Placings.{PlacedTree}
 use Rattle.constraint_expand.specs.Statements.{instances_in, IsNowhere}
 use Rattle.constraint_expand.specs.Systems.{Settled, IsSystemOf, constraint_claims, instance_claims, words_of}
 use Rattle.constraint_expand.specs.Unknowns.{NamesUnknown}

@@ -5,9 +5,9 @@ use Rattle.type_hierarchy.specs.Decls.{Name}
 use Rattle.type_hierarchy.specs.Named.{type_named}
 use Rattle.type_hierarchy.specs.Table.{TypeTable, completed_count, is_below}
 use Rattle.body_facts.specs.Numbers.{strings_of}
-use Rattle.constraint_expand.specs.Placings.{PlacedTree}
+use Rattle.placed_statements.specs.Placings.{PlacedTree}
 use Rattle.constraint_expand.specs.Statements.{name_of, body_of, statement_at, defines_type, speaks_of_type, defines_instance}
-use Rattle.constraint_expand.specs.Texts.{texts_of_body}
+use Rattle.placed_statements.specs.BodyStrings.{strings_of_body}
 
 -- a statement defines the type of this number
 abbrev pub IsDefined : TypeTable → List PlacedTree → ℕ → Type 0
@@ -33,4 +33,4 @@ pub record AreTypesFor (types : TypeTable) (ps : List PlacedTree) : Type 0 where
   -- the other types were added above types that are defined, or are the top type or the string type, of which nothing is written
   pub covered : (t : ℕ) → t < completed_count types → IsDefined types ps t ⊎ (HasLesserBelow types ps t ⊎ HasNoneAbove types ps t)
   pub strings : (k : ℕ) (text : Name) → k < length ps → (speaks_of_type (statement_at ps k) || defines_instance (statement_at ps k)) ≡ true →
-      Has text (texts_of_body (body_of (statement_at ps k))) → Has text (strings_of types)
+      Has text (strings_of_body (body_of (statement_at ps k))) → Has text (strings_of types)

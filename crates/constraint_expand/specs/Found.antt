@@ -9,10 +9,10 @@ use Rattle.type_hierarchy.specs.Table.{TypeTable}
 use Rattle.type_hierarchy.specs.declared.types.Ty.{Ty}
 use Rattle.body_facts.specs.Writing.{ListNames}
 use Rattle.body_facts.specs.Mentions.{mention}
-use Rattle.constraint_expand.specs.declared.statements.Kind.{Kind}
-use Rattle.constraint_expand.specs.declared.fault.ExpandFault.{ExpandFault}
-use Rattle.constraint_expand.specs.declared.fault.ExpandFault.TheVariants.{UnknownName, NoIntro, Intro, NoStructure, NoMemory}
-use Rattle.constraint_expand.specs.Placings.{PlacedTree}
+use Rattle.constraint_expand.specs.declared.kinds.Kind.{Kind}
+use Rattle.placed_statements.specs.declared.fault.ExpandFault.{ExpandFault}
+use Rattle.placed_statements.specs.declared.fault.ExpandFault.TheVariants.{UnknownName, NoIntro, Intro, NoStructure, NoMemory}
+use Rattle.placed_statements.specs.Placings.{PlacedTree}
 use Rattle.constraint_expand.specs.Statements.{name_of, adds_to, speaks_of_type, defines_type, statement_at, IsFirstAmong}
 use Rattle.constraint_expand.specs.Kinds.{picks}
 use Rattle.constraint_expand.specs.Features.{uses_in, writings_in, writers_of, AreFeatures}

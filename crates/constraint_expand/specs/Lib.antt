@@ -1,6 +1,6 @@
-pub mod Placings
+pub use Rattle.placed_statements.specs.Placings
+pub use Rattle.placed_statements.specs.BodyStrings
 pub mod Statements
-pub mod Texts
 pub mod Conditions
 pub mod Features
 pub mod Introducers

@@ -7,8 +7,8 @@ use Rattle.type_hierarchy.specs.Decls.{Name}
 use Rattle.type_hierarchy.specs.Table.{TypeTable}
 use Rattle.body_facts.specs.Writing.{ListNames}
 use Rattle.body_facts.specs.Mentions.{Mention, mention, unknown_in}
-use Rattle.constraint_expand.specs.Placings.{PlacedTree}
-use Rattle.constraint_expand.specs.Statements.{name_of, place_written, body_of, defines_type, adds_to_type}
+use Rattle.placed_statements.specs.Placings.{PlacedTree}
+use Rattle.constraint_expand.specs.Statements.{name_of, place_of, body_of, defines_type, adds_to_type}
 
 -- some statement defines a type of this name
 abbrev pub is_defined : List PlacedTree → Name → Bool
@@ -16,7 +16,7 @@ is_defined ps name = list_any (λ p. defines_type p && bytes_eq name (name_of p)
 
 -- an addendum names its type, which must be defined
 abbrev pub own_unknown : List PlacedTree → PlacedTree → Option Mention
-own_unknown ps p = if (adds_to_type p && not (is_defined ps (name_of p))) then Some (mention (place_written p.statement) (name_of p)) else None
+own_unknown ps p = if (adds_to_type p && not (is_defined ps (name_of p))) then Some (mention (place_of p.statement) (name_of p)) else None
 
 -- the first name of a statement that no type has: an addendum's own name comes before those of its body
 abbrev pub unknown_of : TypeTable → ListNames → List PlacedTree → PlacedTree → Option Mention

@@ -29,7 +29,7 @@ pub struct Instance {
 }
 
 /// What the settings name, by number. `None` stands for a name that the grammar doesn't have.
-#[derive(Debug, Drop)]
+#[derive(Drop)]
 pub struct BookNames {
     /// The type of any list.
     pub list: Option<Ty>,

@@ -7,7 +7,8 @@ ghost use Rattle.fs_model.specs.Claims.{IsBare};
 ghost use Rattle.fs_unify.specs.Rules.{IsGrammar, system_of};
 ghost use Rattle.fs_unify.specs.Systems.{rules_of};
 ghost use Rattle.body_facts.specs.Writing.{list_names};
-ghost use Rattle.constraint_expand.specs.Placings.{placed_of};
+ghost use Rattle.body_facts.specs.WordTables.{table_of};
+ghost use Rattle.placed_statements.specs.Placings.{placed_of};
 ghost use Rattle.constraint_expand.specs.Statements.{statement_at, defines_instance};
 ghost use Rattle.constraint_expand.specs.Conditions.{AreTypesFor};
 ghost use Rattle.constraint_expand.specs.Introducers.{numbers_of};
@@ -17,9 +18,8 @@ ghost use Rattle.constraint_expand.specs.Faults.{IsFaultOf};
 ghost use Rattle.constraint_expand.specs.Found.{IsIntroduced};
 ghost use Rattle.constraint_expand.specs.Shaped.{HaveClaimsIn, AreShaped, IsFaultyAmongInstances};
 
-use crate::Placed;
 use crate::books::{Book, Instance};
-use crate::fault::{ExpandFault, OutOfMemory};
+use crate::fault::OutOfMemory;
 use crate::features::{features_written, in_order};
 use crate::missing::check_written;
 use crate::numbers::book_names;
@@ -30,6 +30,7 @@ use crate::unknown::check_names;
 use crate::writers::writers_by_feature;
 use body_facts::{Names, Words};
 use fs_unify::{Scratch, TypeFacts, TypeSystem};
+use placed_statements::{ExpandFault, Placed};
 use std::alloc::Global;
 use type_hierarchy::{Ty, Types};
 
@@ -72,7 +73,7 @@ fn type_facts(
 ) -> Result<Vec<TypeFacts>, OutOfMemory>
     ensures { IfOk result (λ rules. rules_of rules.items ≡ rules_in (words_of types.now (list_names names.now) (texts feats.now)) (map placed_of statements.now)) }
 {
-    let words = Words::new(alloc, types, names, feats)?;
+    let words = words_over(alloc, types, names, feats)?;
     rules_in(alloc, &words, statements)
 }
 
@@ -99,6 +100,19 @@ fn system_with(
     Ok(system)
 }
 
+// The words of bodies over these types, names and features.
+fn words_over<'a>(
+    alloc: Global,
+    types: &'a Types,
+    names: &'a Names,
+    feats: &'a [String],
+) -> Result<Words<'a>, OutOfMemory>
+    ensures { IfOk result (λ words. table_of words ≡ words_of types.now (list_names names.now) (texts feats.now)) }
+{
+    let words = Words::new(alloc, types, names, feats)?;
+    Ok(words)
+}
+
 // The instances with their structures, or the fault of the first that has none.
 fn instances_with(
     alloc: Global,
@@ -113,7 +127,7 @@ fn instances_with(
     ensures instances { IfOk result (λ is. AreShaped system.now (words_of system.now.types (list_names names.now) (texts feats.now)) (map placed_of statements.now) (map instance_of is.items)) }
     ensures fault { IfErr result (IsFaultyAmongInstances system.now (words_of system.now.types (list_names names.now) (texts feats.now)) (map placed_of statements.now)) }
 {
-    let words = Words::new(alloc, system.types(), names, feats)?;
+    let words = words_over(alloc, system.types(), names, feats)?;
     instances_of(alloc, scratch, system, &words, statements)
 }
 

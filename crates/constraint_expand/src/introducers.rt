@@ -9,7 +9,7 @@ ghost use Rattle.constraint_expand.specs.Introduced.{IsFound};
 use type_hierarchy::{Ty, Types};
 
 /// What the writers of a feature have: a writer above all others, or else two most general ones, the first two by number.
-#[derive(Clone, Copy, Debug, PartialEq, Eq)]
+#[derive(Clone, Copy)]
 pub enum Introduced {
     By(Ty),
     Split { a: Ty, b: Ty },

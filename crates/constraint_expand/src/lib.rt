@@ -6,12 +6,12 @@ mod expansion;
 mod fault;
 mod features;
 mod introducers;
+mod kinds;
 mod missing;
 mod notes;
 mod numbers;
 mod rules;
 mod splits;
-mod statements;
 mod structures;
 mod unknown;
 mod writers;
@@ -19,16 +19,4 @@ mod writers;
 pub use body_facts::Names;
 pub use books::{Book, BookNames, Instance};
 pub use expansion::expand;
-pub use fault::ExpandFault;
-use tdl_reader::{Statement, Status};
-
-/// A definition or an addendum of a grammar (DELPH-IN TDL): the statement, what its environment makes of it, and
-/// the file in which it stands, by its number among the files in order of reading, from 0.
-///
-/// Outside every environment, and in one of types, the status is `TypeDef`.
-#[derive(Drop)]
-pub struct Placed {
-    pub statement: Statement,
-    pub status: Status,
-    pub file: u32,
-}
+pub use placed_statements::{ExpandFault, Placed};

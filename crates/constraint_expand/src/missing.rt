@@ -1,11 +1,12 @@
 //! Features that no type writes.
 
-ghost use Rattle.std.specs.Prelude.{◌≡◌, ◌<◌, ◌↔◌, length, map, true, IsTrue, IfErr, IfSome, OnOk, MatchOption};
+ghost use Rattle.std.specs.Prelude.{◌≡◌, ◌<◌, ◌↔◌, length, map, true, IsTrue, IfOk, IfErr, IfSome, OnOk, MatchOption};
 ghost use Rattle.fs_model.specs.Claims.{Has};
 ghost use Rattle.type_hierarchy.specs.Decls.{Name};
+ghost use Rattle.tdl_reader.specs.Views.{body_in};
 ghost use Rattle.body_facts.specs.Writing.{list_names};
-ghost use Rattle.body_facts.specs.BracketUses.{Used, used_of};
-ghost use Rattle.constraint_expand.specs.Placings.{placed_of};
+ghost use Rattle.body_facts.specs.BracketUses.{Used, used_of, body_uses};
+ghost use Rattle.placed_statements.specs.Placings.{placed_of};
 ghost use Rattle.constraint_expand.specs.Statements.{HoldsOfNone};
 ghost use Rattle.constraint_expand.specs.Kinds.{picks};
 ghost use Rattle.constraint_expand.specs.Features.{uses_in, writers_of};
@@ -13,13 +14,14 @@ ghost use Rattle.constraint_expand.specs.Systems.{settled_of};
 ghost use Rattle.constraint_expand.specs.Faults.{IsFirstUse, use_at, AreWritten};
 ghost use Rattle.constraint_expand.specs.Found.{numbers_noted, HasNoWriter, UsesWithout, IsWithoutHere, IsWithoutAmong, IsUnwrittenFault};
 
-use crate::Placed;
-use crate::fault::ExpandFault;
+use crate::fault::OutOfMemory;
+use crate::kinds::{Kind, body_under};
 use crate::notes::noted;
-use crate::statements::{Kind, body_under};
 use body_facts::{Names, Use, uses};
 use indexmap::IndexMap;
+use placed_statements::{ExpandFault, Placed};
 use std::alloc::Global;
+use tdl_reader::Body;
 use type_hierarchy::{Ty, Types};
 
 // Whether no type writes the feature of a use.
@@ -54,6 +56,14 @@ fn first_use(writers: &IndexMap<String, Vec<Ty>>, found: &[Use<'_>]) -> Option<u
     best
 }
 
+// The features that the brackets of a body have.
+fn uses_of<'a>(alloc: Global, names: &'a Names, body: &'a Body) -> Result<Vec<Use<'a>>, OutOfMemory>
+    ensures { IfOk result (λ found. map used_of found.items ≡ body_uses (list_names names.now) true (body_in body.now)) }
+{
+    let found = uses(alloc, names, body)?;
+    Ok(found)
+}
+
 // The fault of a statement of this kind that uses a feature that no type writes.
 fn check_statement(
     alloc: Global,
@@ -70,7 +80,7 @@ fn check_statement(
         Some(body) => body,
         None => return Ok(()),
     };
-    let found = uses(alloc, names, body)?;
+    let found = uses_of(alloc, names, body)?;
     match first_use(writers, &found) {
         Some(i) => Err(ExpandFault::NoIntro {
             feature: String::from_str(alloc, found[i].feature)?,

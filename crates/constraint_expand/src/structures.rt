@@ -5,24 +5,24 @@ ghost use Rattle.type_hierarchy.specs.Table.{count_of, completed_count};
 ghost use Rattle.fs_model.specs.Claims.{IsBare};
 ghost use Rattle.fs_unify.specs.Rules.{system_of};
 ghost use Rattle.body_facts.specs.WordTables.{table_of};
-ghost use Rattle.constraint_expand.specs.Placings.{placed_of};
+ghost use Rattle.placed_statements.specs.Placings.{placed_of};
 ghost use Rattle.constraint_expand.specs.Statements.{statement_at, defines_instance};
 ghost use Rattle.constraint_expand.specs.Conditions.{IsDefined, HasLesserBelow, HasNoneAbove};
 ghost use Rattle.constraint_expand.specs.Systems.{constraint_claims, instance_claims};
 ghost use Rattle.constraint_expand.specs.Books.{AreConstraints, instance_of};
 ghost use Rattle.constraint_expand.specs.Shaped.{AreFactsDefined, IsAnswerFor, AddsInstance, AreShaped, HasNoConstraint, IsFaultyType, IsFaultyAmongTypes, IsFaultyHere, IsFaultyAmongInstances, HaveClaimsIn};
 
-use crate::Placed;
 use crate::books::Instance;
-use crate::fault::{ExpandFault, OutOfMemory};
+use crate::fault::OutOfMemory;
 use crate::rules::add_facts;
 use crate::splits::definition_of;
-use crate::statements::{defines_instance, name_of};
 use body_facts::Words;
 use fs_graph::Graph;
 use fs_model::closure_laws;
 use fs_paths::Fact;
 use fs_unify::{Scratch, TypeSystem, structure_of};
+use placed_statements::statements::{defines_instance, name_of};
+use placed_statements::{ExpandFault, Placed};
 use std::alloc::Global;
 use type_hierarchy::Ty;
 

@@ -3,31 +3,28 @@ use Rattle.std.proofs.Common.{ℕ, ◌≡◌, ◌<◌, ◌||◌, true, List, len
 use Rattle.std.specs.List.{flat_map}
 use Rattle.fs_model.specs.Claims.{Has}
 use Rattle.type_hierarchy.specs.Table.{TypeTable}
-use Rattle.constraint_expand.specs.declared.fault.ExpandFault.{ExpandFault}
-use Rattle.constraint_expand.specs.declared.fault.ExpandFault.TheVariants.{UnknownName, NoIntro, Intro, NoStructure, NoMemory}
+use Rattle.placed_statements.specs.declared.fault.ExpandFault.{ExpandFault}
+use Rattle.placed_statements.specs.declared.fault.ExpandFault.TheVariants.{UnknownName, NoIntro, Intro, NoStructure, NoMemory}
 use Rattle.constraint_expand.specs.Conditions.{AreTypesFor}
 use Rattle.constraint_expand.specs.Faults.{IsFaultOf}
-use Rattle.constraint_expand.specs.Placings.{PlacedTree}
+use Rattle.placed_statements.specs.Placings.{PlacedTree}
 use Rattle.constraint_expand.specs.Statements.{body_of, speaks_of_type, defines_instance, IsFirst, first_of_types, first_of_instances}
 use Rattle.constraint_expand.specs.Systems.{Settled}
-use Rattle.constraint_expand.specs.Texts.{texts_of_body}
-use Rattle.grammar_model.specs.BodyStrings.{strings_of_body}
-use Rattle.grammar_model.specs.Environments.{is_heeded}
+use Rattle.placed_statements.specs.BodyStrings.{strings_of_body}
 use Rattle.grammar_model.specs.Expanding.{stands_at}
-use Rattle.grammar_model.specs.Forms.{Name}
-use Rattle.grammar_model.specs.Typings.{statement_at, no_statement, body_written, strings_in, AreTypesOf}
-use Rattle.grammar_model.specs.Walks.{WalkedTree}
-use Rattle.grammar_model.proofs.ExpandLists.{same_body, is_heeded_so, same_strings, has_at, has_filter, has_flat_map, has_once}
+use Rattle.grammar_settings.specs.Forms.{Name}
+use Rattle.grammar_types.specs.Typings.{is_heeded, statement_at, no_statement, body_written, strings_in, AreTypesOf}
+use Rattle.grammar_files.specs.Walks.{WalkedTree}
+use Rattle.grammar_model.proofs.ExpandLists.{is_heeded_so, has_at, has_filter, has_flat_map, has_once}
 use Rattle.grammar_model.proofs.ExpandTypes.{fits}
 
 -- a string of a body that is heeded is one of all strings
 string_there : (ps : List PlacedTree) (k : ℕ) (s : Name) → k < length ps → (speaks_of_type (statement_at ps k) || defines_instance (statement_at ps k)) ≡ true →
-    Has s (texts_of_body (body_of (statement_at ps k))) → Has s (strings_in ps)
+    Has s (strings_of_body (body_of (statement_at ps k))) → Has s (strings_in ps)
 string_there ps k s l e h =
     has_once s (flat_map (λ p. strings_of_body (body_written p.statement)) (filter (λ p. is_heeded p.status) ps))
     (has_flat_map (λ p. strings_of_body (body_written p.statement)) s (statement_at ps k) (filter (λ p. is_heeded p.status) ps)
-    (has_filter (λ p. is_heeded p.status) (statement_at ps k) ps (has_at ps k no_statement l) (is_heeded_so (statement_at ps k) e))
-    (subst (Has s) (ap texts_of_body (same_body (statement_at ps k).statement) ∙ same_strings (body_written (statement_at ps k).statement)) h))
+    (has_filter (λ p. is_heeded p.status) (statement_at ps k) ps (has_at ps k no_statement l) (is_heeded_so (statement_at ps k) e)) h)
 
 pub fit_types : (w : WalkedTree) (t : TypeTable) → AreTypesOf w t → AreTypesFor t w.statements
 fit_types w t (h, is, c) =

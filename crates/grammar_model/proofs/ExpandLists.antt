@@ -6,53 +6,13 @@ use Rattle.std.proofs.lemmas.Bool.{cases_order}
 use Rattle.std.proofs.lemmas.List.Quantifiers.{position-Some}
 use Rattle.tdl_reader.specs.declared.Status.{Status}
 use Rattle.tdl_reader.specs.declared.Status.TheVariants.{TypeDef, Entry, LexRule, Rule, Root, Other}
-use Rattle.tdl_reader.specs.Trees.{TermTree, of_name, of_text, of_coref, of_avm, of_list, of_diff, BodyTree, no_terms, and_term, AttrTrees, no_attrs, more_attrs, ItemTrees, no_items, more_items, RestTree, closed, open_end, tail_of, StatementTree, defines, adds, begins, ends, includes, letters}
 use Rattle.fs_model.specs.Claims.{Has, here, there}
 use Rattle.type_hierarchy.proofs.SetLemmas.{position_at}
-use Rattle.constraint_expand.specs.Placings.{PlacedTree}
-use Rattle.constraint_expand.specs.Statements.{is_define, is_addendum, is_of_types, is_of_instances, name_written, body_written, defines_type, speaks_of_type, defines_instance}
-use Rattle.constraint_expand.specs.Texts.{texts_of_term, texts_of_body, texts_of_attrs, texts_of_items, texts_of_rest}
-use Rattle.grammar_model.specs.BodyStrings.{strings_of_term, strings_of_body, strings_of_attrs, strings_of_items, strings_of_rest, once}
-use Rattle.grammar_model.specs.Environments.{is_heeded}
-use Rattle.grammar_model.specs.Forms.{Name}
-use Rattle.grammar_model.specs.Typings.{is_status, defines_under, is_define as is_definition, name_written as name_given, body_written as body_given}
-use Rattle.grammar_model.proofs.SettleLists.{bools, true_not_false, bytes_eq-same}
-
--- what both crates read in a statement
-same_define : (x : StatementTree) → is_define x ≡ is_definition x
-same_define (defines name at affix body) = refl
-same_define (adds name at body) = refl
-same_define (begins status at) = refl
-same_define (ends instance at) = refl
-same_define (includes file at) = refl
-same_define (letters set at) = refl
-
-pub same_name : (x : StatementTree) → name_written x ≡ name_given x
-same_name (defines name at affix body) = refl
-same_name (adds name at body) = refl
-same_name (begins status at) = refl
-same_name (ends instance at) = refl
-same_name (includes file at) = refl
-same_name (letters set at) = refl
-
-pub same_body : (x : StatementTree) → body_written x ≡ body_given x
-same_body (defines name at affix body) = refl
-same_body (adds name at body) = refl
-same_body (begins status at) = refl
-same_body (ends instance at) = refl
-same_body (includes file at) = refl
-same_body (letters set at) = refl
-
-same_status : (s : Status) → is_of_types s ≡ is_status TypeDef s
-same_status TypeDef = refl
-same_status Entry = refl
-same_status LexRule = refl
-same_status Rule = refl
-same_status Root = refl
-same_status Other = refl
-
-pub same_test : (p : PlacedTree) → defines_type p ≡ defines_under TypeDef p
-same_test p = ap (λ b. b && is_of_types p.status) (same_define p.statement) ∙ ap (λ b. is_definition p.statement && b) (same_status p.status)
+use Rattle.placed_statements.specs.Placings.{PlacedTree}
+use Rattle.placed_statements.specs.Statements.{is_define, is_addendum, is_of_types, is_of_instances, is_heeded, speaks_of_type, defines_instance}
+use Rattle.grammar_types.specs.Typings.{once}
+use Rattle.grammar_settings.specs.Forms.{Name}
+use Rattle.grammar_types.proofs.SettleLists.{bools, true_not_false, bytes_eq-same}
 
 heeded : (a b : Bool) (s : Status) → (((a && is_of_types s) || (b && is_of_types s)) || (a && is_of_instances s)) ≡ true → is_heeded s ≡ true
 heeded a b TypeDef e = refl
@@ -67,33 +27,6 @@ heeded false false Other e = absurd (let z : false ≡ true = e in cc)
 
 pub is_heeded_so : (p : PlacedTree) → (speaks_of_type p || defines_instance p) ≡ true → is_heeded p.status ≡ true
 is_heeded_so p e = heeded (is_define p.statement) (is_addendum p.statement) p.status e
-
--- the strings of bodies
-mutual
-  same_term : (t : TermTree) → texts_of_term t ≡ strings_of_term t
-  same_term (of_name name at) = refl
-  same_term (of_text text at) = refl
-  same_term (of_coref name at) = refl
-  same_term (of_avm attrs at) = same_attrs attrs
-  same_term (of_list items rest at) = ap (λ l. l ++ texts_of_rest rest) (same_items items) ∙ ap (λ l. strings_of_items items ++ l) (same_rest rest)
-  same_term (of_diff items at) = same_items items
-
-  pub same_strings : (b : BodyTree) → texts_of_body b ≡ strings_of_body b
-  same_strings no_terms = refl
-  same_strings (and_term t more) = ap (λ l. l ++ texts_of_body more) (same_term t) ∙ ap (λ l. strings_of_term t ++ l) (same_strings more)
-
-  same_attrs : (a : AttrTrees) → texts_of_attrs a ≡ strings_of_attrs a
-  same_attrs no_attrs = refl
-  same_attrs (more_attrs path body more) = ap (λ l. l ++ texts_of_attrs more) (same_strings body) ∙ ap (λ l. strings_of_body body ++ l) (same_attrs more)
-
-  same_items : (i : ItemTrees) → texts_of_items i ≡ strings_of_items i
-  same_items no_items = refl
-  same_items (more_items body more) = ap (λ l. l ++ texts_of_items more) (same_strings body) ∙ ap (λ l. strings_of_body body ++ l) (same_items more)
-
-  same_rest : (r : RestTree) → texts_of_rest r ≡ strings_of_rest r
-  same_rest closed = refl
-  same_rest open_end = refl
-  same_rest (tail_of body) = same_strings body
 
 -- elements of lists
 has_left : {X : Type 0} (x : X) (xs ys : List X) → Has x xs → Has x (xs ++ ys)

@@ -6,7 +6,6 @@ use Rattle.std.specs.Str.{bytes_eq}
 use Rattle.std.proofs.lemmas.Bool.{cases_lt}
 use Rattle.std.proofs.lemmas.List.{length-map, length-append, length-take, get_or-map, get_or-take, get_or_append_left, get_or-append-add, drop_at}
 use Rattle.std.proofs.lemmas.List.FromFn.{length-map-range_with_len}
-use Rattle.tdl_reader.specs.declared.Status.TheVariants.{TypeDef}
 use Rattle.type_hierarchy.specs.Decls.{Declared, bare, at_place, is_defined, unwritten, types_of, names_of, parent_names, parents_of, number_of}
 use Rattle.type_hierarchy.specs.Faults.{IsFaultless}
 use Rattle.type_hierarchy.specs.Laws.{IsHierarchy, IsOrder, HasTypeLaws}
@@ -22,24 +21,15 @@ use Rattle.type_hierarchy.proofs.SetLemmas.{lt_true, lt_false, eq_true, eq_of, s
 use Rattle.fs_model.specs.Claims.{Has}
 use Rattle.body_facts.specs.Numbers.{strings_of}
 use Rattle.constraint_expand.specs.Conditions.{IsDefined, HasLesserBelow, HasNoneAbove, AreTypesFor}
-use Rattle.constraint_expand.specs.Placings.{PlacedTree}
+use Rattle.placed_statements.specs.Placings.{PlacedTree}
 use Rattle.constraint_expand.specs.Statements.{name_of, body_of, defines_type, speaks_of_type, defines_instance}
-use Rattle.constraint_expand.specs.Texts.{texts_of_body}
-use Rattle.grammar_model.specs.Forms.{Name}
-use Rattle.grammar_model.specs.Typings.{statement_at, no_statement, name_written, defines_under, type_definitions, declared_in, decls_in}
-use Rattle.grammar_model.proofs.ExpandLists.{same_name, same_test, kept_at, kept_rises, place_found}
-use Rattle.grammar_model.proofs.SettleLists.{bools, true_not_false, bytes_eq-refl}
-use Rattle.grammar_model.proofs.SettlePlaces.{Stands, stands_at, name_at, within}
-
--- the types that nothing defines are at most two, and have no parents
-few_unwritten : (top text : Name) (ds : List Declared) → length (unwritten top text ds) ≤ 2
-few_unwritten top text ds = go (not (is_defined ds top)) (not (is_defined ds text))
-  where
-    go : (p q : Bool) → length (cond p (bare top ∷ cond q (bare text ∷ []) []) (cond q (bare text ∷ []) [])) ≤ 2
-    go true true = omega arith
-    go true false = omega arith
-    go false true = omega arith
-    go false false = omega arith
+use Rattle.placed_statements.specs.BodyStrings.{strings_of_body}
+use Rattle.grammar_settings.specs.Forms.{Name}
+use Rattle.grammar_types.specs.Typings.{statement_at, no_statement, name_written, type_definitions, declared_in, decls_in}
+use Rattle.grammar_model.proofs.ExpandLists.{kept_at, kept_rises, place_found}
+use Rattle.grammar_types.proofs.SettleLists.{bools, true_not_false, bytes_eq-refl}
+use Rattle.grammar_types.proofs.Unwritten.{few_unwritten, beside_top, top_first}
+use Rattle.grammar_types.proofs.SettlePlaces.{Stands, stands_at, name_at, within}
 
 no_parents : (top text : Name) (ds : List Declared) (t : ℕ) → t < length (unwritten top text ds) → (at_place (unwritten top text ds) t).parents ≡ []
 no_parents top text ds t h = go t (not (is_defined ds top)) (not (is_defined ds text)) h
@@ -53,13 +43,6 @@ no_parents top text ds t h = go t (not (is_defined ds top)) (not (is_defined ds 
     go zero false true h = refl
     go (suc t) false true h = absurd (omega arith)
     go t false false h = absurd (omega arith)
-
--- the top type stands first
-abbrev beside_top : Name → List Declared → List Declared
-beside_top text ds = filter (λ d. not (is_defined ds d.name)) (bare text ∷ [])
-
-top_first : (top text : Name) (ds : List Declared) → is_defined ds top ≡ false → unwritten top text ds ≡ bare top ∷ beside_top text ds
-top_first top text ds none = ap (λ b. cond (not b) (bare top ∷ beside_top text ds) (beside_top text ds)) none
 
 top_number : (top text : Name) (ds : List Declared) → is_defined ds top ≡ false → number_of (names_of top text ds) top ≡ 0
 top_number top text ds none = ap (λ us. number_of (map (λ d. d.name) (us ++ ds)) top) (top_first top text ds none) ∙ first top (map (λ d. d.name) (beside_top text ds ++ ds))
@@ -181,31 +164,28 @@ module _ (top text : Name) (ps : List PlacedTree) (h : TypeTable) (added : List 
 
   -- the place of a definition of a type among all of them
   abbrev rank : ℕ → ℕ
-  rank k = length (filter (defines_under TypeDef) (take k ps))
+  rank k = length (filter defines_type (take k ps))
 
   definitions_count : length ds ≡ length (type_definitions ps)
   definitions_count = length-map (type_definitions ps) (declared_in ps)
 
-  tested : (k : ℕ) → defines_type (statement_at ps k) ≡ true → defines_under TypeDef (statement_at ps k) ≡ true
-  tested k e = sym (same_test (statement_at ps k)) ∙ e
-
   ranked : (k : ℕ) → k < length ps → defines_type (statement_at ps k) ≡ true → rank k < length ds
-  ranked k l e = omega (arith, definitions_count, (kept_at (defines_under TypeDef) ps k no_statement l (tested k e)).0)
+  ranked k l e = omega (arith, definitions_count, (kept_at defines_type ps k no_statement l e).0)
 
   numbered : (k : ℕ) → k < length ps → defines_type (statement_at ps k) ≡ true → type_named types (name_of (statement_at ps k)) ≡ Some (length us + rank k)
   numbered k l e =
-      let r = kept_at (defines_under TypeDef) ps k no_statement l (tested k e) in
+      let r = kept_at defines_type ps k no_statement l e in
       let inside = ranked k l e in
-      ap (type_named types) (same_name (statement_at ps k).statement ∙ sym (ap (λ p. name_written p.statement) r.1) ∙ sym (name_at ps (rank k) inside)) ∙ named_at (rank k) inside
+      ap (type_named types) (sym (ap (λ p. name_written p.statement) r.1) ∙ sym (name_at ps (rank k) inside)) ∙ named_at (rank k) inside
 
   -- each type that is declared is defined, and these have numbers after those that aren't
   defined_at : (i : ℕ) → i < length ds → IsDefined types ps (length us + i)
   defined_at i l =
-      let s : Stands (defines_under TypeDef) ps (type_definitions ps) i no_statement = stands_at (defines_under TypeDef) ps i no_statement (within ps i l) in (
+      let s : Stands defines_type ps (type_definitions ps) i no_statement = stands_at defines_type ps i no_statement (within ps i l) in (
         s.place,
         s.inside,
-        same_test (statement_at ps s.place) ∙ s.passes,
-        ap (type_named types) (same_name (statement_at ps s.place).statement ∙ sym (name_at ps i l ∙ ap (λ p. name_written p.statement) s.same)) ∙ named_at i l,
+        s.passes,
+        ap (type_named types) (sym (name_at ps i l ∙ ap (λ p. name_written p.statement) s.same)) ∙ named_at i l,
       )
 
   defined_from : (t : ℕ) → length us ≤ t → t < h.written → IsDefined types ps t
@@ -225,7 +205,7 @@ module _ (top text : Name) (ps : List PlacedTree) (h : TypeTable) (added : List 
         arith,
         one_number _ _ (sym m ∙ numbered j (omega (arith, lt, l)) d),
         one_number _ _ (sym n ∙ numbered k l e),
-        kept_rises (defines_under TypeDef) ps j k no_statement lt (omega (arith, l)) (tested j d),
+        kept_rises defines_type ps j k no_statement lt (omega (arith, l)) d,
       )
 
   -- a member of a type's set is below the type
@@ -331,7 +311,7 @@ module _ (top text : Name) (ps : List PlacedTree) (h : TypeTable) (added : List 
       go (inr k) (inl m) = inl (defined_from t k m)
       go (inr k) (inr m) = inr (inl (lesser_below t m l))
 
-  pub fits : ((k : ℕ) (s : Name) → k < length ps → (speaks_of_type (statement_at ps k) || defines_instance (statement_at ps k)) ≡ true → Has s (texts_of_body (body_of (statement_at ps k))) → Has s strings) →
+  pub fits : ((k : ℕ) (s : Name) → k < length ps → (speaks_of_type (statement_at ps k) || defines_instance (statement_at ps k)) ≡ true → Has s (strings_of_body (body_of (statement_at ps k))) → Has s strings) →
       AreTypesFor types ps
   fits has = record {
     top_is_there = top_there;

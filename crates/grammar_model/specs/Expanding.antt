@@ -2,18 +2,18 @@
 use Rattle.std.specs.Prelude.{ℕ, ◌≡◌, ◌≢◌}
 use Rattle.type_hierarchy.specs.Table.{TypeTable}
 use Rattle.constraint_expand.specs.declared.books.Book.{Book}
-use Rattle.constraint_expand.specs.declared.fault.ExpandFault.{ExpandFault}
-use Rattle.constraint_expand.specs.declared.fault.ExpandFault.TheVariants.{UnknownName, NoIntro, Intro, NoStructure, NoMemory}
+use Rattle.placed_statements.specs.declared.fault.ExpandFault.{ExpandFault}
+use Rattle.placed_statements.specs.declared.fault.ExpandFault.TheVariants.{UnknownName, NoIntro, Intro, NoStructure, NoMemory}
 use Rattle.constraint_expand.specs.Books.{IsBookOf}
 use Rattle.constraint_expand.specs.Faults.{IsFaultOf}
-use Rattle.constraint_expand.specs.Placings.{PlacedTree}
+use Rattle.placed_statements.specs.Placings.{PlacedTree}
 use Rattle.constraint_expand.specs.Systems.{Settled}
-use Rattle.grammar_model.specs.declared.fault.Why.TheVariants.{Expand}
-use Rattle.grammar_model.specs.Environments.{place_of}
-use Rattle.grammar_model.specs.Faults.{FoundFault}
-use Rattle.grammar_model.specs.Settled.{SettingsTree}
-use Rattle.grammar_model.specs.Typings.{AreTypesOf, statement_at, file_name}
-use Rattle.grammar_model.specs.Walks.{WalkedTree, fault_at}
+use Rattle.grammar_files.specs.declared.fault.Why.TheVariants.{Expand}
+use Rattle.grammar_files.specs.Environments.{place_of}
+use Rattle.grammar_files.specs.Faults.{FoundFault}
+use Rattle.grammar_settings.specs.Settled.{SettingsTree}
+use Rattle.grammar_types.specs.Typings.{AreTypesOf, statement_at, file_name}
+use Rattle.grammar_files.specs.Walks.{WalkedTree, fault_at}
 
 -- the names that settings give to lists, and to what rules and roots look at
 abbrev pub names_by : SettingsTree → Settled

@@ -1,22 +1,20 @@
 //! What a grammar's statements expand to.
 
 ghost use Rattle.std.specs.Prelude.{◌≡◌, ◌≢◌, ◌<◌, length, map, IfOk, IfErr, string_bytes};
-ghost use Rattle.constraint_expand.specs.Placings.{placed_of};
+ghost use Rattle.placed_statements.specs.Placings.{placed_of};
 ghost use Rattle.constraint_expand.specs.Systems.{settled_of};
-ghost use Rattle.constraint_expand.specs.declared.fault.ExpandFault.{ExpandFault};
+ghost use Rattle.placed_statements.specs.declared.fault.ExpandFault.{ExpandFault};
 ghost use Rattle.grammar_model.specs.Expanding.{names_by, IsBook, stands_at, place_within, expand_fault, IsExpandFault};
-ghost use Rattle.grammar_model.specs.Faults.{IsFaultBy};
-ghost use Rattle.grammar_model.specs.SettingsViews.{settings_of, names_in};
-ghost use Rattle.grammar_model.specs.Typings.{AreTypesOf};
-ghost use Rattle.grammar_model.specs.WalkViews.{walked_of};
+ghost use Rattle.grammar_files.specs.Faults.{IsFaultBy};
+ghost use Rattle.grammar_settings.specs.SettingsViews.{settings_of, names_in};
+ghost use Rattle.grammar_types.specs.Typings.{AreTypesOf};
+ghost use Rattle.grammar_files.specs.WalkViews.{walked_of};
 
-use crate::fault::{LoadFault, NoMemory, Why};
-use crate::reading::found;
-use crate::settings::Settings;
-use crate::settle::file_name;
-use crate::statements::place_of;
-use crate::walking::Walked;
-use constraint_expand::{Book, ExpandFault, Names, Placed, expand};
+use constraint_expand::{Book, Names, expand};
+use grammar_files::{LoadFault, NoMemory, Settings, Walked, Why, found};
+use grammar_types::file_name;
+use placed_statements::statements::place_of;
+use placed_statements::{ExpandFault, Placed};
 use std::alloc::Global;
 use type_hierarchy::Types;
 

@@ -2,7 +2,7 @@
 use Rattle.std.proofs.Common.{◌≡◌, ℕ, refl, List, Bool, Option, Some, Result, Ok, Err, subst, inl, inr, ◌⊎◌, String}
 use Rattle.std.specs.Global.{Global}
 use Rattle.lkb_io.specs.Outside.{HasRisen}
-use Rattle.grammar_model.specs.declared.fault.Why.{Why}
+use Rattle.grammar_files.specs.declared.fault.Why.{Why}
 use Rattle.grammar_model.specs.Faults.{FoundFault}
 use Rattle.lkb.specs.declared.lines.Stop.{Stop}
 use Rattle.lkb.specs.declared.lines.Stop.TheVariants.{Read, TooLong, TooMany, Write, NoMemory}

@@ -4,10 +4,10 @@ use Rattle.std.specs.Str.{bytes_eq}
 use Rattle.std.proofs.lemmas.Bool.Decides.{Decides-ltb}
 use Rattle.std.proofs.lemmas.Slice.Eq.{bytes_eq-Decides}
 use Rattle.lkb_io.specs.Outside.{HasRisen}
-use Rattle.grammar_model.specs.declared.fault.Why.{Why}
-use Rattle.grammar_model.specs.declared.fault.Why.TheVariants.{Shelf, Expand}
-use Rattle.grammar_model.specs.declared.fault.LoadFault.{LoadFault}
-use Rattle.grammar_model.specs.declared.fault.LoadFault.TheVariants.{NoMemory, Found}
+use Rattle.grammar_files.specs.declared.fault.Why.{Why}
+use Rattle.grammar_files.specs.declared.fault.Why.TheVariants.{Shelf, Expand}
+use Rattle.grammar_files.specs.declared.fault.LoadFault.{LoadFault}
+use Rattle.grammar_files.specs.declared.fault.LoadFault.TheVariants.{NoMemory, Found}
 use Rattle.grammar_model.specs.Faults.{FoundFault, IsFaultBy}
 use Rattle.grammar_model.specs.Walks.{WalkedTree, WalksTo, has_failed}
 use Rattle.grammar_model.specs.Typings.{IsTypesFault, repeats, unsettled, too_many}

@@ -18,8 +18,8 @@ use Rattle.body_facts.specs.BracketUses.{Used}
 use Rattle.body_facts.specs.Mentions.{Mention, mention}
 use Rattle.body_facts.specs.Numbers.{type_number}
 use Rattle.constraint_expand.specs.declared.books.Book.{Book}
-use Rattle.constraint_expand.specs.declared.fault.ExpandFault.{ExpandFault}
-use Rattle.constraint_expand.specs.declared.fault.ExpandFault.TheVariants.{UnknownName, NoIntro, Intro, NoStructure, NoMemory}
+use Rattle.placed_statements.specs.declared.fault.ExpandFault.{ExpandFault}
+use Rattle.placed_statements.specs.declared.fault.ExpandFault.TheVariants.{UnknownName, NoIntro, Intro, NoStructure, NoMemory}
 use Rattle.constraint_expand.specs.Books.{IsInstanceOf, IsBookOf, instance_of}
 use Rattle.constraint_expand.specs.Faults.{IsUnknownName, IsUnwritten, UsesUnwritten, use_at, IsFirstUse, NamesFirstUse, IsNoIntro, HasIntroducer, type_name, IsIntro, claims_of_definition, IsInconsistent, IsNoStructure, AreKnown, AreWritten, IsFaultOf}
 use Rattle.constraint_expand.specs.Features.{uses_in, all_uses, features_used, writers_of}

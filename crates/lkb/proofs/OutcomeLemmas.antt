@@ -1,13 +1,13 @@
 -- One outcome of a grammar's files.
 use Rattle.std.proofs.Common.{◌≡◌, ℕ, ◌∙◌, ap, refl, List, [], ◌∷◌, ◌++◌, codes, string_bytes, if◌then◌else◌, Option, Some, Bool, true, Result, Ok, Err, subst, sym, inl, inr}
 use Rattle.std.specs.Fmt.{decimal}
-use Rattle.grammar_model.specs.declared.fault.Why.{Why}
-use Rattle.grammar_model.specs.declared.fault.Why.TheVariants.{Typing}
+use Rattle.grammar_files.specs.declared.fault.Why.{Why}
+use Rattle.grammar_files.specs.declared.fault.Why.TheVariants.{Typing}
 use Rattle.type_hierarchy.specs.declared.decl.TypeFault.{TypeFault}
 use Rattle.type_hierarchy.specs.declared.decl.TypeFault.TheVariants.{Duplicate, Unknown, Cycle, Reserved, TooMany, NoMemory}
 use Rattle.fs_model.specs.Laws.{AnswerIsOne}
 use Rattle.fs_graph.specs.PathLaws.{ListsAreOne}
-use Rattle.constraint_expand.specs.declared.fault.ExpandFault.{ExpandFault}
+use Rattle.placed_statements.specs.declared.fault.ExpandFault.{ExpandFault}
 use Rattle.constraint_expand.specs.Faults.{IsFaultOf}
 use Rattle.grammar_model.specs.Expanding.{names_by, stands_at, place_within, expand_fault, IsExpandFault}
 use Rattle.lkb.specs.Texts.{type_fault_words, expand_fault_words, why_words, has_place, place_text, cause_text, found_text}

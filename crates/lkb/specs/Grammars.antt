@@ -3,10 +3,10 @@ use Rattle.std.specs.Prelude.{◌≡◌, ◌⊎◌, ℕ, List, Option, Some, Boo
 use Rattle.std.specs.Global.{Global}
 use Rattle.lkb_io.specs.Outside.{HasRisen}
 use Rattle.type_hierarchy.specs.Table.{TypeTable}
-use Rattle.grammar_model.specs.declared.fault.Why.{Why}
-use Rattle.grammar_model.specs.declared.fault.Why.TheVariants.{Shelf}
-use Rattle.grammar_model.specs.declared.fault.LoadFault.{LoadFault}
-use Rattle.grammar_model.specs.declared.fault.LoadFault.TheVariants.{NoMemory as LoadNoMemory, Found as LoadFound}
+use Rattle.grammar_files.specs.declared.fault.Why.{Why}
+use Rattle.grammar_files.specs.declared.fault.Why.TheVariants.{Shelf}
+use Rattle.grammar_files.specs.declared.fault.LoadFault.{LoadFault}
+use Rattle.grammar_files.specs.declared.fault.LoadFault.TheVariants.{NoMemory as LoadNoMemory, Found as LoadFound}
 use Rattle.grammar_model.specs.Faults.{FoundFault}
 use Rattle.grammar_model.specs.Walks.{WalkedTree, WalksTo, has_failed}
 use Rattle.grammar_model.specs.Typings.{AreTypesOf, IsTypesFault}

@@ -15,10 +15,10 @@ use Rattle.tdl_reader.specs.declared.ReadFault.{ReadFault}
 use Rattle.tdl_reader.specs.declared.ReadFault.TheVariants.{Unexpected, EndOfFile, TooDeep, BadAffix, NoMemory as ReadNoMemory}
 use Rattle.type_hierarchy.specs.declared.decl.TypeFault.{TypeFault}
 use Rattle.type_hierarchy.specs.declared.decl.TypeFault.TheVariants.{Duplicate, Unknown, Cycle, Reserved, TooMany as TooManyWritten, NoMemory as TypeNoMemory}
-use Rattle.grammar_model.specs.declared.fault.Why.{Why}
-use Rattle.constraint_expand.specs.declared.fault.ExpandFault.{ExpandFault}
-use Rattle.constraint_expand.specs.declared.fault.ExpandFault.TheVariants.{UnknownName, NoIntro, Intro, NoStructure, NoMemory as ExpandNoMemory}
-use Rattle.grammar_model.specs.declared.fault.Why.TheVariants.{Settings, Shelf as ShelfFailed, TooLong as FileTooLong, IncludeLoop, TooManyFiles, Lex, Read as Misread, Environment, Typing, TooManyTypes, Expand, Arity, Orthography}
+use Rattle.grammar_files.specs.declared.fault.Why.{Why}
+use Rattle.placed_statements.specs.declared.fault.ExpandFault.{ExpandFault}
+use Rattle.placed_statements.specs.declared.fault.ExpandFault.TheVariants.{UnknownName, NoIntro, Intro, NoStructure, NoMemory as ExpandNoMemory}
+use Rattle.grammar_files.specs.declared.fault.Why.TheVariants.{Settings, Shelf as ShelfFailed, TooLong as FileTooLong, IncludeLoop, TooManyFiles, Lex, Read as Misread, Environment, Typing, TooManyTypes, Expand, Arity, Orthography}
 use Rattle.grammar_model.specs.Faults.{FoundFault}
 use Rattle.grammar_model.specs.FileNames.{has_ending, with_ending}
 use Rattle.lkb.specs.Words.{Form, name_in}

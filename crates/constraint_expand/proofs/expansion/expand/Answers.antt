@@ -1,8 +1,8 @@
 use Rattle.std.proofs.Common.{◌∙◌, List, map, ap, sym, subst}
 use Rattle.type_hierarchy.specs.Decls.{Name, texts}
 use Rattle.constraint_expand.specs.declared.books.Book.{Book}
-use Rattle.constraint_expand.specs.declared.fault.ExpandFault.TheVariants.{NoMemory}
-use Rattle.constraint_expand.specs.Placings.{placed_of}
+use Rattle.placed_statements.specs.declared.fault.ExpandFault.TheVariants.{NoMemory}
+use Rattle.placed_statements.specs.Placings.{placed_of}
 use Rattle.constraint_expand.specs.Introducers.{numbers_of}
 use Rattle.constraint_expand.specs.Systems.{settled_of, IsSystemOf}
 use Rattle.constraint_expand.specs.Faults.{IsFaultOf}

@@ -3,7 +3,7 @@ use Rattle.std.specs.List.{AllZip}
 use Rattle.std.specs.List.Sorted.{IsPermutation}
 use Rattle.type_hierarchy.specs.Decls.{Name, texts}
 use Rattle.type_hierarchy.specs.Table.{count_of, completed_count}
-use Rattle.constraint_expand.specs.Placings.{placed_of}
+use Rattle.placed_statements.specs.Placings.{placed_of}
 use Rattle.constraint_expand.specs.Introducers.{numbers_of, IsIntroducer}
 use Rattle.constraint_expand.specs.Systems.{settled_of}
 use Rattle.constraint_expand.specs.Faults.{IsFaultOf}

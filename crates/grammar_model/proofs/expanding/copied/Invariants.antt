@@ -1,5 +1,5 @@
 use Rattle.std.proofs.Common.{◌≡◌, ◌++◌, map, drop, string_bytes}
-use Rattle.grammar_model.specs.SettingsViews.{names_in}
+use Rattle.grammar_settings.specs.SettingsViews.{names_in}
 use Rattle.grammar_model.proofs.expanding.copied.Given as goal
 
 abbrev pub invariant-loop-name : goal.invariant-loop-name

@@ -1,10 +1,10 @@
 use Rattle.std.proofs.Common.{rules, ◌≢◌, map, sym, subst, arith}
 use Rattle.std.proofs.lemmas.List.{length-map}
-use Rattle.constraint_expand.specs.declared.fault.ExpandFault.TheVariants.{NoMemory}
+use Rattle.placed_statements.specs.declared.fault.ExpandFault.TheVariants.{NoMemory}
 use Rattle.constraint_expand.specs.Conditions.{AreTypesFor}
-use Rattle.constraint_expand.specs.Placings.{placed_of}
+use Rattle.placed_statements.specs.Placings.{placed_of}
 use Rattle.constraint_expand.specs.Systems.{settled_of}
-use Rattle.grammar_model.specs.WalkViews.{walked_of}
+use Rattle.grammar_files.specs.WalkViews.{walked_of}
 use Rattle.grammar_model.proofs.ExpandFits.{fit_types, fault_within}
 use Rattle.grammar_model.proofs.expanding.expand_types.Goals as goal
 

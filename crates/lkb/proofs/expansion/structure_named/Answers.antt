@@ -3,7 +3,7 @@ use Rattle.type_hierarchy.specs.Named.{type_named}
 use Rattle.type_hierarchy.specs.Table.{TypeTable, count_of}
 use Rattle.fs_graph.specs.GraphMap.{GraphMap}
 use Rattle.fs_unify.specs.Entering.{IsGraphIn}
-use Rattle.constraint_expand.specs.declared.Placed.{Placed}
+use Rattle.placed_statements.specs.declared.Placed.{Placed}
 use Rattle.constraint_expand.specs.Placings.{placed_of}
 use Rattle.constraint_expand.specs.Statements.{instances_in}
 use Rattle.lkb.specs.Books.{expanded_of}

@@ -1,6 +1,6 @@
 use Rattle.std.proofs.Common.{◌∷◌, [], codes, sym, subst, OnOk, List, ℕ, string_bytes}
 use Rattle.lkb_io.specs.Outside.{Adds, AddsFront}
-use Rattle.constraint_expand.specs.declared.fault.ExpandFault.{ExpandFault}
+use Rattle.placed_statements.specs.declared.fault.ExpandFault.{ExpandFault}
 use Rattle.lkb.specs.Texts.{feature_name, expand_fault_words}
 use Rattle.lkb.specs.TypeReports.{spaced}
 use Rattle.lkb.proofs.texts.tell_expansion.Goals as goal

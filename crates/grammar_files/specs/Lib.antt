@@ -1,0 +1,12 @@
+pub use Rattle.placed_statements.specs.Placings
+pub use Rattle.grammar_settings.specs.Forms
+pub use Rattle.grammar_settings.specs.SettingsFiles
+pub use Rattle.grammar_settings.specs.Settled
+pub use Rattle.grammar_settings.specs.SettingsViews
+pub mod FileNames
+pub mod Environments
+pub mod Faults
+pub mod Walks
+pub mod TextViews
+pub mod Included
+pub mod WalkViews

@@ -1,8 +1,0 @@
-use Rattle.std.proofs.Common.{◌≡◌, ◌++◌, map, drop}
-use Rattle.grammar_model.specs.Forms.{path_of}
-use Rattle.grammar_model.specs.Kept.{words_in}
-use Rattle.grammar_model.specs.SettingsViews.{names_in}
-use Rattle.grammar_model.proofs.build.paths.Given as goal
-
-abbrev pub invariant-loop-word : goal.invariant-loop-word
-invariant-loop-word l = map names_in l.out.items ++ map path_of (words_in (drop l.word-index l.words)) ≡ map path_of (words_in l.words)

@@ -1,9 +1,0 @@
-use Rattle.std.proofs.Common.{◌≡◌, take}
-use Rattle.std.specs.List.{flat_map}
-use Rattle.constraint_expand.specs.Placings.{placed_of}
-use Rattle.grammar_model.specs.Forms.{Name}
-use Rattle.grammar_model.specs.SettleViews.{parents_noted, parents_by}
-use Rattle.grammar_model.proofs.declarations.added_parents.Given as goal
-
-abbrev pub invariant-loop-placed : goal.invariant-loop-placed
-invariant-loop-placed l = (n : Name) → parents_noted l.added.entries n ≡ flat_map (λ p. parents_by (placed_of p) n) (take l.placed-index l.statements)

@@ -1,8 +1,0 @@
-use Rattle.std.proofs.Common.{◌≡◌, map, drop, slice_get}
-use Rattle.constraint_expand.specs.Placings.{placed_of}
-use Rattle.grammar_model.specs.Typings.{type_definitions}
-use Rattle.grammar_model.proofs.declarations.definition_at.Given as goal
-
-abbrev pub invariant-loop-placed : goal.invariant-loop-placed
-invariant-loop-placed l =
-    slice_get (type_definitions (map placed_of (drop l.placed-index l.statements))) l.left ≡ slice_get (type_definitions (map placed_of l.statements)) l.place

@@ -1,9 +1,0 @@
-use Rattle.std.proofs.Common.{◌≡◌, map, drop}
-use Rattle.std.specs.List.{find}
-use Rattle.constraint_expand.specs.Placings.{placed_of}
-use Rattle.grammar_model.specs.SettleViews.{defines_type_named}
-use Rattle.grammar_model.proofs.declarations.definition_of.Given as goal
-
-abbrev pub invariant-loop-placed : goal.invariant-loop-placed
-invariant-loop-placed l =
-    find (defines_type_named l.name) (map placed_of (drop l.placed-index l.statements)) ≡ find (defines_type_named l.name) (map placed_of l.statements)

@@ -1,5 +1,0 @@
-use Rattle.grammar_model.proofs.TextLemmas.{is_utf8_of}
-use Rattle.grammar_model.proofs.reading.text_of.Goals as goal
-
-pub unreachable-requires : goal.unreachable-requires
-unreachable-requires c = c.in-Err.ensures.cases.0 (is_utf8_of c.args.bytes.now c.requires.0 c.requires.1)

@@ -1,0 +1,4 @@
+pub mod EntryLemmas
+pub mod FormLemmas
+pub mod LineLemmas
+pub mod SettingsLemmas

@@ -1,0 +1,17 @@
+pub mod SettleLists
+pub mod SettleBodies
+pub mod SettleRepeats
+pub mod SettleDecls
+pub mod SettleFaults
+pub mod SettlePlaces
+pub mod SettleTables
+pub mod SettleOne
+pub mod Unwritten
+pub mod FirstPlaces
+pub mod ReachedNodes
+pub mod EachFault
+pub mod SortedLists
+pub mod EachCompletion
+pub mod EachHierarchy
+pub mod WalkedTexts
+pub mod EachOutcome

@@ -1,0 +1,3 @@
+pub mod Typings
+pub mod SettleViews
+pub mod Outcomes

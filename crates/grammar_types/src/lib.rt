@@ -1,0 +1,11 @@
+//! The types of a grammar, from what its files say.
+#![tactic(auto)]
+
+mod declarations;
+pub mod laws;
+mod settle;
+mod strings;
+#[cfg(test)]
+mod tests;
+
+pub use settle::{file_name, settle_types};
