@@ -1,0 +1,10 @@
+pub mod Lists
+pub mod NodeLemmas
+pub mod OrderLemmas
+pub mod AddLemmas
+pub mod GroupLemmas
+pub mod StepLemmas
+pub mod ArrivalLemmas
+pub mod TableLemmas
+pub mod LatticeLemmas
+pub mod RouteLemmas

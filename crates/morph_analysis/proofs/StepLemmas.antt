@@ -1,0 +1,141 @@
+-- The chains whose last word is that of a step.
+use Rattle.std.proofs.Common.{ℕ, ◌≡◌, ◌<◌, ◌≤◌, ◌+◌, ◌⊎◌, inl, inr, List, [], ◌∷◌, ◌++◌, length, refl, sym, ◌∙◌, ap, subst, arith}
+use Rattle.word_lists.specs.Words.{Word, Has}
+use Rattle.lexicon.specs.Entries.{EntryTree}
+use Rattle.spelling_rules.specs.Trees.{SpellingTree}
+use Rattle.morph_analysis.proofs.AddLemmas.{adds_like, adds_none}
+use Rattle.morph_analysis.proofs.NodeLemmas.{cases_le}
+use Rattle.morph_analysis.specs.Allowed.{FeedsTree}
+use Rattle.morph_analysis.specs.Chains.{ChainTree, Leads, there, by, IsChain}
+use Rattle.morph_analysis.specs.Lattices.{StepTree, LatticeTree, Carries, stays, goes, HaveSame}
+use Rattle.morph_analysis.specs.Spelled.{NodeTree, node_at, Runs, IsSpelled}
+use Rattle.morph_analysis.specs.Spelled.{stays as run_stays, goes as run_goes}
+use Rattle.morph_analysis.specs.Inner.Adding.{AddsThose, OfSome, OfNode, OfNodes, OfStep}
+
+-- the loop over nodes
+pub nodes_none : (lexicon : List EntryTree) (nodes : List NodeTree) (f : FeedsTree) (depth : ℕ) (steps : List StepTree) (s : StepTree) (xs : List ChainTree) → AddsThose (OfNodes lexicon nodes f depth steps s 0) xs xs
+nodes_none lexicon nodes f depth steps s xs = adds_none (OfNodes lexicon nodes f depth steps s 0) xs (λ c o. absurd (let lt = o.1 in omega (arith, lt)))
+
+pub nodes_more : (lexicon : List EntryTree) (nodes : List NodeTree) (f : FeedsTree) (depth : ℕ) (steps : List StepTree) (s : StepTree) (n : ℕ) (xs ys zs : List ChainTree) → AddsThose (OfNodes lexicon nodes f depth steps s n) xs ys
+    → AddsThose (OfNode lexicon nodes f depth steps s n) ys zs → AddsThose (OfNodes lexicon nodes f depth steps s (n + 1)) xs zs
+nodes_more lexicon nodes f depth steps s n xs ys zs p q = record {
+  kept = λ x h. q.kept x (p.kept x h);
+  added = λ x o. go x o (cases_le n o.0);
+  only = λ x h.
+      elim (q.only x h) [
+        | inl k ↦ (elim (p.only x k) [ inl m ↦ inl m | inr o ↦ inr (o.0, (let lt = o.1 in omega (arith, lt)), o.2) ])
+        | inr r ↦ inr (n, omega arith, r)
+      ];
+}
+  where
+    go : (x : ChainTree) (o : OfNodes lexicon nodes f depth steps s (n + 1) x) → (n ≤ o.0) ⊎ (o.0 < n) → Has x zs
+    go x o (inl le) = let lt = o.1 in let e : o.0 ≡ n = omega (arith, le, lt) in q.added x (subst (λ k. OfNode lexicon nodes f depth steps s k x) e o.2)
+    go x o (inr lt) = q.kept x (p.added x (o.0, lt, o.2))
+
+-- edges lead to the word at node 0
+leads_along : (sp : SpellingTree) (word : Word) (depth : ℕ) (nodes : List NodeTree) (rules : List ℕ) (n m : ℕ) → IsSpelled sp word depth nodes → m ≡ 0 → Runs nodes rules n m → Leads sp rules (node_at nodes n).word word
+leads_along sp word depth nodes _ n _ p z (run_stays _) = subst (λ w. Leads sp [] w word) (sym (ap (λ k. (node_at nodes k).word) z ∙ p.root.1)) (there word)
+leads_along sp word depth nodes _ n k p z (run_goes rule rules _ m _ lt h r) =
+    let f = p.forms n rule m lt h in by rule rules (node_at nodes n).word (node_at nodes m).word word f.1 f.2 f.3 (leads_along sp word depth nodes rules m k p z r)
+
+-- paths of the same steps carry the same words
+pub carries_same : (xs ys : List StepTree) (from : ℕ) (words : List Word) (to : ℕ) → ((s : StepTree) → Has s xs → Has s ys) → Carries xs from words to → Carries ys from words to
+carries_same xs ys from _ _ f (stays _) = stays from
+carries_same xs ys _ _ to f (goes s words _ h c) = goes s words to (f s h) (carries_same xs ys s.to words to f c)
+
+-- the chains over a graph of a step's word
+pub of_step : (lexicon : List EntryTree) (sp : SpellingTree) (nodes : List NodeTree) (f : FeedsTree) (depth : ℕ) (steps others : List StepTree) (s : StepTree) (xs ys : List ChainTree) → IsSpelled sp s.word depth nodes → HaveSame others steps
+    → AddsThose (OfNodes lexicon nodes f depth others s (length nodes)) xs ys → AddsThose (OfStep lexicon sp f depth steps s) xs ys
+of_step lexicon sp nodes f depth steps others s xs ys p same a = adds_like (OfNodes lexicon nodes f depth others s (length nodes)) (OfStep lexicon sp f depth steps s) xs ys to back a
+  where
+    to : (c : ChainTree) → OfNodes lexicon nodes f depth others s (length nodes) c → OfStep lexicon sp f depth steps s c
+    to c o =
+        let n = o.0 in
+        let q = o.2 in
+        let r = q.rest in
+        record {
+          front = q.front;
+          stem = (node_at nodes n).word;
+          is_entry = q.entry;
+          leads = leads_along sp s.word depth nodes c.rules n 0 p refl r.rules.0;
+          carried = carries_same others steps c.from q.front s.from same.there r.from;
+          words_are = r.words_are;
+          to_is = r.to_is;
+          allowed = r.rules.1;
+          shallow = r.rules.2;
+        }
+
+    back : (c : ChainTree) → OfStep lexicon sp f depth steps s c → OfNodes lexicon nodes f depth others s (length nodes) c
+    back c o =
+        let w = p.ways c.rules o.stem o.shallow o.leads in (
+          w.0,
+          w.1,
+          record {
+            front = o.front;
+            entry = subst (λ x. Has (record { number = c.entry; words = o.front ++ x ∷ [] }) lexicon) (sym w.2) o.is_entry;
+            rest = record { entry = refl; rules = (w.3, o.allowed, o.shallow); from = carries_same steps others c.from o.front s.from same.back o.carried; words_are = o.words_are; to_is = o.to_is };
+          },
+        )
+
+-- a path over a front and one step more
+carries_more : (steps : List StepTree) (from : ℕ) (front : List Word) (s : StepTree) (to : ℕ) → Carries steps from front to → to ≡ s.from → Has s steps → Carries steps from (front ++ s.word ∷ []) s.to
+carries_more steps from _ s _ (stays _) e h = subst (λ n. Carries steps n (s.word ∷ []) s.to) (sym e) (goes s [] s.to h (stays s.to))
+carries_more steps _ _ s to (goes t words _ k c) e h = goes t (words ++ s.word ∷ []) s.to k (carries_more steps t.to words s to c e h)
+
+carries_less : (steps : List StepTree) (from : ℕ) (front : List Word) (w : Word) (to : ℕ) → Carries steps from (front ++ w ∷ []) to → (s : StepTree) × Has s steps × (s.word ≡ w) × (s.to ≡ to) × Carries steps from front s.from
+carries_less steps _ [] w to (goes s _ _ h (stays _)) = (s, h, refl, refl, stays s.from)
+carries_less steps _ (x ∷ front) w to (goes t _ _ h c) = let r = carries_less steps t.to front w to c in (r.0, r.1, r.2, r.3, goes t front r.0.from h r.4)
+
+-- all chains are those of the steps
+pub is_chain : (lexicon : List EntryTree) (sp : SpellingTree) (f : FeedsTree) (l : LatticeTree) (depth : ℕ) (c : ChainTree) → OfSome (OfStep lexicon sp f depth l.steps) l.steps c → IsChain lexicon sp f l depth c
+is_chain lexicon sp f l depth c o =
+    let s = o.0 in
+    let q = o.2 in
+    record {
+      spells = record { front = q.front; stem = q.stem; form = s.word; is_entry = q.is_entry; is = q.words_are; leads = q.leads };
+      carried = subst (λ w. Carries l.steps c.from w c.to) (sym q.words_are) (subst (Carries l.steps c.from (q.front ++ s.word ∷ [])) (sym q.to_is) (carries_more l.steps c.from q.front s s.from q.carried refl o.1));
+      allowed = q.allowed;
+      shallow = q.shallow;
+    }
+
+pub chain_is : (lexicon : List EntryTree) (sp : SpellingTree) (f : FeedsTree) (l : LatticeTree) (depth : ℕ) (c : ChainTree) → IsChain lexicon sp f l depth c → OfSome (OfStep lexicon sp f depth l.steps) l.steps c
+chain_is lexicon sp f l depth c p =
+    let q = p.spells in
+    let r = carries_less l.steps c.from q.front q.form c.to (subst (λ w. Carries l.steps c.from w c.to) q.is p.carried) in (
+      r.0,
+      r.1,
+      record {
+        front = q.front;
+        stem = q.stem;
+        is_entry = q.is_entry;
+        leads = subst (Leads sp c.rules q.stem) (sym r.2) q.leads;
+        carried = r.4;
+        words_are = q.is ∙ ap (λ w. q.front ++ w ∷ []) (sym r.2);
+        to_is = sym r.3;
+        allowed = p.allowed;
+        shallow = p.shallow;
+      },
+    )
+
+-- the steps in one order for those in another
+pub steps_same : (lexicon : List EntryTree) (sp : SpellingTree) (f : FeedsTree) (depth : ℕ) (steps others sorted : List StepTree) (xs ys : List ChainTree) → HaveSame others steps → HaveSame sorted steps
+    → AddsThose (OfSome (OfStep lexicon sp f depth others) sorted) xs ys → AddsThose (OfSome (OfStep lexicon sp f depth steps) steps) xs ys
+steps_same lexicon sp f depth steps others sorted xs ys same order a =
+    adds_like (OfSome (OfStep lexicon sp f depth others) sorted) (OfSome (OfStep lexicon sp f depth steps) steps) xs ys
+    (λ c o. (o.0, order.there o.0 o.1, moved others steps same.there o.0 c o.2)) (λ c o. (o.0, order.back o.0 o.1, moved steps others same.back o.0 c o.2)) a
+  where
+    moved : (a b : List StepTree) → ((s : StepTree) → Has s a → Has s b) → (s : StepTree) (c : ChainTree) → OfStep lexicon sp f depth a s c → OfStep lexicon sp f depth b s c
+    moved a b f s c o = record {
+      front = o.front;
+      stem = o.stem;
+      is_entry = o.is_entry;
+      leads = o.leads;
+      carried = carries_same a b c.from o.front s.from f o.carried;
+      words_are = o.words_are;
+      to_is = o.to_is;
+      allowed = o.allowed;
+      shallow = o.shallow;
+    }
+
+pub same_refl : (xs : List StepTree) → HaveSame xs xs
+same_refl xs = record { there = λ s h. h; back = λ s h. h }

@@ -1,0 +1,4 @@
+pub mod Adding
+pub mod Bits
+pub mod Growing
+pub mod Routes

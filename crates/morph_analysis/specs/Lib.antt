@@ -1,0 +1,7 @@
+pub mod Lattices
+pub mod Allowed
+pub mod Chains
+pub mod Spelled
+pub mod LatticeViews
+pub mod Views
+pub mod Inner

@@ -1,0 +1,314 @@
+//! Chains in a lattice.
+
+ghost use Rattle.std.specs.Prelude.{◌≡◌, ◌++◌, ◌-◌, ◌<◌, ◌∷◌, [], ℕ, List, length, map, take, IfOk, OnOk, string_bytes};
+ghost use Rattle.std.specs.List.Sorted.{IsStrictlySortedBy};
+ghost use Rattle.std.specs.declared.cmp.Ordering.TheVariants.{Equal};
+ghost use Rattle.lexicon.specs.Groups.{group_of};
+ghost use Rattle.word_lists.specs.Words.{Word, Has};
+ghost use Rattle.morph_analysis.specs.Chains.{AreChains, HaveWords};
+ghost use Rattle.morph_analysis.specs.Lattices.{IsValid, HaveSame};
+ghost use Rattle.morph_analysis.specs.LatticeViews.{lattice_of, step_of};
+ghost use Rattle.morph_analysis.specs.Views.{chain_of};
+ghost use Rattle.morph_analysis.specs.Spelled.{IsSpelled, node_at};
+ghost use Rattle.morph_analysis.specs.Inner.Adding.{AddsThose, IsOf, OfGroup, OfWords, OfNode, OfNodes, OfSome, OfStep};
+ghost use Rattle.morph_analysis.specs.Inner.Routes.{AreWithin, IsRouteOf};
+
+use crate::arrivals::Arrivals;
+use crate::chain::Chain;
+use crate::feeds::Feeds;
+use crate::graph::Graph;
+use crate::lattice::{Lattice, Step};
+use crate::routes::routes_from;
+use lexicon::{Group, Lexicon};
+use spelling_rules::Spelling;
+use std::alloc::Global;
+use word_lists::{NoMemory, copied};
+
+// Adds a chain from a node over a front and a step.
+fn add_chain(
+    alloc: Global,
+    entry: u32,
+    rules: &[u32],
+    front: &[String],
+    step: &Step,
+    from: u32,
+    out: &mut Vec<Chain>,
+) -> Result<(), NoMemory>
+    ensures { OnOk result (AddsThose (IsOf (λ e. e ≡ entry) (λ e r. r ≡ rules.now) (λ m. m ≡ from) (map string_bytes front.now ++ string_bytes step.now.word ∷ []) step.now.to) (map chain_of out.old.items) (map chain_of out.new.items)) }
+{
+    let mut words = copied(alloc, front)?;
+    words.push(step.word.clone()?)?;
+    out.push(Chain {
+        from,
+        to: step.to,
+        entry,
+        rules: rules.to_vec(alloc)?,
+        words,
+    })?;
+    Ok(())
+}
+
+// Adds the chains of an entry and rules from each of some nodes.
+fn add_fronts(
+    alloc: Global,
+    entry: u32,
+    rules: &[u32],
+    front: &[String],
+    step: &Step,
+    froms: &[u32],
+    out: &mut Vec<Chain>,
+) -> Result<(), NoMemory>
+    ensures { OnOk result (AddsThose (IsOf (λ e. e ≡ entry) (λ e r. r ≡ rules.now) (λ m. Has m froms.now) (map string_bytes front.now ++ string_bytes step.now.word ∷ []) step.now.to) (map chain_of out.old.items) (map chain_of out.new.items)) }
+{
+    for from in froms {
+        add_chain(alloc, entry, rules, front, step, *from, out)?;
+    }
+    Ok(())
+}
+
+// Adds the chains of an entry whose last word is at a node.
+fn add_entry(
+    alloc: Global,
+    graph: &Graph,
+    feeds: &Feeds,
+    depth: u32,
+    node: usize,
+    entry: u32,
+    front: &[String],
+    step: &Step,
+    froms: &[u32],
+    out: &mut Vec<Chain>,
+) -> Result<(), NoMemory>
+    requires node { node < length graph.now }
+    requires within { AreWithin graph.now }
+    ensures { OnOk result (AddsThose (IsOf (λ e. e ≡ entry) (IsRouteOf graph.now feeds.now depth node) (λ m. Has m froms.now) (map string_bytes front.now ++ string_bytes step.now.word ∷ []) step.now.to) (map chain_of out.old.items) (map chain_of out.new.items)) }
+{
+    let routes = routes_from(alloc, graph, feeds, entry, node, depth)?;
+    for rules in &routes {
+        add_fronts(alloc, entry, rules, front, step, froms, out)?;
+    }
+    Ok(())
+}
+
+// Adds the chains of entries with one front whose last word is at a node.
+fn add_entries(
+    alloc: Global,
+    graph: &Graph,
+    feeds: &Feeds,
+    depth: u32,
+    arrivals: &Arrivals<'_>,
+    node: usize,
+    entries: &[u32],
+    front: &[String],
+    step: &Step,
+    out: &mut Vec<Chain>,
+) -> Result<(), NoMemory>
+    requires node { node < length graph.now }
+    requires within { AreWithin graph.now }
+    ensures { OnOk result (AddsThose (OfGroup graph.now feeds.now depth arrivals.now (step_of step.now) node (map string_bytes front.now) (λ e. Has e entries.now)) (map chain_of out.old.items) (map chain_of out.new.items)) }
+{
+    let froms = arrivals.fronts(alloc, front, step.from)?;
+    if froms.is_empty() {
+        return Ok(());
+    }
+    for entry in entries {
+        add_entry(
+            alloc, graph, feeds, depth, node, *entry, front, step, &froms, out,
+        )?;
+    }
+    Ok(())
+}
+
+// The words but the last.
+fn front_of(words: &[String]) -> &[String]
+    requires { 0 < length words.now }
+    ensures { result.now ≡ take (length words.now - 1) words.now }
+{
+    &words[..words.len() - 1]
+}
+
+// Adds the chains of the entries of a group, whose last word is at a node.
+fn add_group(
+    alloc: Global,
+    graph: &Graph,
+    feeds: &Feeds,
+    depth: u32,
+    arrivals: &Arrivals<'_>,
+    node: usize,
+    group: &Group,
+    step: &Step,
+    out: &mut Vec<Chain>,
+) -> Result<(), NoMemory>
+    requires node { node < length graph.now }
+    requires within { AreWithin graph.now }
+    ensures { OnOk result (AddsThose (OfWords graph.now feeds.now depth arrivals.now (step_of step.now) node (group_of group.now)) (map chain_of out.old.items) (map chain_of out.new.items)) }
+{
+    if group.words.is_empty() {
+        return Ok(());
+    }
+    let front = front_of(&group.words);
+    add_entries(
+        alloc,
+        graph,
+        feeds,
+        depth,
+        arrivals,
+        node,
+        &group.entries,
+        front,
+        step,
+        out,
+    )?;
+    Ok(())
+}
+
+// Adds the chains of entries whose last word is that of a node.
+fn add_node(
+    alloc: Global,
+    lexicon: &Lexicon,
+    graph: &Graph,
+    feeds: &Feeds,
+    depth: u32,
+    arrivals: &Arrivals<'_>,
+    node: usize,
+    step: &Step,
+    out: &mut Vec<Chain>,
+) -> Result<(), NoMemory>
+    requires node { node < length graph.now }
+    requires within { AreWithin graph.now }
+    ensures { OnOk result (AddsThose (OfNode lexicon.now graph.now feeds.now depth arrivals.now (step_of step.now) node) (map chain_of out.old.items) (map chain_of out.new.items)) }
+{
+    let groups = lexicon.by_last(graph.word(node));
+    for group in groups {
+        add_group(alloc, graph, feeds, depth, arrivals, node, group, step, out)?;
+    }
+    Ok(())
+}
+
+// Adds the chains whose last word is that of a step, which is at node 0.
+fn add_step(
+    alloc: Global,
+    lexicon: &Lexicon,
+    graph: &Graph,
+    feeds: &Feeds,
+    depth: u32,
+    arrivals: &Arrivals<'_>,
+    step: &Step,
+    out: &mut Vec<Chain>,
+) -> Result<(), NoMemory>
+    requires { AreWithin graph.now }
+    ensures { OnOk result (AddsThose (OfNodes lexicon.now graph.now feeds.now depth arrivals.now (step_of step.now) (length graph.now)) (map chain_of out.old.items) (map chain_of out.new.items)) }
+{
+    for node in 0..graph.len() {
+        add_node(
+            alloc, lexicon, graph, feeds, depth, arrivals, node, step, out,
+        )?;
+    }
+    Ok(())
+}
+
+// The graph of a word: this one, where it is of that word.
+fn graph_for(
+    alloc: Global,
+    spelling: &Spelling,
+    graph: Graph,
+    word: &str,
+    depth: u32,
+) -> Result<Graph, NoMemory>
+    requires { IsSpelled spelling.now (node_at graph 0).word depth graph }
+    ensures { IfOk result (λ g. IsSpelled spelling.now word.now depth g) }
+{
+    if graph.word(0) == word {
+        return Ok(graph);
+    }
+    let other = Graph::of_word(alloc, spelling, word, depth)?;
+    Ok(other)
+}
+
+// The steps by their words, so that those with the same word stand together.
+fn steps_by_word<'a>(alloc: Global, steps: &'a [Step]) -> Result<Vec<&'a Step>, NoMemory>
+    ensures { IfOk result (λ v. HaveSame (map (λ s. step_of s.now) v.items) (map step_of steps.now)) }
+{
+    let mut sorted = Vec::new(alloc);
+    for step in steps {
+        sorted.push(step)?;
+    }
+    sorted.sort_by(|a, b| a.word.as_str().cmp(b.word.as_str()))?;
+    Ok(sorted)
+}
+
+// Adds the chains whose last words are those of steps. The graph of a word serves for all steps in a row with that word.
+fn add_steps(
+    alloc: Global,
+    lexicon: &Lexicon,
+    spelling: &Spelling,
+    feeds: &Feeds,
+    depth: u32,
+    arrivals: &Arrivals<'_>,
+    sorted: &[&Step],
+    out: &mut Vec<Chain>,
+) -> Result<(), NoMemory>
+    ensures { OnOk result (AddsThose (OfSome (OfStep lexicon.now spelling.now feeds.now depth arrivals.now) (map (λ s. step_of s.now) sorted.now)) (map chain_of out.old.items) (map chain_of out.new.items)) }
+{
+    let first = Graph::of_word(alloc, spelling, "", depth)?;
+    let mut graph = first;
+    for i in 0..sorted.len() {
+        let step = sorted[i];
+        graph = graph_for(alloc, spelling, graph, step.word.as_str(), depth)?;
+        add_step(alloc, lexicon, &graph, feeds, depth, arrivals, step, out)?;
+    }
+    Ok(())
+}
+
+// The chains whose last words are those of steps.
+fn chains_of(
+    alloc: Global,
+    lexicon: &Lexicon,
+    spelling: &Spelling,
+    feeds: &Feeds,
+    steps: &[Step],
+    depth: u32,
+) -> Result<Vec<Chain>, NoMemory>
+    ensures { IfOk result (λ v. AddsThose (OfSome (OfStep lexicon.now spelling.now feeds.now depth (map step_of steps.now)) (map step_of steps.now)) [] (map chain_of v.items)) }
+{
+    let mut out = Vec::new(alloc);
+    let arrivals = Arrivals::make(alloc, steps)?;
+    let sorted = steps_by_word(alloc, steps)?;
+    add_steps(
+        alloc, lexicon, spelling, feeds, depth, &arrivals, &sorted, &mut out,
+    )?;
+    Ok(out)
+}
+
+// Sorts items, and keeps one of those that are equal.
+fn sort_once<T: Ord + Drop>(items: &mut Vec<T>) -> Result<(), NoMemory>
+    ensures sorted { OnOk result (IsStrictlySortedBy T.cmp items.new.items) }
+    ensures kept { OnOk result ((x : T) → Has x items.old.items → (y : T) × Has y items.new.items × (T.cmp x y ≡ Equal)) }
+    ensures only { OnOk result ((x : T) → Has x items.new.items → Has x items.old.items) }
+{
+    items.sort()?;
+    items.dedup();
+    Ok(())
+}
+
+/// The allowed chains of at most `depth` rules that spell words which a path of the lattice carries: exactly those, each
+/// once, by `from`, `to`, entry, rules and words.
+///
+/// Every entry of the lexicon must have a word, and the lattice must be valid. All chains are made before the first is
+/// given; a caller that unifies while it goes outwards takes `Graph`, `Arrivals` and `Lexicon::by_last` instead.
+pub fn chains(
+    alloc: Global,
+    lexicon: &Lexicon,
+    spelling: &Spelling,
+    feeds: &Feeds,
+    lattice: &Lattice,
+    depth: u32,
+) -> Result<Vec<Chain>, NoMemory>
+    requires words { HaveWords lexicon.now }
+    requires valid { IsValid (lattice_of lattice.now) }
+    ensures { IfOk result (λ v. AreChains lexicon.now spelling.now feeds.now (lattice_of lattice.now) depth (map chain_of v.items)) }
+{
+    let mut out = chains_of(alloc, lexicon, spelling, feeds, &lattice.steps, depth)?;
+    sort_once(&mut out)?;
+    Ok(out)
+}

@@ -1,0 +1,22 @@
+//! The chains of lexical rules that spell the words of a lattice.
+#![tactic(auto)]
+
+mod analysis;
+mod arrivals;
+mod chain;
+mod feeds;
+mod graph;
+mod lattice;
+pub mod laws;
+mod nodes;
+mod routes;
+mod table;
+
+pub use analysis::chains;
+pub use arrivals::Arrivals;
+pub use chain::Chain;
+pub use feeds::Feeds;
+pub use graph::Graph;
+pub use lattice::{Lattice, Step};
+pub use nodes::Edge;
+pub use word_lists::NoMemory;
