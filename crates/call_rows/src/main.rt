@@ -3,6 +3,7 @@
 #![tactic(auto)]
 
 mod hierarchies;
+mod spelling;
 mod statements;
 mod tokens;
 mod trees;
@@ -14,5 +15,6 @@ fn main(rt: HostRuntime) -> io::Result<()> {
     statements::print(&rt, rt.alloc())?;
     trees::print(&rt, rt.alloc())?;
     hierarchies::print(&rt, rt.alloc())?;
+    spelling::print(&rt, rt.alloc())?;
     Ok(())
 }
