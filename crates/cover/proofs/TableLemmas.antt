@@ -7,7 +7,8 @@ use Rattle.cover.specs.declared.span.Span.{Span}
 use Rattle.cover.specs.declared.Part.{Part}
 use Rattle.cover.specs.declared.Tuple.{Tuple}
 use Rattle.cover.specs.Tuples.{shapes_of, parts_of, IsTuple}
-use Rattle.cover.specs.Tables.{starts_within, starts_whole, mother_at, applies_at, within}
+use Rattle.cover.specs.Tables.{mother_at, applies_at, within}
+use Rattle.cover.specs.inner.Begun.{starts_within, starts_whole}
 
 pub get_here : {A : Type 0} (xs : List A) (i : ℕ) (x : A) → i < length xs → x ≡ slice_index_or xs i x → slice_get xs i ≡ Some x
 get_here [] i x l e = absurd (omega arith)

@@ -1,6 +1,6 @@
 //! Covers in generation.
 
-ghost use Rattle.std.specs.Prelude.{◌≡◌, ℕ, List, length, IfOk, MatchOption, true, false, refl};
+ghost use Rattle.std.specs.Prelude.{◌≡◌, ℕ, List, length, IfOk, true, refl};
 ghost use Rattle.cover.specs.Lists.{add_all, all_within};
 
 use crate::{Cover, NoMemory};
@@ -106,28 +106,33 @@ pub struct Counts {
     pub empty: u32,
 }
 
-// The sums, where none passes its bound.
-fn sums_within(
-    alloc: Global,
-    left: &[u32],
-    right: &[u32],
-    bound: &[u32],
-) -> Result<Option<Vec<u32>>, NoMemory>
+// Whether no sum passes its bound.
+fn fit(left: &[u32], right: &[u32], bound: &[u32]) -> bool
     requires left { length left.now ≡ length bound.now }
     requires right { length right.now ≡ length bound.now }
-    ensures { IfOk result (λ o. MatchOption o (all_within (add_all left.now right.now) bound.now ≡ false) (λ v. (v.items ≡ add_all left.now right.now) × (all_within (add_all left.now right.now) bound.now ≡ true))) }
+    ensures { result ≡ all_within (add_all left.now right.now) bound.now }
 {
-    let mut found = Vec::with_capacity(alloc, bound.len())?;
-    for (i, most) in bound.iter().enumerate() {
-        let Some(count) = left[i].checked_add(right[i]) else {
-            return Ok(None);
-        };
-        if count > *most {
-            return Ok(None);
+    for (place, most) in bound.iter().enumerate() {
+        let count = u64::from(left[place]) + u64::from(right[place]);
+        if count > u64::from(*most) {
+            return false;
         }
-        found.push(count)?;
     }
-    Ok(Some(found))
+    true
+}
+
+// The sums, none of which passes its bound.
+fn sums(alloc: Global, left: &[u32], right: &[u32], _bound: &[u32]) -> Result<Vec<u32>, NoMemory>
+    requires left { length left.now ≡ length _bound.now }
+    requires right { length right.now ≡ length _bound.now }
+    requires fit { all_within (add_all left.now right.now) _bound.now ≡ true }
+    ensures { IfOk result (λ v. v.items ≡ add_all left.now right.now) }
+{
+    let mut sums = Vec::with_capacity(alloc, left.len())?;
+    for (place, count) in left.iter().enumerate() {
+        sums.push(*count + right[place])?;
+    }
+    Ok(sums)
 }
 
 /// Two counts join exactly where they have as many places as the bound and no sum passes it.
@@ -153,19 +158,27 @@ impl Cover for Counts {
         right: &Counts,
         bound: &Counts,
     ) -> Result<Option<Counts>, NoMemory> {
-        let places = bound.of.as_slice();
-        if self.of.as_slice().len() != places.len() || right.of.as_slice().len() != places.len() {
+        if !self.joins(right, bound) {
             return Ok(None);
         }
-        let empty = self.empty as u64 + right.empty as u64;
-        if empty > bound.empty as u64 {
-            return Ok(None);
-        }
-        let found = sums_within(alloc, self.of.as_slice(), right.of.as_slice(), places)?;
-        Ok(found.map(|items| Counts {
-            of: Numbers::new(items),
-            empty: empty as u32,
+        let of = sums(
+            alloc,
+            self.of.as_slice(),
+            right.of.as_slice(),
+            bound.of.as_slice(),
+        )?;
+        Ok(Some(Counts {
+            of: Numbers::new(of),
+            empty: self.empty + right.empty,
         }))
+    }
+
+    fn joins(&self, right: &Counts, bound: &Counts) -> bool {
+        let places = bound.of.as_slice();
+        self.of.as_slice().len() == places.len()
+            && right.of.as_slice().len() == places.len()
+            && u64::from(self.empty) + u64::from(right.empty) <= u64::from(bound.empty)
+            && fit(self.of.as_slice(), right.of.as_slice(), places)
     }
 
     fn share(&self, alloc: Global) -> Result<Counts, NoMemory> {

@@ -4,7 +4,7 @@
 //! its cover, the stretch of the input that it stands for, and its shape, an abstract feature structure.
 #![tactic(auto)]
 
-ghost use Rattle.std.specs.Prelude.{◌≡◌, ℕ, ◌<◌, ◌^◌, IfOk, MatchOption, map, Option, is_some, true, false, List};
+ghost use Rattle.std.specs.Prelude.{◌≡◌, ℕ, ◌<◌, ◌^◌, IfOk, MatchOption, map, option_map, slice_get, Option, is_some, true, false, List};
 ghost use Rattle.std.specs.Ordering.{is_eq};
 ghost use Rattle.std.proofs.lemmas.Map.Lookups.{CmpEqualImpliesEq};
 ghost use Rattle.cover.specs.Calculus.{Calculus, Laws, NoneApplies, Agreement};
@@ -71,6 +71,10 @@ pub trait Cover: Ord + Drop {
     ) -> Result<Option<Self>, NoMemory>
         ensures { IfOk result (λ o. o ≡ joined bound.now self.now right.now) };
 
+    /// Whether this edge and one to its right fit together within the bound. Takes no memory.
+    fn joins(&self, right: &Self, bound: &Self::Bound) -> bool
+        ensures { result ≡ is_some (joined bound.now self.now right.now) };
+
     /// An equal cover.
     fn share(&self, alloc: Global) -> Result<Self, NoMemory>
         ensures { IfOk result (λ c. c ≡ self.now) };
@@ -112,6 +116,24 @@ pub struct Tuple<T, C> {
     pub b: Option<Part<T, C>>,
     pub c: Option<Part<T, C>>,
     pub d: Option<Part<T, C>>,
+}
+
+impl<T, C> Tuple<T, C> {
+    ghost use Rattle.cover.specs.Tuples.{parts_of, IsTuple};
+
+    /// The daughter at this place, counted from 0 on; none where there are no more.
+    pub fn get(&self, place: u32) -> Option<&Part<T, C>>
+        requires { IsTuple self.now }
+        ensures { option_map (λ part. part.now) result ≡ slice_get (parts_of self.now) place }
+    {
+        match place {
+            0 => self.a.as_ref(),
+            1 => self.b.as_ref(),
+            2 => self.c.as_ref(),
+            3 => self.d.as_ref(),
+            _ => None,
+        }
+    }
 }
 
 /// A grammar as a chart sees it: rules over shapes, which stand for abstract feature structures.

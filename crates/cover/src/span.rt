@@ -1,6 +1,11 @@
 //! Covers in parsing.
 
-use crate::{Cover, NoMemory};
+ghost use Rattle.std.specs.Prelude.{◌≡◌};
+ghost use Rattle.cover.specs.Spans.{join_all};
+ghost use Rattle.cover.specs.Tuples.{covers_of, IsTuple};
+ghost use Rattle.cover.specs.inner.Joined.{join_part};
+
+use crate::{Cover, NoMemory, Part, Tuple};
 use std::alloc::Global;
 
 /// From the node `from` to the node `to` of a line's lattice; `from` is less than `to`.
@@ -10,10 +15,43 @@ pub struct Span {
     pub to: u32,
 }
 
+impl Span {
+    /// The span of these daughters from end to end, where each begins where the one before it ends; none of no daughters.
+    pub fn over<T>(parts: &Tuple<T, Span>) -> Option<Span>
+        requires { IsTuple parts.now }
+        ensures { result ≡ join_all (covers_of parts.now) }
+    {
+        let first = parts.a.as_ref().map(|part| part.cover);
+        let two = with_next(first, &parts.b);
+        let three = with_next(two, &parts.c);
+        with_next(three, &parts.d)
+    }
+}
+
+// The join of a span, where there is one, with a daughter's, where there is one.
+fn with_next<T>(left: Option<Span>, next: &Option<Part<T, Span>>) -> Option<Span>
+    ensures { result ≡ join_part left next.now }
+{
+    match (left, next) {
+        (Some(span), Some(part)) => {
+            if span.to == part.cover.from {
+                Some(Span {
+                    from: span.from,
+                    to: part.cover.to,
+                })
+            } else {
+                None
+            }
+        }
+        (found, _) => found,
+    }
+}
+
 /// Spans join exactly where the left one ends at the right one's beginning. No call takes memory.
 impl Cover for Span {
     ghost use Rattle.std.specs.Prelude.{ℕ};
-    ghost use Rattle.cover.specs.Spans.{span_join, span_size, span_cell, span_told, span_meets};
+    ghost use Rattle.cover.specs.Spans.{span_join, span_size, span_cell};
+    ghost use Rattle.cover.specs.SpanLaws.{span_told, span_meets};
 
     type Bound = ();
 
@@ -36,6 +74,10 @@ impl Cover for Span {
         } else {
             Ok(None)
         }
+    }
+
+    fn joins(&self, right: &Span, _bound: &()) -> bool {
+        self.to == right.from
     }
 
     fn share(&self, _alloc: Global) -> Result<Span, NoMemory> {

@@ -4,11 +4,12 @@
 //! it applies where each daughter is at most its limit.
 
 ghost use Rattle.std.specs.Prelude.{◌≡◌, ◌≤◌, ◌<◌, ◌^◌, All, length};
-ghost use Rattle.cover.specs.Tables.{IsSized, join_part, starts_within};
+ghost use Rattle.cover.specs.Tables.{IsSized};
+ghost use Rattle.cover.specs.inner.Begun.{starts_within};
 ghost use Rattle.cover.specs.Tuples.{shapes_of, IsTuple};
 
 use crate::table_rule::TableRule;
-use crate::{Cover, NoMemory, Part, Shapes, Span, Tuple};
+use crate::{NoMemory, Shapes, Span, Tuple};
 use std::alloc::Global;
 
 /// A grammar of such rules over spans.
@@ -52,28 +53,10 @@ fn fits_limits(limits: &[u32], parts: &Tuple<u32, Span>) -> bool
     }
 }
 
-// The join of a span, where there is one, with a daughter's, where there is one.
-fn with_next(left: Option<Span>, next: &Option<Part<u32, Span>>) -> Option<Span>
-    ensures { result ≡ join_part left next.now }
-{
-    match (left, next) {
-        (Some(span), Some(part)) => {
-            if span.to == part.cover.from {
-                Some(Span {
-                    from: span.from,
-                    to: part.cover.to,
-                })
-            } else {
-                None
-            }
-        }
-        (found, _) => found,
-    }
-}
-
 impl Shapes for TableShapes {
     ghost use Rattle.std.specs.Prelude.{ℕ, ◌≡◌, nat_le, true, refl};
-    ghost use Rattle.cover.specs.Tables.{table_calculus, table_laws, table_agreement, table_full};
+    ghost use Rattle.cover.specs.Tables.{table_calculus, table_full};
+    ghost use Rattle.cover.specs.inner.TableLaws.{table_laws, table_agreement};
 
     type Shape = u32;
 
@@ -152,10 +135,7 @@ impl Shapes for TableShapes {
         _rule: u32,
         parts: &Tuple<u32, Span>,
     ) -> Result<Option<Span>, NoMemory> {
-        let first = parts.a.as_ref().map(|part| part.cover);
-        let two = with_next(first, &parts.b);
-        let three = with_next(two, &parts.c);
-        Ok(with_next(three, &parts.d))
+        Ok(Span::over(parts))
     }
 
     fn subsumes(&self, _work: &mut (), general: &u32, special: &u32) -> Result<bool, NoMemory> {

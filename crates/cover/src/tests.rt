@@ -30,5 +30,6 @@ fn counts_join_within_their_bound(rt: HostRuntime) -> Result<(), Fail> {
     assert!(rt; one.join(rt.alloc(), &two, &bound)? == Some(all.share(rt.alloc())?));
     assert!(rt; one.join(rt.alloc(), &one, &bound)? == None);
     assert!(rt; two.join(rt.alloc(), &two, &bound)? == None);
+    assert!(rt; one.joins(&two, &bound) && !one.joins(&one, &bound));
     Ok(())
 }

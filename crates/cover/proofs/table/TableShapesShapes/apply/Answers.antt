@@ -1,5 +1,6 @@
 use Rattle.std.proofs.Common.{◌≡◌, ap, sym, ◌∙◌, subst}
-use Rattle.cover.specs.Tables.{starts_within, arity_at}
+use Rattle.cover.specs.Tables.{arity_at}
+use Rattle.cover.specs.inner.Begun.{starts_within}
 use Rattle.cover.specs.Tuples.{shapes_of}
 use Rattle.cover.proofs.TableLemmas.{get_here, mother_here, none_here}
 use Rattle.cover.proofs.table.TableShapesShapes.apply.Goals as goal
