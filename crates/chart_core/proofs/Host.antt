@@ -1,5 +1,5 @@
 -- A new host, with the rows that it frosts.
-use Rattle.std.specs.Prelude.{◌≡◌, ℕ, ◌+◌, ◌≤◌, ◌<◌, ◌++◌, ◌%◌, Option, Some, None, List, [], ◌∷◌, length, map, slice_get, slice_set, All, MatchOption, Bool, false}
+use Rattle.std.specs.Prelude.{◌≡◌, ℕ, ◌+◌, ◌≤◌, ◌<◌, ◌++◌, Option, Some, None, List, [], ◌∷◌, length, map, slice_get, All, MatchOption, Bool, false}
 use Rattle.std.specs.List.{filter}
 use Rattle.std.proofs.Common.{refl, ap, sym, ◌∙◌, subst, arith}
 use Rattle.cover.specs.Calculus.{Calculus}
@@ -8,7 +8,7 @@ use Rattle.chart_core.specs.declared.Row.{Row}
 use Rattle.chart_core.specs.declared.Verdict.{Verdict}
 use Rattle.chart_core.specs.declared.history.TaskRow.{TaskRow}
 use Rattle.chart_core.specs.declared.history.Entry.{Entry}
-use Rattle.chart_core.specs.Lists.{bucket}
+use Rattle.chart_core.specs.Lists.{pushed}
 use Rattle.chart_core.specs.Grammar.{Keys}
 use Rattle.chart_core.specs.View.{Belongs, AreDaughters, list_of, row_of, rows_of, into_of, task_of, number_of, KeepsRows, write_all}
 use Rattle.chart_core.specs.Sound.{SoundOf, is_host, is_partial_kind}
@@ -44,12 +44,12 @@ module _ {X T C W B M : Type 0} (k : Calculus M C) (belongs : T → Type 0) wher
 
 module _ {X T C W B : Type 0} (keys : Keys C) where
   -- a core stays sound as a host comes and rows are frosted
-  pub sound_host : (rows next : List (Row X T C W B)) (ps : List ℕ) (n : ℕ) (tasks : List TaskRow) (history : List Entry) (capacity made : ℕ) (a b c : List (List ℕ)) → length a ≡ 1021 → length b ≡ 1021 → KeepsRows rows next → into_of next ≡ write_all (into_of rows) ps n → SoundOf keys rows tasks history capacity made a b c → (w : Row X T C W B) → is_partial_kind w.kind ≡ false → AreDaughters w.daughters → All (λ d. d < length rows) (list_of w.daughters) → (found : List TaskRow) → All (λ t. t.done ≡ None) found → (bigger : ℕ) → length tasks + length found ≤ bigger → SoundOf keys (next ++ w ∷ []) (tasks ++ found) history bigger (made + 1) (slice_set a (keys.cell w.cover % 1021) (bucket a (keys.cell w.cover) ++ length rows ∷ [])) (slice_set b (keys.begins w.cover % 1021) (bucket b (keys.begins w.cover) ++ length rows ∷ [])) c
+  pub sound_host : (rows next : List (Row X T C W B)) (ps : List ℕ) (n : ℕ) (tasks : List TaskRow) (history : List Entry) (capacity made : ℕ) (a b c : List (List ℕ)) → 0 < length a → 0 < length b → KeepsRows rows next → into_of next ≡ write_all (into_of rows) ps n → SoundOf keys rows tasks history capacity made a b c → (w : Row X T C W B) → is_partial_kind w.kind ≡ false → AreDaughters w.daughters → All (λ d. d < length rows) (list_of w.daughters) → (found : List TaskRow) → All (λ t. t.done ≡ None) found → (bigger : ℕ) → length tasks + length found ≤ bigger → SoundOf keys (next ++ w ∷ []) (tasks ++ found) history bigger (made + 1) (pushed a (keys.cell w.cover) (length rows)) (pushed b (keys.begins w.cover) (length rows)) c
   sound_host rows next ps n tasks history capacity made a b c fa fb keeps into s w whole ds range found fresh bigger fits =
       let s2 = sound_frost keys rows next ps n tasks history capacity made a b c keeps into s in
       let same = kept_length rows next keeps in
-      let la = λ (i : ℕ). slice_set a (keys.cell w.cover % 1021) (bucket a (keys.cell w.cover) ++ i ∷ []) in
-      let lb = λ (i : ℕ). slice_set b (keys.begins w.cover % 1021) (bucket b (keys.begins w.cover) ++ i ∷ []) in
+      let la = λ (i : ℕ). pushed a (keys.cell w.cover) i in
+      let lb = λ (i : ℕ). pushed b (keys.begins w.cover) i in
       subst (λ i. SoundOf keys (next ++ w ∷ []) (tasks ++ found) history bigger (made + 1) (la i) (lb i) c) same
       (sound_row keys next tasks history capacity made a b c s2 w ds (subst (λ i. All (λ d. d < i) (list_of w.daughters)) (sym same) range) found fresh bigger (made + 1) fits (omega (arith, s2.made_few)) (la (length next)) (lb (length next)) c
       (lists_pushed is_host (λ row. keys.cell row.cover) next a w fa s2.cells)
@@ -62,9 +62,9 @@ kept_below t n ps qs e h = all_at (λ p. p < n) qs (λ j p a. let r = at_kept t 
 
 module _ {X T C W B M : Type 0} (k : Calculus M C) (meaning : T → M) (m : M) where
   -- a verdict that was found is right of its row
-  pub verdict_right : (rows : List (Row X T C W B)) (verdicts : List Verdict) (p : ℕ) (row : Row X T C W B) (o : Option Verdict) → AreRight k meaning m rows verdicts → slice_get rows p ≡ Some row → MatchOption o (Unit {0}) (λ v. (v.row.0 ≡ p) × ((i : ℕ) × At verdicts i v)) → MatchOption o (Unit {0}) (Holds k meaning m row)
-  verdict_right rows verdicts p row None right at found = tt
-  verdict_right rows verdicts p row (Some v) right at found = right found.1.0 v row found.1.1 (subst (λ i. At rows i row) (sym found.0) (from_get rows p row at))
+  pub verdict_right : (rows : List (Row X T C W B)) (verdicts : List Verdict) (n p : ℕ) (row : Row X T C W B) (o : Option Verdict) → AreRight k meaning m rows verdicts → slice_get rows p ≡ Some row → MatchOption o (Unit {0}) (λ v. (v.row.0 ≡ p) × (slice_get verdicts n ≡ Some v)) → MatchOption o (Unit {0}) (Holds k meaning m row)
+  verdict_right rows verdicts n p row None right at found = tt
+  verdict_right rows verdicts n p row (Some v) right at found = right n v row (from_get verdicts n v found.1) (subst (λ i. At rows i row) (sym found.0) (from_get rows p row at))
 
 module _ {X T C W B : Type 0} (keys : Keys C) where
   pub sound_alike : (rows rows2 : List (Row X T C W B)) (tasks tasks2 : List TaskRow) (history history2 : List Entry) (capacity made made2 : ℕ) (a a2 b b2 c c2 : List (List ℕ)) → SoundOf keys rows tasks history capacity made a b c → rows2 ≡ rows → tasks2 ≡ tasks → history2 ≡ history → made2 ≡ made → a2 ≡ a → b2 ≡ b → c2 ≡ c → SoundOf keys rows2 tasks2 history2 capacity made2 a2 b2 c2

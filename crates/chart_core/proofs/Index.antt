@@ -1,10 +1,17 @@
 -- The lists of an index as rows come and are frosted.
 use Rattle.std.specs.Prelude.{◌≡◌, ℕ, ◌+◌, ◌%◌, ◌<◌, ◌≤◌, ◌++◌, ◌⊎◌, Bool, true, false, List, [], ◌∷◌, length, slice_set}
 use Rattle.std.proofs.Common.{refl, ap, sym, subst, arith, zero, suc, length-append, inl, inr}
+use Rattle.std.proofs.lemmas.Nat.{mod_below}
+use Rattle.std.proofs.lemmas.List.{length-map}
 use Rattle.chart_model.specs.At.{At, here, there, at_append, at_last, at_snoc, Snoc, old, new}
 use Rattle.chart_model.specs.Picked.{Rises, no_more, next_is}
-use Rattle.chart_core.specs.Lists.{list_at, bucket}
+use Rattle.chart_core.specs.declared.places.Places.{Places}
+use Rattle.chart_core.specs.Lists.{lists_of, list_at, bucket, slot, pushed, IsFull}
 use Rattle.chart_core.specs.Sound.{Lists}
+
+-- as many lists as are kept
+pub full_lists : (p : Places) → IsFull p → 0 < length (lists_of p)
+full_lists p h = subst (λ n. 0 < n) (sym (length-map p.lists.items (λ v. v.items))) h
 
 set_at_place : (lists : List (List ℕ)) (s j : ℕ) (xs : List ℕ) → (list_at (slice_set lists s xs) j ≡ list_at lists j) ⊎ ((j ≡ s) × (list_at (slice_set lists s xs) j ≡ xs))
 set_at_place [] s j xs = inl refl
@@ -18,55 +25,60 @@ set_here [] s xs l = absurd (omega arith)
 set_here (l ∷ lists) zero xs b = refl
 set_here (l ∷ lists) (suc s) xs b = set_here lists s xs (omega arith)
 
+length_set : (lists : List (List ℕ)) (s : ℕ) (xs : List ℕ) → length (slice_set lists s xs) ≡ length lists
+length_set [] s xs = refl
+length_set (l ∷ lists) zero xs = refl
+length_set (l ∷ lists) (suc s) xs = ap suc (length_set lists s xs)
+
 rises_more : (i n : ℕ) (ps : List ℕ) → Rises i ps → ((j p : ℕ) → At ps j p → p < n) → i ≤ n → Rises i (ps ++ n ∷ [])
 rises_more i n [] r h l = next_is n l no_more
 rises_more i n (_ ∷ ps) (next_is p q after) h l = next_is p q (rises_more (p + 1) n ps after (λ j x a. h (suc j) x (there a)) (let z = h zero p here in omega arith))
 
 module _ {A : Type 0} (wanted : A → Bool) (key : A → ℕ) where
   -- one more row, whose number is put into its list
-  pub lists_pushed : (rows : List A) (lists : List (List ℕ)) (w : A) → length lists ≡ 1021 → Lists wanted key rows lists → Lists wanted key (rows ++ w ∷ []) (slice_set lists (key w % 1021) (bucket lists (key w) ++ length rows ∷ []))
+  pub lists_pushed : (rows : List A) (lists : List (List ℕ)) (w : A) → 0 < length lists → Lists wanted key rows lists → Lists wanted key (rows ++ w ∷ []) (pushed lists (key w) (length rows))
   lists_pushed rows lists w full l =
       record {
         misses_none = λ p row a want. of_row p row want (at_snoc rows w p row a);
-        rising = λ j. of_rising j (set_at_place lists (key w % 1021) j (bucket lists (key w) ++ length rows ∷ []));
-        inside = λ j n p a. of_inside j n p a (set_at_place lists (key w % 1021) j (bucket lists (key w) ++ length rows ∷ []));
+        rising = λ j. of_rising j (set_at_place lists at j longer);
+        inside = λ j n p a. of_inside j n p a (set_at_place lists at j longer);
       }
     where
-      s : ℕ
-      s = key w % 1021
+      at : ℕ
+      at = slot lists (key w)
 
       longer : List ℕ
       longer = bucket lists (key w) ++ length rows ∷ []
 
       next : List (List ℕ)
-      next = slice_set lists (key w % 1021) (bucket lists (key w) ++ length rows ∷ [])
+      next = pushed lists (key w) (length rows)
 
-      small : key w % 1021 < length lists
-      small = omega (arith, full)
+      in_next : (k m p : ℕ) → At (list_at next (slot lists k)) m p → At (bucket next k) m p
+      in_next k m p a = subst (λ i. At (list_at next (k % i)) m p) (sym (length_set lists at longer)) a
 
-      of_old : (j n p : ℕ) → At (list_at lists j) n p → (list_at (slice_set lists (key w % 1021) (bucket lists (key w) ++ length rows ∷ [])) j ≡ list_at lists j) ⊎ ((j ≡ key w % 1021) × (list_at (slice_set lists (key w % 1021) (bucket lists (key w) ++ length rows ∷ [])) j ≡ bucket lists (key w) ++ length rows ∷ [])) → (m : ℕ) × At (list_at (slice_set lists (key w % 1021) (bucket lists (key w) ++ length rows ∷ [])) j) m p
+      of_old : (j n p : ℕ) → At (list_at lists j) n p → (list_at next j ≡ list_at lists j) ⊎ ((j ≡ at) × (list_at next j ≡ longer)) → (m : ℕ) × At (list_at next j) m p
       of_old j n p a (inl e) = (n, subst (λ xs. At xs n p) (sym e) a)
       of_old j n p a (inr e) = (n, subst (λ xs. At xs n p) (sym e.1) (at_append (length rows ∷ []) (subst (λ i. At (list_at lists i) n p) e.0 a)))
 
-      of_row : (p : ℕ) (row : A) → wanted row ≡ true → Snoc rows w p row → (n : ℕ) × At (bucket (slice_set lists (key w % 1021) (bucket lists (key w) ++ length rows ∷ [])) (key row)) n p
-      of_row p row want (old b) = let r = l.misses_none p row b want in of_old (key row % 1021) r.0 p r.1 (set_at_place lists (key w % 1021) (key row % 1021) (bucket lists (key w) ++ length rows ∷ []))
+      of_row : (p : ℕ) (row : A) → wanted row ≡ true → Snoc rows w p row → (n : ℕ) × At (bucket next (key row)) n p
+      of_row p row want (old b) = let r = l.misses_none p row b want in let s = of_old (slot lists (key row)) r.0 p r.1 (set_at_place lists at (slot lists (key row)) longer) in (s.0, in_next (key row) s.0 p s.1)
       of_row p row want (new q e) =
-          let here_is : list_at (slice_set lists (key w % 1021) (bucket lists (key w) ++ length rows ∷ [])) (key w % 1021) ≡ bucket lists (key w) ++ length rows ∷ [] = set_here lists (key w % 1021) (bucket lists (key w) ++ length rows ∷ []) small in
-          let a : At (list_at (slice_set lists (key w % 1021) (bucket lists (key w) ++ length rows ∷ [])) (key w % 1021)) (length (bucket lists (key w))) (length rows) = subst (λ xs. At xs (length (bucket lists (key w))) (length rows)) (sym here_is) (at_last (bucket lists (key w)) (length rows)) in
-          (length (bucket lists (key w)), subst (λ r. At (bucket (slice_set lists (key w % 1021) (bucket lists (key w) ++ length rows ∷ [])) (key r)) (length (bucket lists (key w))) p) e (subst (λ i. At (bucket (slice_set lists (key w % 1021) (bucket lists (key w) ++ length rows ∷ [])) (key w)) (length (bucket lists (key w))) i) (sym q) a))
+          let here_is : list_at next at ≡ longer = set_here lists at longer (mod_below (key w) (length lists) full) in
+          let a : At (list_at next at) (length (bucket lists (key w))) (length rows) = subst (λ xs. At xs (length (bucket lists (key w))) (length rows)) (sym here_is) (at_last (bucket lists (key w)) (length rows)) in
+          (length (bucket lists (key w)), subst (λ r. At (bucket next (key r)) (length (bucket lists (key w))) p) e (subst (λ i. At (bucket next (key w)) (length (bucket lists (key w))) i) (sym q) (in_next (key w) _ _ a)))
 
-      of_rising : (j : ℕ) → (list_at (slice_set lists (key w % 1021) (bucket lists (key w) ++ length rows ∷ [])) j ≡ list_at lists j) ⊎ ((j ≡ key w % 1021) × (list_at (slice_set lists (key w % 1021) (bucket lists (key w) ++ length rows ∷ [])) j ≡ bucket lists (key w) ++ length rows ∷ [])) → Rises 0 (list_at (slice_set lists (key w % 1021) (bucket lists (key w) ++ length rows ∷ [])) j)
+      of_rising : (j : ℕ) → (list_at next j ≡ list_at lists j) ⊎ ((j ≡ at) × (list_at next j ≡ longer)) → Rises 0 (list_at next j)
       of_rising j (inl e) = subst (Rises 0) (sym e) (l.rising j)
-      of_rising j (inr e) = subst (Rises 0) (sym e.1) (rises_more 0 (length rows) (bucket lists (key w)) (l.rising (key w % 1021)) (λ i p a. l.inside (key w % 1021) i p a) (omega arith))
+      of_rising j (inr e) = subst (Rises 0) (sym e.1) (rises_more 0 (length rows) (bucket lists (key w)) (l.rising at) (λ i p a. l.inside at i p a) (omega arith))
 
       count : length (rows ++ w ∷ []) ≡ length rows + 1
       count = length-append rows (w ∷ [])
 
       of_last : (n p : ℕ) → Snoc (bucket lists (key w)) (length rows) n p → p < length (rows ++ w ∷ [])
-      of_last n p (old b) = let z = l.inside (key w % 1021) n p b in omega (arith, z, count)
+      of_last n p (old b) = let z = l.inside at n p b in omega (arith, z, count)
       of_last n p (new q e) = omega (arith, e, count)
 
-      of_inside : (j n p : ℕ) → At (list_at (slice_set lists (key w % 1021) (bucket lists (key w) ++ length rows ∷ [])) j) n p → (list_at (slice_set lists (key w % 1021) (bucket lists (key w) ++ length rows ∷ [])) j ≡ list_at lists j) ⊎ ((j ≡ key w % 1021) × (list_at (slice_set lists (key w % 1021) (bucket lists (key w) ++ length rows ∷ [])) j ≡ bucket lists (key w) ++ length rows ∷ [])) → p < length (rows ++ w ∷ [])
+      of_inside : (j n p : ℕ) → At (list_at next j) n p → (list_at next j ≡ list_at lists j) ⊎ ((j ≡ at) × (list_at next j ≡ longer)) → p < length (rows ++ w ∷ [])
       of_inside j n p a (inl e) = let z = l.inside j n p (subst (λ xs. At xs n p) e a) in omega (arith, z, count)
       of_inside j n p a (inr e) = of_last n p (at_snoc (bucket lists (key w)) (length rows) n p (subst (λ xs. At xs n p) e.1 a))
 

@@ -1,5 +1,5 @@
 -- Notes in the order of their keys.
-use Rattle.std.specs.Prelude.{◌≡◌, ℕ, ◌+◌, ◌<◌, ◌⊎◌, Bool, false, Some, List, [], ◌∷◌, length, slice_get, refl, All}
+use Rattle.std.specs.Prelude.{◌≡◌, ℕ, ◌+◌, ◌<◌, ◌⊎◌, false, Some, List, [], ◌∷◌, length, slice_get, refl, All}
 use Rattle.std.specs.declared.cmp.Ordering.{Ordering}
 use Rattle.std.specs.declared.cmp.Ordering.TheVariants.{Less, Equal, Greater}
 use Rattle.std.specs.Ordering.{nat_cmp, ordering_then, match_ordering, is_gt}
@@ -12,7 +12,7 @@ use Rattle.std.proofs.lemmas.Option.{get_or_from_slice_get}
 use Rattle.chart_model.specs.At.{At, here, there, to_get, from_get, at_below, at_one}
 use Rattle.chart_model.specs.Ordered.{IsFrom}
 use Rattle.chart_core.specs.declared.noted.Notes.{Notes}
-use Rattle.chart_core.specs.Noted.{noted, notes_len, IsEmpty, IsAfter, Adds, IsNext, Takes}
+use Rattle.chart_core.specs.Noted.{notes_len, IsAfter, Adds, IsNext, Takes}
 
 module _ {K : Type 0} where
   abbrev pub Has : List K → K → Type 0

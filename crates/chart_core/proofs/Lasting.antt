@@ -1,23 +1,19 @@
 -- Verdicts on hosts stay right.
-use Rattle.std.specs.Prelude.{◌≡◌, ℕ, ◌+◌, ◌≤◌, ◌<◌, option_map, Option, Some, None, List, [], ◌∷◌, ◌++◌, length, map, refl}
+use Rattle.std.specs.Prelude.{◌≡◌, ℕ, ◌+◌, ◌≤◌, option_map, Option, Some, List, [], ◌∷◌, ◌++◌, length, map}
 use Rattle.std.proofs.Common.{ap, sym, ◌∙◌, subst, append_assoc, append-nil, drop}
 use Rattle.std.proofs.lemmas.List.{map-append, drop_more, drop_all}
 use Rattle.std.proofs.lemmas.Option.{get_or_from_slice_get}
 use Rattle.cover.specs.Calculus.{Calculus, Laws}
 use Rattle.chart_model.specs.At as Places
 use Rattle.chart_model.specs.At.{At, at_below, to_get, at_one, at_append, at_snoc, Snoc, from_get}
-use Rattle.chart_core.specs.declared.chart.Core.{Core}
-use Rattle.chart_core.specs.declared.Row.{Row}
 use Rattle.chart_core.specs.declared.RowId.{RowId}
 use Rattle.chart_core.specs.declared.Peer.{Peer}
 use Rattle.chart_core.specs.declared.Verdict.{Verdict}
 use Rattle.chart_core.specs.declared.Outcome.TheVariants as outcomes
 use Rattle.chart_core.specs.Grammar.{Grammar}
 use Rattle.chart_core.specs.View.{row_of, rows_of}
-use Rattle.chart_core.specs.Kept.{IsCore}
-use Rattle.chart_core.specs.Calls.{IsLiveHost, ArePeers}
-use Rattle.chart_core.specs.Verdicts.{Holds, AreRight, StandsTo, AreOn}
-use Rattle.chart_core.specs.Later.{IsLater, AreLasting}
+use Rattle.chart_core.specs.Verdicts.{StandsTo, AreOn}
+use Rattle.chart_core.specs.Later.{AreLasting}
 use Rattle.chart_core.proofs.Found.{at_map}
 use Rattle.chart_core.proofs.Later.{rows_later}
 

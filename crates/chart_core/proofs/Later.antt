@@ -1,5 +1,5 @@
 -- What stays right over later steps.
-use Rattle.std.specs.Prelude.{◌≡◌, ℕ, ◌<◌, ◌≤◌, Bool, true, false, if◌then◌else◌, is_none, option_map, Option, Some, None, List, [], ◌∷◌, ◌++◌, length, map, refl, slice_get}
+use Rattle.std.specs.Prelude.{◌≡◌, ℕ, ◌<◌, ◌≤◌, Bool, true, false, if◌then◌else◌, is_none, Option, Some, None, List, [], ◌∷◌, ◌++◌, length, refl, slice_get}
 use Rattle.std.proofs.Common.{ap, sym, ◌∙◌, subst, arith, append_assoc, length-append, zero, suc}
 use Rattle.std.proofs.lemmas.List.{length-map}
 use Rattle.cover.specs.Calculus.{Calculus, Laws}
@@ -17,12 +17,10 @@ use Rattle.chart_model.proofs.Steps.{covers-more, low_ds, facts_step}
 use Rattle.chart_model.proofs.Kept.{Begins, begins_itself, rows_begin, tasks_begin, same_daughters}
 use Rattle.chart_model.proofs.Next.{WasPending, NextOf, was_pending, is_new, next_tasks}
 use Rattle.chart_core.specs.declared.chart.Core.{Core}
-use Rattle.chart_core.specs.declared.Caller.{Caller}
-use Rattle.chart_core.specs.declared.Entered.{Entered}
-use Rattle.chart_core.specs.Calls.{ChangesBy}
 use Rattle.chart_core.specs.Grammar.{Grammar}
 use Rattle.chart_core.specs.CoreView.{chart_of, history_of, leaves_of, limits_of}
-use Rattle.chart_core.specs.Kept.{IsCore, tasks_of}
+use Rattle.chart_core.specs.Kept.{IsCore, tasks_of, pending_of}
+use Rattle.chart_core.specs.Sound.{left_of}
 use Rattle.chart_core.specs.View.{rows_of, task_of}
 use Rattle.chart_core.specs.Steps.{IsOpen, IsDoneAt, IsSkipped, IsRightAt}
 use Rattle.chart_core.specs.Later.{IsLater}
@@ -150,9 +148,12 @@ module _ {M C : Type 0} (k : Calculus M C) (limits : Limits) where
         let b = tasks_begin k limits ch e in
         right_replayed es (step k limits ch e) (facts_step k limits leaves laws leaves ch facts e run.0) (omega (arith, made, ap length b.are, length-append ch.tasks b.more)) run.1 (right_step ch facts made e run.0 right)
 
--- what one outcome that is entered leads to
-pub later_by : {X T C W B M : Type 0} (g : Grammar T M C) (old new : Core X T C W B) (t : ℕ) (o : model.Outcome M C) (by : Caller) (answer : Entered) → ChangesBy g old t o by answer new → IsLater g old new
-later_by g old new t o by answer c = record { limits_same = c.limits; leaves_same = c.leaves; more = _; history = c.history }
+-- where nothing is pending, no entry is one of a pending task
+none_free : (xs : List (Option ℕ)) (i : ℕ) → left_of xs ≡ 0 → is_free xs i ≡ true → ⊥
+none_free [] i e h = cc
+none_free (None ∷ xs) i e h = omega (arith, e)
+none_free (Some r ∷ xs) zero e h = cc
+none_free (Some r ∷ xs) (suc i) e h = none_free xs i e h
 
 module _ {X T C W B M : Type 0} (g : Grammar T M C) (laws : Laws g.calculus) (old new : Core X T C W B) (was : IsCore g old) (is : IsCore g new) (later : IsLater g old new) where
   abbrev start : model.Chart M C
@@ -185,6 +186,14 @@ module _ {X T C W B M : Type 0} (g : Grammar T M C) (laws : Laws g.calculus) (ol
       let b = tasks_replayed g.calculus (limits_of old) (chart_of g.meaning old) later.more in
       let e = ap (λ (c : model.Chart M C). length c.tasks) state in
       omega (arith, e, ap length b.are, length-append (chart_of g.meaning old).tasks b.more, length-map old.tasks.items task_of, length-map new.tasks.items task_of)
+
+  -- where nothing was pending nothing is
+  pub pending_later : pending_of old ≡ 0 → pending_of new ≡ 0
+  pending_later none = of_more later.more run state
+    where
+      of_more : (es : List (Entry M C)) → IsRun g.calculus (limits_of old) (chart_of g.meaning old) es → chart_of g.meaning new ≡ replayed g.calculus (limits_of old) (chart_of g.meaning old) es → pending_of new ≡ 0
+      of_more [] run state = ap (λ (c : model.Chart M C). left_of c.done) state ∙ none
+      of_more (e ∷ es) run state = absurd (none_free (chart_of g.meaning old).done e.task none run.0.pending)
 
   -- an outcome that was right for a task is so
   pub right_later : (t : ℕ) (o : model.Outcome M C) → t < tasks_of old → IsRightAt g.calculus (limits_of old) (chart_of g.meaning old) t o → IsRightAt g.calculus (limits_of new) (chart_of g.meaning new) t o

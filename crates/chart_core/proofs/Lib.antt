@@ -27,3 +27,4 @@ pub mod Visits
 pub mod Passes
 pub mod Later
 pub mod Lasting
+pub mod Marked

@@ -1,18 +1,18 @@
 -- What is found of a task whose daughters are live.
-use Rattle.std.specs.Prelude.{◌≡◌, ℕ, ◌≤◌, ◌<◌, ◌^◌, Some, None, List, length, map, refl}
+use Rattle.std.specs.Prelude.{◌≡◌, ℕ, ◌≤◌, ◌<◌, ◌^◌, Some, None, List, length, map}
 use Rattle.std.proofs.Common.{ap, sym, ◌∙◌, subst, arith, inl, inr}
 use Rattle.std.proofs.lemmas.Bool.{cases_lt}
 use Rattle.cover.specs.Calculus.{Calculus, Laws}
 use Rattle.cover.specs.Tuples.{shapes_of, covers_of}
 use Rattle.cover.specs.declared.Tuple.{Tuple}
 use Rattle.chart_model.specs.Chart as model
-use Rattle.chart_model.specs.At.{At, from_get}
+use Rattle.chart_model.specs.At.{from_get}
 use Rattle.chart_core.specs.declared.chart.Core.{Core}
 use Rattle.chart_core.specs.declared.Outcome.{Outcome}
 use Rattle.chart_core.specs.declared.Outcome.TheVariants as outcomes
 use Rattle.chart_core.specs.declared.Daughters.{Daughters}
 use Rattle.chart_core.specs.Grammar.{Grammar}
-use Rattle.chart_core.specs.View.{rows_of, list_of}
+use Rattle.chart_core.specs.View.{list_of}
 use Rattle.chart_core.specs.CoreView.{chart_of, limits_of}
 use Rattle.chart_core.specs.Kept.{IsCore}
 use Rattle.chart_core.specs.Outcomes.{outcome_seen, IsRightFor, ShapeBelongs}

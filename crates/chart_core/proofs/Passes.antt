@@ -1,14 +1,13 @@
 -- From one size and level to the next, and the end.
-use Rattle.std.specs.Prelude.{◌≡◌, ℕ, ◌+◌, ◌≤◌, ◌<◌, ◌^◌, ◌⊎◌, Option, Some, None, List, [], ◌∷◌, length, map, refl, MatchOption, MatchResult, Result}
-use Rattle.std.proofs.Common.{ap, sym, ◌∙◌, subst, arith, inl, inr, zero, suc}
+use Rattle.std.specs.Prelude.{◌≡◌, ℕ, ◌+◌, ◌<◌, ◌^◌, ◌⊎◌, Option, Some, None, List, [], ◌∷◌, map, refl, MatchOption, MatchResult, Result}
+use Rattle.std.proofs.Common.{ap, sym, subst, arith, inl, inr, zero, suc}
 use Rattle.std.proofs.lemmas.Bool.{cases_order}
 use Rattle.cover.specs.Calculus.{Calculus, Laws, Agreement}
 use Rattle.chart_model.specs.Chart as model
-use Rattle.chart_model.specs.At.{At, here, there, at_below}
-use Rattle.chart_model.specs.Finished.{NothingPending}
-use Rattle.chart_model.specs.Limits.{LimitAnswer, UnaryChain, Edges, Within, IsLimitAnswer}
-use Rattle.chart_model.specs.Below.{IsLeastSize, AnswersBelow, answer_by}
-use Rattle.chart_model.specs.Ordered.{IsFrom, NotesAreTrue, AreNoted}
+use Rattle.chart_model.specs.At.{At, here, there}
+use Rattle.chart_model.specs.Limits.{LimitAnswer, Within, IsLimitAnswer}
+use Rattle.chart_model.specs.Below.{AnswersBelow, answer_by}
+use Rattle.chart_model.specs.Ordered.{IsFrom}
 use Rattle.chart_model.proofs.Order.{taken_start, pending_from, entered_start, none_noted, rank, rank_falls}
 use Rattle.chart_model.proofs.Late.{from_size, mother_bounds}
 use Rattle.chart_model.proofs.Decided.{decided_below}
@@ -25,8 +24,8 @@ use Rattle.chart_core.specs.CoreView.{chart_of, limits_of, leaves_of}
 use Rattle.chart_core.specs.Kept.{IsCore, tasks_of, pending_of, limits_seen}
 use Rattle.chart_core.specs.declared.Limits.{Limits}
 use Rattle.chart_core.specs.Sound.{left_of}
-use Rattle.chart_core.specs.Counted.{IsFoundBelow, IsAnswer, IsDecision}
-use Rattle.chart_core.specs.Noted.{noted, IsEmpty, IsAfter, IsNext}
+use Rattle.chart_core.specs.Counted.{IsFoundBelow, IsAnswer}
+use Rattle.chart_core.specs.Noted.{noted, IsEmpty, IsNext}
 use Rattle.chart_core.specs.Passed.{IsPassed, IsPassFault}
 use Rattle.chart_core.specs.Passing.{IsSure, IsTaking, IsEntering, IsPassing}
 use Rattle.chart_core.proofs.Facts.{facts_in}

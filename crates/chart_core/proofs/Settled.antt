@@ -1,10 +1,9 @@
 -- What is settled by one outcome.
-use Rattle.std.specs.Prelude.{◌≡◌, ℕ, ◌≤◌, Bool, false, true, Some, length, map, refl}
-use Rattle.std.proofs.Common.{ap, sym, ◌∙◌, subst, arith, inl, inr}
+use Rattle.std.specs.Prelude.{◌≡◌, ℕ, ◌≤◌, false, Some, length, refl}
+use Rattle.std.proofs.Common.{ap, arith, inl, inr}
 use Rattle.std.proofs.lemmas.List.{length-map}
-use Rattle.cover.specs.Calculus.{Calculus}
 use Rattle.chart_model.specs.Chart as model
-use Rattle.chart_model.specs.At.{At, from_get}
+use Rattle.chart_model.specs.At.{from_get}
 use Rattle.chart_model.proofs.Kept.{more_tasks}
 use Rattle.chart_core.specs.declared.chart.Core.{Core}
 use Rattle.chart_core.specs.declared.Caller.{Caller}
@@ -13,7 +12,6 @@ use Rattle.chart_core.specs.declared.Entered.TheVariants as entered
 use Rattle.chart_core.specs.Grammar.{Grammar}
 use Rattle.chart_core.specs.View.{task_of}
 use Rattle.chart_core.specs.CoreView.{chart_of, limits_of, leaves_of, caller_of}
-use Rattle.chart_core.specs.Kept.{tasks_of}
 use Rattle.chart_core.specs.Steps.{IsRightAt, Answers}
 use Rattle.chart_core.specs.Calls.{ChangesBy}
 use Rattle.chart_core.specs.Passing.{IsSettled, was_done, by_step, StaysOver}

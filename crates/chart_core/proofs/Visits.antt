@@ -1,14 +1,12 @@
 -- The steps of the ordered pass.
-use Rattle.std.specs.Prelude.{◌≡◌, ℕ, ◌+◌, ◌≤◌, ◌<◌, ◌⊎◌, Some, None, List, length, map, refl}
-use Rattle.std.proofs.Common.{ap, sym, ◌∙◌, subst, arith, inl, inr}
+use Rattle.std.specs.Prelude.{◌≡◌, ℕ, ◌+◌, ◌≤◌, ◌<◌, Some, length}
+use Rattle.std.proofs.Common.{sym, ◌∙◌, subst, arith, inl, inr}
 use Rattle.std.proofs.lemmas.List.{length-map}
-use Rattle.cover.specs.Calculus.{Calculus, Laws}
+use Rattle.cover.specs.Calculus.{Laws}
 use Rattle.chart_model.specs.Chart as model
 use Rattle.chart_model.specs.At.{At, at_one, at_below, from_get}
 use Rattle.chart_model.specs.Limits.{AreProper}
-use Rattle.chart_model.specs.Below.{Follows}
-use Rattle.chart_model.specs.Ordered.{IsFrom, GivesMother, NotesAreTrue, AreDue, IsNoted, Waits, AreTaken, AreEntered, AreNoted}
-use Rattle.chart_model.proofs.Complete.{Facts}
+use Rattle.chart_model.specs.Ordered.{IsFrom, GivesMother, NotesAreTrue, IsNoted, AreTaken, AreEntered}
 use Rattle.chart_model.proofs.Order.{notes_kept, taken_note, taken_done, taken_step, taken_round, taken_end, entered_step, entered_done, entered_end}
 use Rattle.chart_model.proofs.Late.{late_mother}
 use Rattle.chart_core.specs.declared.chart.Core.{Core}
@@ -22,7 +20,7 @@ use Rattle.chart_core.specs.Kept.{IsCore, tasks_of}
 use Rattle.chart_core.specs.Outcomes.{outcome_seen}
 use Rattle.chart_core.specs.Steps.{IsDoneAt}
 use Rattle.chart_core.specs.Noted.{noted, IsAfter, Adds, Takes}
-use Rattle.chart_core.specs.Passing.{IsHostless, IsMother, IsSettled, was_done, by_step, StaysOver, IsSure, GoesOn, IsTaking, IsEntering, IsPassing}
+use Rattle.chart_core.specs.Passing.{IsHostless, IsMother, IsSettled, was_done, by_step, StaysOver, IsSure, IsTaking, IsEntering, IsPassing}
 use Rattle.chart_core.proofs.Facts.{facts_in}
 use Rattle.chart_core.proofs.Decide.{leaves_proper}
 

@@ -17,3 +17,4 @@ pub mod Noted
 pub mod Passed
 pub mod Passing
 pub mod Later
+pub mod Bounded

@@ -1,6 +1,5 @@
 -- What stands while a chart is made in order.
-use Rattle.std.specs.Prelude.{◌≡◌, ℕ, ◌+◌, ◌≤◌, ◌<◌, ◌⊎◌, Some, None}
-use Rattle.cover.specs.Calculus.{Calculus}
+use Rattle.std.specs.Prelude.{◌≡◌, ℕ, ◌+◌, ◌≤◌, ◌⊎◌, Some, None}
 use Rattle.chart_model.specs.Chart as model
 use Rattle.chart_model.specs.At.{At}
 use Rattle.chart_model.specs.Below.{Follows}

@@ -83,7 +83,8 @@ impl<S: Shapes> Core<S> {
         )?;
         self.ends.reserve(key)?;
         self.rows.reserve(1)?;
-        self.history.reserve(self.tasks.len() + found.len())?;
+        self.history
+            .reserve(self.tasks.len() - self.history.len() + found.len())?;
         self.tasks.append(&mut found)?;
         self.ends.push_reserved(key, number);
         self.rows.push_reserved(Row {
@@ -160,7 +161,8 @@ impl<S: Shapes> Core<S> {
         self.cells.reserve(cell)?;
         self.begins.reserve(begin)?;
         self.rows.reserve(1)?;
-        self.history.reserve(self.tasks.len() + found.len())?;
+        self.history
+            .reserve(self.tasks.len() - self.history.len() + found.len())?;
         Ok(())
     }
 

@@ -10,24 +10,36 @@ pub struct Finished<S: Shapes> {
 }
 
 impl<S: Shapes> Core<S> {
-    ghost use Rattle.std.specs.Prelude.{◌≡◌, ◌<◌, OnOk, MatchResult};
+    ghost use Rattle.std.specs.Prelude.{◌≡◌, ◌<◌, ◌≤◌, OnOk, MatchResult};
     ghost use Rattle.chart_model.specs.Finished.{IsComplete};
     ghost use Rattle.chart_model.specs.Grown.{HoldsTrees};
     ghost use Rattle.chart_core.specs.Grammar.{grammar_of};
     ghost use Rattle.chart_core.specs.Kept.{IsCore, tasks_of, pending_of, core_of};
     ghost use Rattle.chart_core.specs.CoreView.{chart_of, leaves_of, limits_of};
+    ghost use Rattle.chart_core.specs.Later.{IsLater};
 
-    /// The number of tasks made. Takes no memory.
+    /// The number of tasks made; no later core has fewer. Takes no memory.
     pub fn tasks(&self) -> u64
-        ensures { result ≡ tasks_of self.now }
+        ensures made { result ≡ tasks_of self.now }
+        ensures grows { (s : S) (later : _)
+            → IsCore (grammar_of S.Shapes S.Cover.Cover.own s) self.now
+            → IsCore (grammar_of S.Shapes S.Cover.Cover.own s) later
+            → IsLater (grammar_of S.Shapes S.Cover.Cover.own s) self.now later
+            → tasks_of self.now ≤ tasks_of later }
     {
         self.tasks.len() as u64
     }
 
-    /// The number of tasks that are pending. Takes no memory.
+    /// The number of tasks that are pending; where none is, none is in a later core. Takes no memory.
     pub fn pending(&self) -> u64
         requires { (s : S) × IsCore (grammar_of S.Shapes S.Cover.Cover.own s) self.now }
-        ensures { result ≡ pending_of self.now }
+        ensures left { result ≡ pending_of self.now }
+        ensures over { (s : S) (later : _)
+            → IsCore (grammar_of S.Shapes S.Cover.Cover.own s) self.now
+            → IsCore (grammar_of S.Shapes S.Cover.Cover.own s) later
+            → IsLater (grammar_of S.Shapes S.Cover.Cover.own s) self.now later
+            → pending_of self.now ≡ 0
+            → pending_of later ≡ 0 }
     {
         (self.tasks.len() - self.history.len()) as u64
     }

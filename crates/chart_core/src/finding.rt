@@ -10,7 +10,7 @@ use std::alloc::Global;
 
 /// The outcome of a rule with these daughters, as a worker finds it outside the chart.
 ///
-/// The answer is right for the daughters: `Fails` where they have no cover under the rule or where the rule applies to no
+/// The quick test is asked first. The answer is right for the daughters: `Fails` where they have no cover under the rule or where the rule applies to no
 /// tuple that begins with them, `Fits` where the tuple isn't whole yet, and otherwise the mother.
 pub fn outcome_of<S: Shapes>(
     alloc: Global,
@@ -23,6 +23,9 @@ pub fn outcome_of<S: Shapes>(
     ensures right { IfOk result (λ o. IsRightFor (S.calculus shapes.now) (S.meaning shapes.now) rule parts.now o) }
     ensures belongs { IfOk result (λ o. ShapeBelongs (S.belongs shapes.now) o) }
 {
+    if !shapes.may(work, rule, parts) {
+        return Ok(Outcome::Fails);
+    }
     let Some(cover) = shapes.covers(alloc, rule, parts)? else {
         return Ok(Outcome::Fails);
     };

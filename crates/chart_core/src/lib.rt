@@ -34,22 +34,20 @@ mod rows;
 mod search;
 mod tasks;
 mod telling;
-#[cfg(test)]
-mod tests;
 mod tuples;
 mod verdicts;
 mod worker;
 
 /// The number of a row of a chart.
-#[derive(Debug, Drop, Clone, Copy, PartialEq, Eq)]
+#[derive(Drop, Clone, Copy, PartialEq, Eq)]
 pub struct RowId(pub u64);
 
 /// The number of a task of a chart.
-#[derive(Debug, Drop, Clone, Copy, PartialEq, Eq)]
+#[derive(Drop, Clone, Copy, PartialEq, Eq)]
 pub struct TaskId(pub u64);
 
 /// The limits of an item.
-#[derive(Debug, Drop, Clone, Copy, PartialEq, Eq)]
+#[derive(Drop, Clone, Copy)]
 pub struct Limits {
     /// the greatest number of packed classes
     pub edges: u32,
@@ -64,14 +62,14 @@ pub struct Limits {
 }
 
 /// Who entered an outcome: a seat, and how many calls it had entered before.
-#[derive(Debug, Drop, Clone, Copy, PartialEq, Eq)]
+#[derive(Drop, Clone, Copy)]
 pub struct Caller {
     pub seat: u32,
     pub count: u64,
 }
 
 /// What a row is.
-#[derive(Debug, Drop, Clone, Copy, PartialEq, Eq)]
+#[derive(Drop, Clone, Copy)]
 pub enum RowKind {
     /// a leaf of this name
     Leaf { name: u32 },
@@ -82,7 +80,7 @@ pub enum RowKind {
 }
 
 /// The daughters of a row from left to right: `count` of them, from `a` on.
-#[derive(Debug, Drop, Clone, Copy, PartialEq, Eq)]
+#[derive(Drop, Clone, Copy)]
 pub struct Daughters {
     pub count: u32,
     pub a: Option<RowId>,
@@ -143,7 +141,7 @@ pub enum Ready<S: Shapes> {
 }
 
 /// What entering an outcome did. A place is the number of an entry of the history.
-#[derive(Debug, Drop, Clone, Copy, PartialEq, Eq)]
+#[derive(Drop, Clone, Copy, PartialEq, Eq)]
 pub enum Entered {
     /// the task was done before, at this place
     Stale {
@@ -173,7 +171,7 @@ pub enum Entered {
 }
 
 /// The rule of a task, and the size and level of its host.
-#[derive(Debug, Drop, Clone, Copy, PartialEq, Eq)]
+#[derive(Drop, Clone, Copy)]
 pub struct TaskInfo {
     pub rule: u32,
     pub size: u32,
@@ -195,7 +193,7 @@ pub struct Peers<S: Shapes> {
 }
 
 /// How a row's structure stands to that of an outcome.
-#[derive(Debug, Drop, Clone, Copy, PartialEq, Eq)]
+#[derive(Drop, Clone, Copy)]
 pub struct Verdict {
     pub row: RowId,
     /// whether the row's structure subsumes the outcome's
@@ -211,7 +209,7 @@ pub struct Tested {
 }
 
 /// What ends a chart before its time.
-#[derive(Debug, Drop, Clone, Copy, PartialEq, Eq)]
+#[derive(Drop, Clone, Copy)]
 pub enum ChartFault {
     /// an edge above more unary rules than the limit, of this size
     UnaryChain { size: u32 },

@@ -1,6 +1,6 @@
 //! A core is opened over its leaves, and hands them back.
 
-ghost use Rattle.std.specs.Prelude.{◌≡◌};
+ghost use Rattle.std.specs.Prelude.{◌≡◌, ◌<◌};
 ghost use Rattle.chart_core.specs.Leaves.{leaf_in};
 
 use crate::places::Places;
@@ -36,7 +36,7 @@ impl<S: Shapes> Core<S> {
         ensures limits { IfOk result (λ core. limits_of core ≡ limits_seen limits.now) }
     {
         let spare = Vec::with_capacity(alloc, leaves.len())?;
-        let mut core = Core::empty(alloc, spare, limits)?;
+        let mut core = Core::empty(alloc, spare, leaves.len(), limits)?;
         leaves.reverse();
         while let Some(leaf) = leaves.pop() {
             core.push_leaf(alloc, shapes, work, leaf)?;
@@ -44,17 +44,22 @@ impl<S: Shapes> Core<S> {
         Ok(core)
     }
 
-    // A core without rows.
-    fn empty(alloc: Global, spare: Vec<Leaf<S>>, limits: &Limits) -> Result<Core<S>, NoMemory>
+    // A core without rows, with an index for so many leaves.
+    fn empty(
+        alloc: Global,
+        spare: Vec<Leaf<S>>,
+        leaves: usize,
+        limits: &Limits,
+    ) -> Result<Core<S>, NoMemory>
         requires limits { InRange limits.now }
         requires spare { spare.items ≡ [] }
         ensures core { IfOk result (λ core. (s : S) → IsOpened (grammar_of S.Shapes S.Cover.Cover.own s) core × (leaves_of (S.meaning s) core ≡ [])) }
         ensures limits { IfOk result (λ core. limits_of core ≡ limits_seen limits.now) }
         ensures spare { IfOk result (λ core. core.spare ≡ spare) }
     {
-        let cells = Places::new(alloc)?;
-        let begins = Places::new(alloc)?;
-        let ends = Places::new(alloc)?;
+        let cells = Places::new(alloc, lists_of_cells(leaves))?;
+        let begins = Places::new(alloc, lists_of_nodes(leaves))?;
+        let ends = Places::new(alloc, lists_of_nodes(leaves))?;
         Ok(Core {
             rows: Vec::new(alloc),
             tasks: Vec::new(alloc),
@@ -110,6 +115,26 @@ impl<S: Shapes> Core<S> {
         }
         leaves
     }
+}
+
+// How many lists to keep for the covers of edges over so many leaves: about as many as there are spans, up to a bound. Each
+// is a prime number, over which the cells of spans lie evenly.
+fn lists_of_cells(leaves: usize) -> usize
+    ensures { 0 < result }
+{
+    match leaves {
+        0..=8 => 37,
+        9..=24 => 251,
+        25..=64 => 1021,
+        _ => 4093,
+    }
+}
+
+// How many lists to keep for the places where edges over so many leaves begin or end.
+fn lists_of_nodes(leaves: usize) -> usize
+    ensures { 0 < result }
+{
+    leaves.min(4000) + 1
 }
 
 // The leaf that the row is, if it is one.

@@ -1,6 +1,6 @@
 //! Numbers of rows, found by a key.
 
-ghost use Rattle.std.specs.Prelude.{◌≡◌, ◌<◌, ◌≤◌, ◌++◌, ◌∷◌, ◌%◌, [], length, slice_set, IfOk, OnOk, All};
+ghost use Rattle.std.specs.Prelude.{◌≡◌, ◌<◌, [], length, IfOk, OnOk, All};
 
 use cover::NoMemory;
 use std::alloc::Global;
@@ -12,18 +12,28 @@ pub struct Places {
 }
 
 impl Places {
-    ghost use Rattle.chart_core.specs.Lists.{lists_of, IsFull, HasRoomAt, bucket};
+    ghost use Rattle.chart_core.specs.Lists.{lists_of, slot, pushed, IsFull, HasRoomAt, bucket};
 
-    /// Empty lists.
-    pub fn new(alloc: Global) -> Result<Places, NoMemory>
+    /// So many empty lists.
+    pub fn new(alloc: Global, count: usize) -> Result<Places, NoMemory>
+        requires { 0 < count }
         ensures full { IfOk result IsFull }
         ensures empty { IfOk result (λ p. All (λ xs. xs ≡ []) (lists_of p)) }
     {
-        let mut lists = Vec::with_capacity(alloc, 1021)?;
-        for _slot in 0..1021usize {
+        let mut lists = Vec::with_capacity(alloc, count)?;
+        for _slot in 0..count {
             lists.push(Vec::new(alloc))?;
         }
         Ok(Places { lists })
+    }
+
+    // The list of a key.
+    fn slot(&self, key: u32) -> usize
+        requires { IsFull self.now }
+        ensures is { result ≡ slot (lists_of self.now) key }
+        ensures inside { result < length self.now.lists.items }
+    {
+        key as usize % self.lists.len()
     }
 
     /// The numbers under keys with this one's remainder.
@@ -31,7 +41,7 @@ impl Places {
         requires { IsFull self.now }
         ensures { result.now ≡ bucket (lists_of self.now) key }
     {
-        self.lists[key as usize % 1021].as_slice()
+        self.lists[self.slot(key)].as_slice()
     }
 
     /// Makes room for one more number under this key.
@@ -41,7 +51,8 @@ impl Places {
         ensures same { lists_of self.new ≡ lists_of self.old }
         ensures room { OnOk result (HasRoomAt self.new key) }
     {
-        self.lists[key as usize % 1021].reserve(1)?;
+        let slot = self.slot(key);
+        self.lists[slot].reserve(1)?;
         Ok(())
     }
 
@@ -50,8 +61,9 @@ impl Places {
         requires full { IsFull self.old }
         requires room { HasRoomAt self.old key }
         ensures full { IsFull self.new }
-        ensures added { lists_of self.new ≡ slice_set (lists_of self.old) (key % 1021) (bucket (lists_of self.old) key ++ number ∷ []) }
+        ensures added { lists_of self.new ≡ pushed (lists_of self.old) key number }
     {
-        self.lists[key as usize % 1021].push_reserved(number);
+        let slot = self.slot(key);
+        self.lists[slot].push_reserved(number);
     }
 }

@@ -1,6 +1,6 @@
 //! The rows that a new row meets, among those that an index gives.
 
-ghost use Rattle.std.specs.Prelude.{◌≡◌, ◌<◌, ℕ, IfOk, All, map, length, None, Some, true, slice_get, MatchOption, vec_capacity};
+ghost use Rattle.std.specs.Prelude.{◌≡◌, ◌<◌, ◌≤◌, ℕ, IfOk, All, map, length, None, Some, true, slice_get, MatchOption, vec_capacity};
 ghost use Rattle.std.specs.List.{find, filter};
 ghost use Rattle.chart_model.specs.Chart.{partial_task, host_task, rule_tasks};
 ghost use Rattle.chart_model.specs.Picked.{picked};
@@ -8,7 +8,6 @@ ghost use Rattle.chart_core.specs.View.{Belongs, rows_of, into_of, list_of, task
 ghost use Rattle.chart_core.specs.Tests.{at_place, is_peer, is_next_host, partner_rule};
 ghost use Rattle.chart_core.specs.Verdicts.{Holds, AreRight};
 ghost use Rattle.chart_core.specs.Copies.{IsCopy};
-ghost use Rattle.chart_model.specs.At.{At};
 
 use crate::history::TaskRow;
 use crate::tuples::{any_among, first_frosted};
@@ -16,16 +15,31 @@ use crate::{Peer, Row, RowId, RowKind, Verdict};
 use cover::{Cover, NoMemory, Shapes};
 use std::alloc::Global;
 
-// What was found of this row before, if anything was.
-fn verdict_on(tested: &[Verdict], place: u64) -> Option<Verdict>
-    ensures { MatchOption result (Unit {0}) (λ v. (v.row.0 ≡ place) × ((i : ℕ) × At tested.now i v)) }
+// The first place from this one on of a verdict on this row or a later one. Verdicts and rows rise, so that a walk over rows
+// passes each verdict once.
+fn first_from(tested: &[Verdict], from: usize, row: u64) -> usize
+    ensures { (v : _) → slice_get tested.now result ≡ Some v → row ≤ v.row.0 }
 {
-    for verdict in tested {
-        if verdict.row.0 == place {
-            return Some(*verdict);
-        }
+    let mut place = from;
+    while place < tested.len() && tested[place].row.0 < row {
+        place += 1;
     }
-    None
+    place
+}
+
+// The verdict at this place, if it is one on this row.
+fn verdict_at(tested: &[Verdict], place: usize, row: u64) -> Option<Verdict>
+    ensures { MatchOption result (Unit {0}) (λ v. (v.row.0 ≡ row) × (slice_get tested.now place ≡ Some v)) }
+{
+    if place >= tested.len() {
+        return None;
+    }
+    let found = tested[place];
+    if found.row.0 == row {
+        Some(found)
+    } else {
+        None
+    }
 }
 
 // Whether the row is a live host of this cover and level whose shape subsumes this one.
@@ -110,9 +124,11 @@ pub fn first_over<S: Shapes>(
     requires tested { AreRight (S.calculus shapes.now) (S.meaning shapes.now) (S.meaning shapes.now shape.now) rows.now tested.now }
     ensures { IfOk result (λ o. o ≡ find (at_place (is_peer (S.calculus shapes.now) (S.meaning shapes.now) (λ h. (S.calculus shapes.now).over h (S.meaning shapes.now shape.now)) cover.now level) rows.now) places.now) }
 {
+    let mut next = 0;
     for place in places {
         let row = &rows[*place as usize];
-        let verdict = verdict_on(tested, *place);
+        next = first_from(tested, next, *place);
+        let verdict = verdict_at(tested, next, *place);
         if is_over(row, shapes, work, verdict, cover, level, shape)? {
             return Ok(Some(*place));
         }
@@ -139,9 +155,11 @@ pub fn all_under<S: Shapes>(
     ensures { IfOk result (λ v. v.items ≡ filter (at_place (is_peer (S.calculus shapes.now) (S.meaning shapes.now) ((S.calculus shapes.now).over (S.meaning shapes.now shape.now)) cover.now level) rows.now) places.now) }
 {
     let mut found = Vec::new(alloc);
+    let mut next = 0;
     for place in places {
         let row = &rows[*place as usize];
-        let verdict = verdict_on(tested, *place);
+        next = first_from(tested, next, *place);
+        let verdict = verdict_at(tested, next, *place);
         if is_under(row, shapes, work, verdict, cover, level, shape)? {
             found.push(*place)?;
         }
@@ -150,20 +168,13 @@ pub fn all_under<S: Shapes>(
 }
 
 // Whether the row is a live host of level at most `unary` whose cover joins this one on the right.
-fn is_right_partner<S: Shapes>(
-    alloc: Global,
-    row: &Row<S>,
-    shapes: &S,
-    unary: u32,
-    cover: &S::Cover,
-) -> Result<bool, NoMemory>
-    ensures { IfOk result (λ yes. yes ≡ is_next_host (S.calculus shapes.now) unary cover.now row.now) }
+fn is_right_partner<S: Shapes>(row: &Row<S>, shapes: &S, unary: u32, cover: &S::Cover) -> bool
+    ensures { result ≡ is_next_host (S.calculus shapes.now) unary cover.now row.now }
 {
-    if row.shape.is_none() || row.into.is_some() || row.level > unary {
-        return Ok(false);
-    }
-    let joined = cover.join(alloc, &row.cover, shapes.bound())?;
-    Ok(joined.is_some())
+    row.shape.is_some()
+        && row.into.is_none()
+        && row.level <= unary
+        && cover.joins(&row.cover, shapes.bound())
 }
 
 /// The tasks of a new partial: one with each of these rows that is a live host whose cover joins its cover on the right.
@@ -184,7 +195,7 @@ pub fn partial_pairs<S: Shapes>(
     let mut found = Vec::new(alloc);
     for place in places {
         let row = &rows[*place as usize];
-        if is_right_partner(alloc, row, shapes, unary, cover)? {
+        if is_right_partner(row, shapes, unary, cover) {
             found.push(TaskRow {
                 rule,
                 partial: Some(RowId(number)),
@@ -198,24 +209,26 @@ pub fn partial_pairs<S: Shapes>(
 
 // The rule of the row, where it is a partial that stays live as these rows are frosted, and its cover joins this one on the left.
 fn left_partner<S: Shapes>(
-    alloc: Global,
     row: &Row<S>,
     rows: &[Row<S>],
     shapes: &S,
     frosted: &[u64],
     cover: &S::Cover,
-) -> Result<Option<u32>, NoMemory>
+) -> Option<u32>
     requires { All (λ d. d < length rows.now) (list_of row.now.daughters) }
-    ensures { IfOk result (λ o. (n : ℕ) → o ≡ partner_rule (S.calculus shapes.now) (write_all (into_of rows.now) frosted.now n) cover.now row.now) }
+    ensures { (n : ℕ) → result ≡ partner_rule (S.calculus shapes.now) (write_all (into_of rows.now) frosted.now n) cover.now row.now }
 {
     let RowKind::Partial { rule } = row.kind else {
-        return Ok(None);
+        return None;
     };
     if first_frosted(rows, &row.daughters).is_some() || any_among(frosted, &row.daughters) {
-        return Ok(None);
+        return None;
     }
-    let joined = row.cover.join(alloc, cover, shapes.bound())?;
-    Ok(if joined.is_some() { Some(rule) } else { None })
+    if row.cover.joins(cover, shapes.bound()) {
+        Some(rule)
+    } else {
+        None
+    }
 }
 
 /// The tasks of a new host, which frosts some rows, with each of these rows that is a live partial then and whose cover
@@ -237,7 +250,7 @@ pub fn host_pairs<S: Shapes>(
     let mut found = Vec::new(alloc);
     for place in places {
         let row = &rows[*place as usize];
-        if let Some(rule) = left_partner(alloc, row, rows, shapes, frosted, cover)? {
+        if let Some(rule) = left_partner(row, rows, shapes, frosted, cover) {
             found.push(TaskRow {
                 rule,
                 partial: Some(RowId(*place)),

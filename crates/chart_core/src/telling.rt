@@ -8,7 +8,9 @@ use cover::{Cover, NoMemory, Shapes};
 use std::alloc::Global;
 
 impl<S: Shapes> Core<S> {
-    ghost use Rattle.std.specs.Prelude.{◌≡◌, ◌<◌, All, IfOk, OnErr, MatchResult};
+    ghost use Rattle.std.specs.Prelude.{◌≡◌, ◌<◌, ℕ, All, IfOk, OnErr, MatchResult, Some, slice_get};
+    ghost use Rattle.chart_core.specs.CoreView.{chart_of, history_of};
+    ghost use Rattle.chart_core.specs.Steps.{IsDoneAt};
     ghost use Rattle.chart_core.specs.Grammar.{grammar_of, keys_of};
     ghost use Rattle.chart_core.specs.Kept.{IsCore, tasks_of, places_of};
     ghost use Rattle.chart_core.specs.Calls.{Tells, IsOpenIn, IsInfo, ArePeers};
@@ -16,7 +18,7 @@ impl<S: Shapes> Core<S> {
 
     /// How a task stands.
     ///
-    /// `Done` exactly where it is done, with the place of its entry. Else `Skipped` exactly where a daughter is frosted, with the
+    /// `Done` exactly where it is done, with the place of its entry; each entry of the history is of a task that is. Else `Skipped` exactly where a daughter is frosted, with the
     /// first. Else `Ready` with the rule and equal shapes and covers of the daughters. `NoMemory` may stand in place of
     /// `Ready` alone. An outcome that is right for what was told stays right while outcomes of other tasks are entered.
     pub fn ready(&self, alloc: Global, shapes: &S, task: TaskId) -> Result<Ready<S>, NoMemory>
@@ -28,6 +30,9 @@ impl<S: Shapes> Core<S> {
             → IsCore (grammar_of S.Shapes S.Cover.Cover.own shapes.now) later
             → IsLater (grammar_of S.Shapes S.Cover.Cover.own shapes.now) self.now later
             → StaysRight (grammar_of S.Shapes S.Cover.Cover.own shapes.now) later task.0 r) }
+        ensures entered { (place : ℕ) (e : _)
+            → slice_get (history_of (S.meaning shapes.now) self.now) place ≡ Some e
+            → IsDoneAt (chart_of (S.meaning shapes.now) self.now) e.task place }
     {
         match self.standing(shapes, task) {
             Standing::Done(place) => Ok(Ready::Done { place }),

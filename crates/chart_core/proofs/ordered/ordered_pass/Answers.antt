@@ -1,5 +1,4 @@
-use Rattle.std.proofs.Common.{◌∙◌, sym, ap}
-use Rattle.cover.specs.Calculus.{Calculus}
+use Rattle.std.proofs.Common.{◌∙◌}
 use Rattle.chart_core.specs.Grammar.{grammar_of}
 use Rattle.chart_core.proofs.Passes.{falls_by, ended}
 use Rattle.chart_core.proofs.ordered.ordered_pass.Goals as goal

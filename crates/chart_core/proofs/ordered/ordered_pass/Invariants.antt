@@ -1,8 +1,6 @@
-use Rattle.std.proofs.Common.{◌≡◌, map}
+use Rattle.std.proofs.Common.{◌≡◌}
 use Rattle.chart_model.proofs.Order.{rank}
 use Rattle.chart_core.specs.Grammar.{grammar_of}
-use Rattle.chart_core.specs.Leaves.{leaf_seen}
-use Rattle.chart_core.specs.Kept.{limits_seen}
 use Rattle.chart_core.specs.CoreView.{leaves_of, limits_of}
 use Rattle.chart_core.specs.Passing.{IsPassing}
 use Rattle.chart_core.proofs.ordered.ordered_pass.Given as goal

@@ -36,4 +36,4 @@ is_over-requires-clause-verdict g c =
     let rows = c.args.rows.now in
     let p = get_or c.args.places.now c.loop-place.place-index 0 in
     let below : p < length rows = c.requires.places c.loop-place.place-index 0 c.loop-place-test.true in
-    verdict_right (g.S.Shapes.calculus c.args.shapes.now) (g.S.Shapes.meaning c.args.shapes.now) (g.S.Shapes.meaning c.args.shapes.now c.args.shape.now) rows c.args.tested.now p c.index-rows-place.result c.verdict_on-verdict.result c.requires.tested (get_here rows p c.index-rows-place.result below c.index-rows-place.is) c.verdict_on-verdict.ensures
+    verdict_right (g.S.Shapes.calculus c.args.shapes.now) (g.S.Shapes.meaning c.args.shapes.now) (g.S.Shapes.meaning c.args.shapes.now c.args.shape.now) rows c.args.tested.now _ p c.index-rows-place.result c.verdict_at-verdict.result c.requires.tested (get_here rows p c.index-rows-place.result below c.index-rows-place.is) c.verdict_at-verdict.ensures

@@ -24,14 +24,14 @@ loop-place-preserved g c =
     let is = row_got m rows p row below c.index-rows-place.is in
     let all = picked k f get places in
     let next = picked k f get (drop (i + 1) places) in
-    elim c.match-branch-2.branch [
+    elim c.match-left_partner.branch [
       | in-Some+in_ok-push w ↦
           (let t : TaskRow = record { rule = w.in-Some.rule; partial = Some (record { 0 = p }); host = record { 0 = c.args.number }; done = None } in
-          let e : c.match-branch-2.found.items ≡ c.loop-place.found.items ++ t ∷ [] = let h = w.found-is in let x = w.in_ok-push.ensures.items in cc in
-          let gives = partial_test k m (write_all (into_of rows) c.args.frosted.now c.args.number) c.args.cover.now c.args.number p row (Some w.in-Some.rule) (sym (c.in_ok-rule.ensures c.args.number) ∙ w.in-Some.is) in
+          let e : c.match-left_partner.found.items ≡ c.loop-place.found.items ++ t ∷ [] = let h = w.found-is in let x = w.in_ok-push.ensures.items in cc in
+          let gives = partial_test k m (write_all (into_of rows) c.args.frosted.now c.args.number) c.args.cover.now c.args.number p row (Some w.in-Some.rule) (sym (c.left_partner.ensures c.args.number) ∙ w.in-Some.is) in
           record { fresh = subst (All (λ t. t.done ≡ None)) (sym e) (grind (arith, common_steps, c.loop-place.invariant.fresh)); pairs = subst (λ xs. map task_of xs ++ next ≡ all) (sym e) (pick_some k f get places i (row_of m row) c.loop-place.found.items t all l is gives c.loop-place.invariant.pairs) })
       | in_default w ↦
-          (let e : c.match-branch-2.found.items ≡ c.loop-place.found.items = let h = w.found-is in cc in
-          let gives = partial_test k m (write_all (into_of rows) c.args.frosted.now c.args.number) c.args.cover.now c.args.number p row None (sym (c.in_ok-rule.ensures c.args.number) ∙ w.in_default.is) in
+          (let e : c.match-left_partner.found.items ≡ c.loop-place.found.items = let h = w.found-is in cc in
+          let gives = partial_test k m (write_all (into_of rows) c.args.frosted.now c.args.number) c.args.cover.now c.args.number p row None (sym (c.left_partner.ensures c.args.number) ∙ w.in_default.is) in
           record { fresh = subst (All (λ t. t.done ≡ None)) (sym e) c.loop-place.invariant.fresh; pairs = subst (λ xs. map task_of xs ++ next ≡ all) (sym e) (pick_none k f get places i (row_of m row) c.loop-place.found.items all l is gives c.loop-place.invariant.pairs) })
     ]

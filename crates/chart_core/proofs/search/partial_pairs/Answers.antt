@@ -6,7 +6,7 @@ use Rattle.chart_core.specs.declared.history.TaskRow.{TaskRow}
 use Rattle.chart_core.specs.View.{row_of, rows_of, into_of, task_of}
 use Rattle.chart_core.proofs.Picks.{row_got, pick_some, pick_none, host_test}
 use Rattle.chart_core.proofs.search.partial_pairs.Goals as goal
-use Rattle.chart_core.proofs.search.partial_pairs.Goals.{then-branch+in_ok-push, else-branch}
+use Rattle.chart_core.proofs.search.partial_pairs.Goals.{then-is_right_partner+in_ok-push, else-is_right_partner}
 
 pub loop-place-preserved : goal.loop-place-preserved
 loop-place-preserved g c =
@@ -24,14 +24,14 @@ loop-place-preserved g c =
     let is = row_got m rows p row below c.index-rows-place.is in
     let all = picked k f get places in
     let next = picked k f get (drop (i + 1) places) in
-    elim c.if-branch.branch [
-      | then-branch+in_ok-push w ↦
+    elim c.if-is_right_partner.branch [
+      | then-is_right_partner+in_ok-push w ↦
           (let t : TaskRow = record { rule = c.args.rule; partial = Some (record { 0 = c.args.number }); host = record { 0 = p }; done = None } in
-          let e : c.if-branch.found.items ≡ c.loop-place.found.items ++ t ∷ [] = let h = w.found-is in let x = w.in_ok-push.ensures.items in cc in
-          let gives = host_test k m rows c.args.unary c.args.rule c.args.number p c.args.cover.now row true below c.index-rows-place.is (sym c.in_ok-is_right_partner.ensures ∙ w.if-branch.true) in
+          let e : c.if-is_right_partner.found.items ≡ c.loop-place.found.items ++ t ∷ [] = let h = w.found-is in let x = w.in_ok-push.ensures.items in cc in
+          let gives = host_test k m rows c.args.unary c.args.rule c.args.number p c.args.cover.now row true below c.index-rows-place.is (sym c.is_right_partner.ensures ∙ w.if-is_right_partner.true) in
           record { fresh = subst (All (λ t. t.done ≡ None)) (sym e) (grind (arith, common_steps, c.loop-place.invariant.fresh)); pairs = subst (λ xs. map task_of xs ++ next ≡ all) (sym e) (pick_some k f get places i (row_of m row) c.loop-place.found.items t all l is gives c.loop-place.invariant.pairs) })
-      | else-branch w ↦
-          (let e : c.if-branch.found.items ≡ c.loop-place.found.items = let h = w.found-is in cc in
-          let gives = host_test k m rows c.args.unary c.args.rule c.args.number p c.args.cover.now row false below c.index-rows-place.is (sym c.in_ok-is_right_partner.ensures ∙ w.if-branch.false) in
+      | else-is_right_partner w ↦
+          (let e : c.if-is_right_partner.found.items ≡ c.loop-place.found.items = let h = w.found-is in cc in
+          let gives = host_test k m rows c.args.unary c.args.rule c.args.number p c.args.cover.now row false below c.index-rows-place.is (sym c.is_right_partner.ensures ∙ w.if-is_right_partner.false) in
           record { fresh = subst (All (λ t. t.done ≡ None)) (sym e) c.loop-place.invariant.fresh; pairs = subst (λ xs. map task_of xs ++ next ≡ all) (sym e) (pick_none k f get places i (row_of m row) c.loop-place.found.items all l is gives c.loop-place.invariant.pairs) })
     ]

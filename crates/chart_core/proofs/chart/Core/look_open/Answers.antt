@@ -1,5 +1,5 @@
 use Rattle.std.proofs.Common.{arith, sym, subst, ap, ◌∙◌, All, ◌<◌, length}
-use Rattle.chart_core.specs.Grammar.{Grammar, grammar_of}
+use Rattle.chart_core.specs.Grammar.{grammar_of}
 use Rattle.chart_core.specs.View.{list_of, rows_of}
 use Rattle.chart_core.specs.Tests.{IsLow}
 use Rattle.chart_core.specs.Copies.{IsWholeAt, ArePartsOf}

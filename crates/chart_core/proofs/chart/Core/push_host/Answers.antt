@@ -1,14 +1,14 @@
-use Rattle.std.proofs.Common.{◌≡◌, ℕ, ◌∙◌, ◌+◌, ◌<◌, ◌≤◌, ◌++◌, ◌%◌, [], ◌∷◌, refl, sym, ap, subst, map, All, None, Some, length, arith, slice_set, vec_capacity}
+use Rattle.std.proofs.Common.{◌≡◌, ℕ, ◌∙◌, ◌+◌, ◌<◌, ◌≤◌, ◌++◌, [], ◌∷◌, refl, sym, ap, subst, map, All, None, Some, length, arith, vec_capacity}
 use Rattle.std.specs.List.{filter}
-use Rattle.std.proofs.lemmas.List.{length-map}
 use Rattle.chart_model.specs.Chart as model
 use Rattle.chart_core.specs.declared.Row.{Row}
 use Rattle.chart_core.specs.Grammar.{keys_of}
-use Rattle.chart_core.specs.Lists.{lists_of, bucket}
+use Rattle.chart_core.specs.Lists.{lists_of, bucket, pushed}
 use Rattle.chart_core.specs.CoreView.{limits_of}
 use Rattle.chart_core.specs.View.{rows_of, into_of, task_of, write_all, KeepsRows}
 use Rattle.chart_core.specs.Tests.{at_place, is_peer}
 use Rattle.chart_core.proofs.Found.{all_at}
+use Rattle.chart_core.proofs.Index.{full_lists}
 use Rattle.chart_core.proofs.Grows.{rows_count}
 use Rattle.chart_core.proofs.Frost.{frost_found}
 use Rattle.chart_core.proofs.Host.{chart_host, chart_alike, belongs_host, sound_host, sound_alike, kept_below}
@@ -88,29 +88,29 @@ returns-clause-sound g c =
     let now = c.room_for_host.ensures.same.rows in
     let into : into_of next ≡ write_all (into_of rows) c.in_ok-under.under.items n = c.freeze.ensures.into ∙ ap (λ rs. write_all (into_of rs) c.deref-3.result.now n) now ∙ ap (λ ps. write_all (into_of rows) ps n) c.deref-3.ensures.value in
     let keeps : KeepsRows rows next = subst (λ rs. KeepsRows rs next) now c.freeze.ensures.rows in
-    let pushed : c.push_reserved-3.new.self.items ≡ next ++ w ∷ [] = c.push_reserved-3.ensures.items ∙ ap (λ x. next ++ x ∷ []) c.into_row.ensures in
+    let last : c.push_reserved-3.new.self.items ≡ next ++ w ∷ [] = c.push_reserved-3.ensures.items ∙ ap (λ x. next ++ x ∷ []) c.into_row.ensures in
     let appended : c.append.new.self.items ≡ core.tasks.items ++ found = c.in_ok-append.ensures.items ∙ ap (λ xs. xs ++ found) c.room_for_host.ensures.same.tasks in
     let is : n ≡ length rows = omega arith in
     let bigger = vec_capacity c.room_for_host.new.self.history in
     let fits : length core.tasks.items + length found ≤ bigger = (let a = c.in_ok-room_for_host.ensures.entries in let b = ap length c.room_for_host.ensures.same.tasks in omega (arith, a, b)) in
-    let cells : lists_of c.push_reserved.new.self ≡ slice_set (lists_of core.cells) (g.S.Cover.Cover.cell_of new.cover % 1021) (bucket (lists_of core.cells) (g.S.Cover.Cover.cell_of new.cover) ++ length rows ∷ []) =
+    let cells : lists_of c.push_reserved.new.self ≡ pushed (lists_of core.cells) (g.S.Cover.Cover.cell_of new.cover) (length rows) =
     c.push_reserved.ensures.added
-    ∙ ap (λ ls. slice_set ls (c.cell-cell.result % 1021) (bucket ls c.cell-cell.result ++ n ∷ [])) c.room_for_host.ensures.same.cells
-    ∙ ap (λ n. slice_set (lists_of core.cells) (c.cell-cell.result % 1021) (bucket (lists_of core.cells) c.cell-cell.result ++ n ∷ [])) is
-    ∙ ap (λ x. slice_set (lists_of core.cells) (x % 1021) (bucket (lists_of core.cells) x ++ length rows ∷ [])) c.cell-cell.ensures in
-    let begins : lists_of c.push_reserved-2.new.self ≡ slice_set (lists_of core.begins) (g.S.Cover.Cover.begins new.cover % 1021) (bucket (lists_of core.begins) (g.S.Cover.Cover.begins new.cover) ++ length rows ∷ []) =
+    ∙ ap (λ ls. pushed ls c.cell-cell.result n) c.room_for_host.ensures.same.cells
+    ∙ ap (pushed (lists_of core.cells) c.cell-cell.result) is
+    ∙ ap (λ x. pushed (lists_of core.cells) x (length rows)) c.cell-cell.ensures in
+    let begins : lists_of c.push_reserved-2.new.self ≡ pushed (lists_of core.begins) (g.S.Cover.Cover.begins new.cover) (length rows) =
     c.push_reserved-2.ensures.added
-    ∙ ap (λ ls. slice_set ls (c.begin-begin.result % 1021) (bucket ls c.begin-begin.result ++ n ∷ [])) c.room_for_host.ensures.same.begins
-    ∙ ap (λ n. slice_set (lists_of core.begins) (c.begin-begin.result % 1021) (bucket (lists_of core.begins) c.begin-begin.result ++ n ∷ [])) is
-    ∙ ap (λ x. slice_set (lists_of core.begins) (x % 1021) (bucket (lists_of core.begins) x ++ length rows ∷ [])) c.begin-begin.ensures in
+    ∙ ap (λ ls. pushed ls c.begin-begin.result n) c.room_for_host.ensures.same.begins
+    ∙ ap (pushed (lists_of core.begins) c.begin-begin.result) is
+    ∙ ap (λ x. pushed (lists_of core.begins) x (length rows)) c.begin-begin.ensures in
     record {
       full_cells = c.push_reserved.ensures.full;
       full_begins = c.push_reserved-2.ensures.full;
       full_ends = c.room_for_host.ensures.sound.full_ends;
       sound = sound_alike keys (next ++ w ∷ []) c.push_reserved-3.new.self.items (core.tasks.items ++ found) c.append.new.self.items core.history.items c.room_for_host.new.self.history.items bigger (core.made + 1) (c.room_for_host.new.self.made + 1)
-          (slice_set (lists_of core.cells) (g.S.Cover.Cover.cell_of new.cover % 1021) (bucket (lists_of core.cells) (g.S.Cover.Cover.cell_of new.cover) ++ length rows ∷ [])) (lists_of c.push_reserved.new.self)
-          (slice_set (lists_of core.begins) (g.S.Cover.Cover.begins new.cover % 1021) (bucket (lists_of core.begins) (g.S.Cover.Cover.begins new.cover) ++ length rows ∷ [])) (lists_of c.push_reserved-2.new.self)
+          (pushed (lists_of core.cells) (g.S.Cover.Cover.cell_of new.cover) (length rows)) (lists_of c.push_reserved.new.self)
+          (pushed (lists_of core.begins) (g.S.Cover.Cover.begins new.cover) (length rows)) (lists_of c.push_reserved-2.new.self)
           (lists_of core.ends) (lists_of c.room_for_host.new.self.ends)
-          (sound_host keys rows next c.in_ok-under.under.items n core.tasks.items core.history.items (vec_capacity core.history) core.made (lists_of core.cells) (lists_of core.begins) (lists_of core.ends) (length-map core.cells.lists.items (λ v. v.items) ∙ s.full_cells) (length-map core.begins.lists.items (λ v. v.items) ∙ s.full_begins) keeps into s.sound w c.requires.whole c.requires.daughters c.requires.in_range found c.in_ok-found.ensures.fresh bigger fits)
-          pushed appended c.room_for_host.ensures.same.history (ap (λ x. x + 1) c.room_for_host.ensures.same.made) cells begins c.room_for_host.ensures.same.ends;
+          (sound_host keys rows next c.in_ok-under.under.items n core.tasks.items core.history.items (vec_capacity core.history) core.made (lists_of core.cells) (lists_of core.begins) (lists_of core.ends) (full_lists core.cells s.full_cells) (full_lists core.begins s.full_begins) keeps into s.sound w c.requires.whole c.requires.daughters c.requires.in_range found c.in_ok-found.ensures.fresh bigger fits)
+          last appended c.room_for_host.ensures.same.history (ap (λ x. x + 1) c.room_for_host.ensures.same.made) cells begins c.room_for_host.ensures.same.ends;
     }

@@ -1,14 +1,13 @@
-use Rattle.std.proofs.Common.{◌≡◌, ℕ, ◌∙◌, ◌<◌, ◌++◌, ◌%◌, [], ◌∷◌, refl, sym, ap, subst, map, All, None, length, arith, slice_get, slice_set, vec_capacity}
-use Rattle.std.proofs.lemmas.List.{length-map}
+use Rattle.std.proofs.Common.{◌≡◌, ℕ, ◌∙◌, ◌<◌, ◌++◌, [], ◌∷◌, refl, sym, ap, subst, map, All, None, length, arith, slice_get, vec_capacity}
 use Rattle.chart_model.specs.Chart as model
 use Rattle.chart_model.specs.Picked.{picked}
 use Rattle.chart_core.specs.declared.RowKind.TheVariants as kinds
 use Rattle.chart_core.specs.declared.Row.{Row}
-use Rattle.chart_core.specs.Lists.{lists_of, bucket}
+use Rattle.chart_core.specs.Lists.{lists_of, bucket, pushed}
 use Rattle.chart_core.specs.View.{rows_of, into_of, task_of}
 use Rattle.chart_core.specs.Grammar.{Keys}
 use Rattle.chart_core.specs.Sound.{is_host, is_partial_kind}
-use Rattle.chart_core.proofs.Index.{lists_kept, lists_pushed}
+use Rattle.chart_core.proofs.Index.{lists_kept, lists_pushed, full_lists}
 use Rattle.chart_core.proofs.Found.{all_at, hosts_found}
 use Rattle.chart_core.proofs.Grows.{chart_pushed, chart_same, rows_count, sound_row, sound_like}
 use Rattle.chart_core.proofs.chart.Core.push_partial.Goals as goal
@@ -63,22 +62,21 @@ returns-clause-sound g c =
     let bigger = vec_capacity c.reserve-3.new.self in
     let key = c.end-key.result in
     let n : c.len-number.result ≡ length core.rows.items = omega arith in
-    let full : length (lists_of core.ends) ≡ 1021 = length-map core.ends.lists.items (λ v. v.items) ∙ s.full_ends in
-    let ends : lists_of c.push_reserved.new.self ≡ slice_set (lists_of core.ends) (g.S.Cover.Cover.ends c.args.cover % 1021) (bucket (lists_of core.ends) (g.S.Cover.Cover.ends c.args.cover) ++ length core.rows.items ∷ []) =
+    let ends : lists_of c.push_reserved.new.self ≡ pushed (lists_of core.ends) (g.S.Cover.Cover.ends c.args.cover) (length core.rows.items) =
     c.push_reserved.ensures.added
-    ∙ ap (λ ls. slice_set ls (key % 1021) (bucket ls key ++ c.len-number.result ∷ [])) c.in_ok-reserve.ensures.same
-    ∙ ap (λ n. slice_set (lists_of core.ends) (key % 1021) (bucket (lists_of core.ends) key ++ n ∷ [])) n
-    ∙ ap (λ x. slice_set (lists_of core.ends) (x % 1021) (bucket (lists_of core.ends) x ++ length core.rows.items ∷ [])) c.end-key.ensures in
+    ∙ ap (λ ls. pushed ls key c.len-number.result) c.in_ok-reserve.ensures.same
+    ∙ ap (pushed (lists_of core.ends) key) n
+    ∙ ap (λ x. pushed (lists_of core.ends) x (length core.rows.items)) c.end-key.ensures in
     record {
       full_cells = s.full_cells;
       full_begins = s.full_begins;
       full_ends = c.push_reserved.ensures.full;
-      sound = sound_like keys (core.rows.items ++ w ∷ []) c.push_reserved-2.new.self.items (core.tasks.items ++ found) c.append.new.self.items core.history.items c.reserve-3.new.self.items bigger bigger core.made (lists_of core.cells) (lists_of core.begins) (slice_set (lists_of core.ends) (g.S.Cover.Cover.ends c.args.cover % 1021) (bucket (lists_of core.ends) (g.S.Cover.Cover.ends c.args.cover) ++ length core.rows.items ∷ [])) (lists_of c.push_reserved.new.self)
+      sound = sound_like keys (core.rows.items ++ w ∷ []) c.push_reserved-2.new.self.items (core.tasks.items ++ found) c.append.new.self.items core.history.items c.reserve-3.new.self.items bigger bigger core.made (lists_of core.cells) (lists_of core.begins) (pushed (lists_of core.ends) (g.S.Cover.Cover.ends c.args.cover) (length core.rows.items)) (lists_of c.push_reserved.new.self)
           (sound_row keys core.rows.items core.tasks.items core.history.items (vec_capacity core.history) core.made (lists_of core.cells) (lists_of core.begins) (lists_of core.ends) s.sound w c.requires.daughters c.requires.in_range found c.in_ok-found.ensures.fresh bigger core.made
           (omega (arith, c.in_ok-reserve-3.ensures.ok, c.len.ensures, c.len-2.ensures)) (omega (arith, s.sound.made_few))
-          (lists_of core.cells) (lists_of core.begins) (slice_set (lists_of core.ends) (g.S.Cover.Cover.ends c.args.cover % 1021) (bucket (lists_of core.ends) (g.S.Cover.Cover.ends c.args.cover) ++ length core.rows.items ∷ []))
+          (lists_of core.cells) (lists_of core.begins) (pushed (lists_of core.ends) (g.S.Cover.Cover.ends c.args.cover) (length core.rows.items))
           (lists_kept is_host (λ row. keys.cell row.cover) core.rows.items (lists_of core.cells) w refl s.sound.cells)
           (lists_kept is_host (λ row. keys.begins row.cover) core.rows.items (lists_of core.begins) w refl s.sound.begins)
-          (lists_pushed (λ row. is_partial_kind row.kind) (λ row. keys.ends row.cover) core.rows.items (lists_of core.ends) w full s.sound.ends))
+          (lists_pushed (λ row. is_partial_kind row.kind) (λ row. keys.ends row.cover) core.rows.items (lists_of core.ends) w (full_lists core.ends s.full_ends) s.sound.ends))
           rows c.in_ok-append.ensures.items c.in_ok-reserve-3.ensures.items (omega arith) ends;
     }

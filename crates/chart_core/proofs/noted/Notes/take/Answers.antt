@@ -1,4 +1,4 @@
-use Rattle.std.proofs.Common.{refl, sym}
+use Rattle.std.proofs.Common.{refl}
 use Rattle.chart_core.proofs.Keyed.{is_later, is_popped, is_taken}
 use Rattle.chart_core.proofs.noted.Notes.take.Goals as goal
 use Rattle.chart_core.proofs.noted.Notes.take.Goals.{then-first_size-size-via-then-first_size-size, then-first_size-size-via-else-first_size-size+then-first_level-level}

@@ -1,4 +1,4 @@
-use Rattle.std.proofs.Common.{refl, sym, ◌∙◌, subst, arith}
+use Rattle.std.proofs.Common.{sym, subst}
 use Rattle.chart_core.specs.Grammar.{grammar_of}
 use Rattle.chart_core.specs.Kept.{tasks_of}
 use Rattle.chart_core.specs.Passing.{IsTaking}

@@ -1,4 +1,3 @@
-use Rattle.std.proofs.Common.{ℕ, ◌≤◌, ◌-◌, ◌≡◌}
 use Rattle.chart_core.specs.Grammar.{grammar_of}
 use Rattle.chart_core.specs.Noted.{notes_len}
 use Rattle.chart_core.specs.Passing.{IsSure, GoesOn, IsEntering}

@@ -26,5 +26,5 @@ returns-clause-taking g c = λ short h.
     let i = c.loop-self.invariant in
     let ended = c.loop-self-test.false in
     rounded G (g.met.S.Shapes.laws s) c.loop-self.self i.sure c.tasks-far.result short
-    (i.taking short (subst (λ n. IsTaking G c.args.self.now n short) (sym c.tasks-far.ensures) h))
+    (i.taking short (subst (λ n. IsTaking G c.args.self.now n short) (sym c.tasks-far.ensures.made) h))
     (let n = i.inside in omega (arith, n, ended))

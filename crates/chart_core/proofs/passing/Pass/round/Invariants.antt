@@ -1,4 +1,4 @@
-use Rattle.std.proofs.Common.{ℕ, ◌≤◌, ◌-◌, ◌≡◌}
+use Rattle.std.proofs.Common.{ℕ, ◌≤◌, ◌-◌}
 use Rattle.chart_core.specs.Grammar.{grammar_of}
 use Rattle.chart_core.specs.Kept.{tasks_of}
 use Rattle.chart_core.specs.Passing.{IsSure, GoesOn, IsTaking}

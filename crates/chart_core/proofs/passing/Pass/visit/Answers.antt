@@ -1,5 +1,5 @@
 use Rattle.std.proofs.Common.{refl, subst, arith}
-use Rattle.chart_core.specs.Grammar.{Grammar, grammar_of}
+use Rattle.chart_core.specs.Grammar.{grammar_of}
 use Rattle.chart_core.specs.Passing.{IsFound}
 use Rattle.chart_core.proofs.Visits.{past_done, note_true, past_note, enter_true, past_enter}
 use Rattle.chart_core.proofs.passing.Pass.visit.Goals as goal
