@@ -1,5 +1,6 @@
 //! Commands of two kinds: those that make a whole report of their files, and those that answer lines.
 ghost use Rattle.std.specs.Prelude.{◌≡◌, true, false};
+ghost use Rattle.std.specs.Thread.{IsSync};
 ghost use Rattle.endings.specs.Meanings.{Meaning, shelves};
 ghost use Rattle.endings.specs.Reports.{streams};
 ghost use Rattle.endings.specs.Endings.{Ended, Made, Readied};
@@ -8,7 +9,7 @@ use crate::Fault;
 use crate::lines::{Answers, serve};
 use crate::pieces::{Report, put_report};
 use lkb_io::{Shelf, Sink, Source};
-use std::alloc::{AllocGlobal, Global};
+use std::alloc::Global;
 use std::sync::Wait;
 use std::thread::Threads;
 use worker_gate::Gate;
@@ -19,32 +20,35 @@ pub trait Whole {
     ghost meaning: { Self → Meaning };
 
     /// The report, or the first fault of the command's files.
-    fn report<S: Shelf, Rt: AllocGlobal + Threads + Wait + Sync, G: Gate>(
+    fn report<S: Shelf, Rt: Threads + Wait + Sync>(
         &self,
         rt: &Rt,
+        alloc: Global,
         shelf: &mut S,
-        gate: &G,
+        gate: &dyn Gate,
     ) -> Result<Report, Fault>
+        requires { IsSync Rt.row }
         ensures made { Made (meaning self.now) (shelves S.files S.faults S.asked shelf.old shelf.new) result }
         ensures unopened { (meaning self.now).opens ≡ false → shelf.new ≡ shelf.old };
 }
 
 /// Writes the report of such a command, and flushes.
-pub fn write_whole<
-    W: Whole,
-    S: Shelf,
-    I: Source,
-    O: Sink,
-    Rt: AllocGlobal + Threads + Wait + Sync,
-    G: Gate,
->(rt: &Rt, command: &W, shelf: &mut S, input: &mut I, out: &mut O, gate: &G) -> Result<bool, Fault>
+pub fn write_whole<W: Whole, S: Shelf, I: Source, O: Sink, Rt: Threads + Wait + Sync>(
+    rt: &Rt,
+    alloc: Global,
+    command: &W,
+    shelf: &mut S,
+    input: &mut I,
+    out: &mut O,
+    gate: &dyn Gate,
+) -> Result<bool, Fault>
     requires { (W.meaning command.now).reads ≡ false }
     ensures ended { Ended (W.meaning command.now) (shelves S.files S.faults S.asked shelf.old shelf.new) (streams I.left I.faults O.written O.flushed O.faults input.old input.new out.old out.new)
         (input.new ≡ input.old) ((input.new ≡ input.old) × (out.new ≡ out.old)) result }
     ensures unopened { (W.meaning command.now).opens ≡ false → shelf.new ≡ shelf.old }
 {
     let _input = input;
-    let report = command.report(rt, shelf, gate)?;
+    let report = command.report(rt, alloc, shelf, gate)?;
     let refused = put_report(&report, out)?;
     Ok(refused)
 }
@@ -64,20 +68,21 @@ pub trait ByLines {
 }
 
 /// Answers all lines of the source, and flushes.
-pub fn answer_lines<
-    L: ByLines,
-    S: Shelf,
-    I: Source,
-    O: Sink,
-    Rt: AllocGlobal + Threads + Wait + Sync,
-    G: Gate,
->(rt: &Rt, command: &L, shelf: &mut S, input: &mut I, out: &mut O, gate: &G) -> Result<bool, Fault>
+pub fn answer_lines<L: ByLines, S: Shelf, I: Source, O: Sink, Rt: Threads + Wait + Sync>(
+    rt: &Rt,
+    alloc: Global,
+    command: &L,
+    shelf: &mut S,
+    input: &mut I,
+    out: &mut O,
+    gate: &dyn Gate,
+) -> Result<bool, Fault>
     requires { (L.meaning command.now).reads ≡ true }
     ensures ended { Ended (L.meaning command.now) (shelves S.files S.faults S.asked shelf.old shelf.new) (streams I.left I.faults O.written O.flushed O.faults input.old input.new out.old out.new)
         (input.new ≡ input.old) ((input.new ≡ input.old) × (out.new ≡ out.old)) result }
     ensures unopened { (L.meaning command.now).opens ≡ false → shelf.new ≡ shelf.old }
 {
-    let loaded = command.load(rt.alloc(), shelf)?;
-    let refused = serve(rt, &loaded, input, out, gate)?;
+    let loaded = command.load(alloc, shelf)?;
+    let refused = serve(rt, alloc, &loaded, input, out, gate)?;
     Ok(refused)
 }

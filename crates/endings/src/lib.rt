@@ -3,6 +3,7 @@
 
 ghost use Rattle.std.specs.Prelude.{◌≡◌, ◌++◌, ◌⊎◌, ℕ, List, Bool, Option, Some, Result, Ok, true, false};
 ghost use Rattle.std.specs.List.{concat};
+ghost use Rattle.std.specs.Thread.{IsSync};
 ghost use Rattle.lkb_io.specs.Outside.{HasRisen};
 ghost use Rattle.lkb_io.specs.Lines.{lines_of};
 ghost use Rattle.endings.specs.Meanings.{Meaning, Lawful, FileFault, Fails, shelves};
@@ -17,7 +18,7 @@ pub mod pieces;
 pub mod plain;
 
 use lkb_io::{Shelf, Sink, Source, put_all};
-use std::alloc::AllocGlobal;
+use std::alloc::Global;
 use std::sync::Wait;
 use std::thread::Threads;
 use worker_gate::Gate;
@@ -110,14 +111,16 @@ pub trait Command {
         ensures { Lawful (meaning self.now) };
 
     /// Does what the command says. `Ok` tells whether something is refused.
-    fn perform<S: Shelf, I: Source, O: Sink, Rt: AllocGlobal + Threads + Wait + Sync, G: Gate>(
+    fn perform<S: Shelf, I: Source, O: Sink, Rt: Threads + Wait + Sync>(
         &self,
         rt: &Rt,
+        alloc: Global,
         shelf: &mut S,
         input: &mut I,
         out: &mut O,
-        gate: &G,
+        gate: &dyn Gate,
     ) -> Result<bool, Fault>
+        requires { IsSync Rt.row }
         ensures ended { Ended (meaning self.now) (shelves S.files S.faults S.asked shelf.old shelf.new) (streams I.left I.faults O.written O.flushed O.faults input.old input.new out.old out.new)
             (input.new ≡ input.old) ((input.new ≡ input.old) × (out.new ≡ out.old)) result }
         ensures unopened { (meaning self.now).opens ≡ false → shelf.new ≡ shelf.old };
@@ -177,15 +180,16 @@ pub fn conclude<X: Sink>(err: &mut X, end: &Result<bool, Fault>) -> Status
 
 /// Does what the command says, tells a fault on `err` by its text, and ends with the command's status. A fault of
 /// `err` itself changes nothing. What the workers are, and when the gate lets them go on, no clause names.
-pub fn run_command<
-    C: Command,
-    S: Shelf,
-    I: Source,
-    O: Sink,
-    X: Sink,
-    Rt: AllocGlobal + Threads + Wait + Sync,
-    G: Gate,
->(rt: &Rt, command: &C, shelf: &mut S, input: &mut I, out: &mut O, err: &mut X, gate: &G) -> Status
+pub fn run_command<C: Command, S: Shelf, I: Source, O: Sink, X: Sink, Rt: Threads + Wait + Sync>(
+    rt: &Rt,
+    alloc: Global,
+    command: &C,
+    shelf: &mut S,
+    input: &mut I,
+    out: &mut O,
+    err: &mut X,
+    gate: &dyn Gate,
+) -> Status
     // How the run ended. The status, and what was told of a fault, are those of this end.
     ensures ended { let h = shelves S.files S.faults S.asked shelf.old shelf.new in
         let o = streams I.left I.faults O.written O.flushed O.faults input.old input.new out.old out.new in
@@ -250,6 +254,6 @@ pub fn run_command<
         → (pieces ≡ others) × (refused ≡ may) }
 {
     command.lawful();
-    let end = command.perform(rt, shelf, input, out, gate);
+    let end = command.perform(rt, alloc, shelf, input, out, gate);
     conclude(err, &end)
 }

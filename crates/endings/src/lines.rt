@@ -1,12 +1,13 @@
 //! The run over lines: each line of a source is answered, and the answer written.
 ghost use Rattle.std.specs.Prelude.{◌≡◌, ℕ, ◌≤◌, List, [], Bool, map, IfOk, OnOk, OnErr};
+ghost use Rattle.std.specs.Thread.{IsSync};
 ghost use Rattle.lkb_io.specs.Outside.{HasRisen, Adds};
 ghost use Rattle.endings.specs.Reports.{AreAnswers, Served, ServedLine, streams};
 
 use crate::Stop;
 use crate::pieces::{Report, flush_at_stop, put_lines};
 use lkb_io::{Failed, Held, LineFault, Sink, Source, read_line};
-use std::alloc::AllocGlobal;
+use std::alloc::Global;
 use std::sync::Wait;
 use std::thread::Threads;
 use worker_gate::Gate;
@@ -21,13 +22,15 @@ pub trait Answers {
     ghost IsAnswer: { Self → ℕ → List ℕ → List (List ℕ) → Bool → Type 0 };
 
     /// The answer to the line of this number. Lines are numbered from 1.
-    fn answer<Rt: AllocGlobal + Threads + Wait + Sync, G: Gate>(
+    fn answer<Rt: Threads + Wait + Sync>(
         &self,
         rt: &Rt,
+        alloc: Global,
         number: u64,
         line: &[u8],
-        gate: &G,
+        gate: &dyn Gate,
     ) -> Result<Report, NoMemory>
+        requires { IsSync Rt.row }
         ensures { IfOk result (λ a. IsAnswer self.now number line.now (map (λ l. l.items) a.lines.items) a.refused) };
 }
 
@@ -66,18 +69,19 @@ impl From<NoMemory> for Stop {
 }
 
 // Answers one line. `Ok` tells whether it is refused.
-fn serve_line<C: Answers, O: Sink, Rt: AllocGlobal + Threads + Wait + Sync, G: Gate>(
+fn serve_line<C: Answers, O: Sink, Rt: Threads + Wait + Sync>(
     rt: &Rt,
+    alloc: Global,
     command: &C,
     number: u64,
     line: &[u8],
     out: &mut O,
-    gate: &G,
+    gate: &dyn Gate,
 ) -> Result<bool, Stop>
     ensures outcome { ServedLine (C.IsAnswer command.now number line.now) (O.written out.old) (O.written out.new) (O.faults out.old) (O.faults out.new) result }
     ensures no_fall { O.faults out.old ≤ O.faults out.new }
 {
-    let answer = command.answer(rt, number, line, gate)?;
+    let answer = command.answer(rt, alloc, number, line, gate)?;
     put_lines(out, &answer.lines)?;
     Ok(answer.refused)
 }
@@ -96,24 +100,25 @@ fn flush_before_read<O: Sink>(out: &mut O, held: &Held, has_written: bool) -> Re
 }
 
 // Answers all lines of the source, and flushes the sink at the end and before the source is asked for more.
-fn serve_lines<C: Answers, I: Source, O: Sink, Rt: AllocGlobal + Threads + Wait + Sync, G: Gate>(
+fn serve_lines<C: Answers, I: Source, O: Sink, Rt: Threads + Wait + Sync>(
     rt: &Rt,
+    alloc: Global,
     command: &C,
     input: &mut I,
     out: &mut O,
-    gate: &G,
+    gate: &dyn Gate,
 ) -> Result<bool, Stop>
     ensures { Served (AreAnswers (C.IsAnswer command.now) 1) (streams I.left I.faults O.written O.flushed O.faults input.old input.new out.old out.new) result }
 {
-    let mut held = Held::new(rt.alloc());
+    let mut held = Held::new(alloc);
     let mut refused = false;
     for count in 0..u64::MAX {
         flush_before_read(out, &held, count > 0)?;
-        let Some(line) = read_line(rt.alloc(), input, &mut held)? else {
+        let Some(line) = read_line(alloc, input, &mut held)? else {
             out.flush()?;
             return Ok(refused);
         };
-        let line_refused = serve_line(rt, command, count + 1, &line, out, gate)?;
+        let line_refused = serve_line(rt, alloc, command, count + 1, &line, out, gate)?;
         refused = refused || line_refused;
     }
     Err(Stop::TooMany)
@@ -121,16 +126,17 @@ fn serve_lines<C: Answers, I: Source, O: Sink, Rt: AllocGlobal + Threads + Wait 
 
 /// Answers all lines of the source. `Ok` tells whether a line was refused. The sink is flushed at the end,
 /// where the run stops, and before the source is asked for more.
-pub fn serve<C: Answers, I: Source, O: Sink, Rt: AllocGlobal + Threads + Wait + Sync, G: Gate>(
+pub fn serve<C: Answers, I: Source, O: Sink, Rt: Threads + Wait + Sync>(
     rt: &Rt,
+    alloc: Global,
     command: &C,
     input: &mut I,
     out: &mut O,
-    gate: &G,
+    gate: &dyn Gate,
 ) -> Result<bool, Stop>
     ensures { Served (AreAnswers (C.IsAnswer command.now) 1) (streams I.left I.faults O.written O.flushed O.faults input.old input.new out.old out.new) result }
 {
-    match serve_lines(rt, command, input, out, gate) {
+    match serve_lines(rt, alloc, command, input, out, gate) {
         Ok(refused) => Ok(refused),
         Err(stop) => {
             flush_at_stop(out);

@@ -4,7 +4,7 @@ ghost use Rattle.std.specs.Prelude.{◌≡◌};
 use crate::pieces::say;
 use crate::{Command, Fault};
 use lkb_io::{Shelf, Sink, Source};
-use std::alloc::AllocGlobal;
+use std::alloc::Global;
 use std::sync::Wait;
 use std::thread::Threads;
 use worker_gate::Gate;
@@ -22,13 +22,14 @@ impl Command for Plain {
 
     fn lawful(&self) {}
 
-    fn perform<S: Shelf, I: Source, O: Sink, Rt: AllocGlobal + Threads + Wait + Sync, G: Gate>(
+    fn perform<S: Shelf, I: Source, O: Sink, Rt: Threads + Wait + Sync>(
         &self,
         _rt: &Rt,
+        _alloc: Global,
         _shelf: &mut S,
         _input: &mut I,
         out: &mut O,
-        _gate: &G,
+        _gate: &dyn Gate,
     ) -> Result<bool, Fault> {
         Ok(say(out, self.text)?)
     }
