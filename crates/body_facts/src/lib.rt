@@ -8,8 +8,6 @@ mod lookup;
 mod mentioned;
 mod settled_names;
 mod telling;
-#[cfg(test)]
-mod tests;
 
 pub use brackets::{Use, uses};
 pub use fault::NoMemory;

@@ -6,8 +6,6 @@ pub mod laws;
 mod options;
 mod reading;
 mod tasks;
-#[cfg(test)]
-mod tests;
 mod words;
 
 pub use options::Options;

@@ -47,5 +47,3 @@ pub fn one_grammar()
     ensures { (text : List ℕ) (g h : Grammar) → IsFirstGrammar text g → IsFirstGrammar text h → g ≡ h }
 {}
 
-#[cfg(test)]
-mod tests;

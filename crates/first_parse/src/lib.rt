@@ -13,8 +13,6 @@ mod classes;
 mod line;
 mod node;
 mod report;
-#[cfg(test)]
-mod tests;
 mod tree;
 
 /// Memory was wanting.

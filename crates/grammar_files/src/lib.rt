@@ -7,8 +7,6 @@ pub mod file_names;
 pub mod laws;
 mod reading;
 mod statements;
-#[cfg(test)]
-mod tests;
 mod walking;
 
 pub use fault::{LoadFault, Why};

@@ -3,8 +3,6 @@
 
 mod expanding;
 pub mod laws;
-#[cfg(test)]
-mod tests;
 
 pub use expanding::expand_types;
 pub use grammar_files::{LoadFault, MOST_FILES, NoMemory, Walked, Why, file_names, walk};

@@ -6,8 +6,6 @@ mod fault;
 mod forms;
 mod lines;
 mod settings;
-#[cfg(test)]
-mod tests;
 
 pub use fault::NoMemory;
 pub use forms::ValueForm;

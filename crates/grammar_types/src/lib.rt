@@ -5,7 +5,5 @@ mod declarations;
 pub mod laws;
 mod settle;
 mod strings;
-#[cfg(test)]
-mod tests;
 
 pub use settle::{file_name, settle_types};
