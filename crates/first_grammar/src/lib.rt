@@ -46,4 +46,3 @@ pub fn read(alloc: Global, text: &[u8]) -> Result<Option<FirstGrammar>, NoMemory
 pub fn one_grammar()
     ensures { (text : List ℕ) (g h : Grammar) → IsFirstGrammar text g → IsFirstGrammar text h → g ≡ h }
 {}
-
