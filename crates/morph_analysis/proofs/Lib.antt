@@ -7,4 +7,6 @@ pub mod StepLemmas
 pub mod ArrivalLemmas
 pub mod TableLemmas
 pub mod LatticeLemmas
+pub mod LineLemmas
+pub mod LineLaws
 pub mod RouteLemmas

@@ -2,3 +2,4 @@ pub mod Adding
 pub mod Bits
 pub mod Growing
 pub mod Routes
+pub mod Lines

@@ -3,5 +3,6 @@ pub mod Allowed
 pub mod Chains
 pub mod Spelled
 pub mod LatticeViews
+pub mod LatticeLines
 pub mod Views
 pub mod Inner
