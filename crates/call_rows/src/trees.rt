@@ -29,14 +29,20 @@ fn entry(
     for word in words {
         spelt.push(String::from_str(alloc, word)?)?;
     }
-    Ok(Tree::lexical(place, Vec::from_slice(alloc, rules)?, spelt, nodes))
+    let rules = Vec::from_slice(alloc, rules)?;
+    Tree::lexical(alloc, place, rules, spelt, nodes).map_err(|_| AllocError)
+}
+
+// The phrase of a rule over these daughters.
+fn phrase(alloc: Global, rule: u32, daughters: Vec<Tree>) -> Result<Tree, AllocError> {
+    Tree::phrase(alloc, rule, daughters).map_err(|_| AllocError)
 }
 
 fn pair(alloc: Global, rule: u32, left: Tree, right: Tree) -> Result<Tree, AllocError> {
     let mut daughters = Vec::new(alloc);
     daughters.push(left)?;
     daughters.push(right)?;
-    Ok(Tree::phrase(rule, daughters))
+    phrase(alloc, rule, daughters)
 }
 
 fn two_words(alloc: Global, rule: u32) -> Result<Tree, AllocError> {
@@ -77,7 +83,7 @@ fn texts<R: Print>(rt: &R, alloc: Global) -> io::Result<()> {
     let bark = entry(alloc, 1, &[], &["bark"], Some((1, 3)))?;
     let tree = pair(alloc, 2, dogs, bark)?;
     text(rt, alloc, &tree, &names, false)?;
-    let Ok(copy) = tree.copy(alloc) else {
+    let Ok(copy) = tree.copy() else {
         return println!(rt; "text: no memory");
     };
     text(rt, alloc, &copy, &names, true)?;
@@ -100,8 +106,8 @@ fn in_order(alloc: Global) -> Result<Vec<Tree>, AllocError> {
     trees.push(entry(alloc, 1, &[2], &["a"], None)?)?;
     trees.push(entry(alloc, 0, &[1, 2], &["b"], None)?)?;
     trees.push(entry(alloc, 1, &[1, 2], &["a"], None)?)?;
-    trees.push(Tree::phrase(2, Vec::new(alloc)))?;
-    trees.push(Tree::phrase(3, Vec::new(alloc)))?;
+    trees.push(phrase(alloc, 2, Vec::new(alloc))?)?;
+    trees.push(phrase(alloc, 3, Vec::new(alloc))?)?;
     trees.push(two_words(alloc, 3)?)?;
     let word = entry(alloc, 0, &[], &["w"], None)?;
     let right = two_words(alloc, 4)?;

@@ -5,3 +5,4 @@ pub mod Orders
 pub mod Fronts
 pub mod Texts
 pub mod Total
+pub mod Counting

@@ -12,7 +12,10 @@ use Rattle.derivation.specs.Trees.{phrase}
 use Rattle.derivation.specs.Views.{derivation_of, in_order}
 use Rattle.derivation.specs.Order.{compare_trees, compare_daughters, word_counts, inwards, outermost}
 use Rattle.derivation.specs.Counts.{word_count_of}
-use Rattle.derivation.specs.declared.Tree.{Tree, Phrase}
+use Rattle.derivation.specs.declared.Tree.{Tree}
+use Rattle.derivation.specs.declared.Tree.TheVariants.{Phrase}
+use Rattle.std.specs.Arc.{arc_value}
+use Rattle.std.specs.declared.sync.Arc.{Arc}
 use Rattle.derivation.proofs.Rows.{derivation_of-Phrase}
 
 pub outermost_is_last : (entry : ℕ) (rules : List ℕ) → unwrap_or (slice_get rules (length rules - 1)) entry ≡ outermost entry rules
@@ -68,25 +71,27 @@ word_counts-in_order [] (y ∷ ys) = refl
 word_counts-in_order (x ∷ xs) [] = refl
 word_counts-in_order (x ∷ xs) (y ∷ ys) = ap (ordering_then (nat_cmp (word_count_of x) (word_count_of y))) (word_counts-in_order xs ys)
 
-compare_trees-Phrase : (r : ℕ) (ds : Vec Tree Global) (q : ℕ) (es : Vec Tree Global) →
-    compare_trees (derivation_of (Phrase r ds)) (derivation_of (Phrase q es)) ≡ ordering_then (nat_cmp r q) (by_daughters ds.items es.items)
-compare_trees-Phrase r ds q es =
-    let xs = in_order (map derivation_of ds.items) in
-    let ys = in_order (map derivation_of es.items) in
-    ap (λ d. compare_trees d (derivation_of (Phrase q es))) (derivation_of-Phrase r ds)
-    ∙ ap (compare_trees (phrase r xs)) (derivation_of-Phrase q es)
+compare_trees-Phrase : (r m : ℕ) (ds : Arc (Vec Tree Global) Global) (q n : ℕ) (es : Arc (Vec Tree Global) Global) →
+    compare_trees (derivation_of (Phrase r m ds)) (derivation_of (Phrase q n es)) ≡ ordering_then (nat_cmp r q) (by_daughters (arc_value ds).items (arc_value es).items)
+compare_trees-Phrase r m ds q n es =
+    let ts = (arc_value ds).items in
+    let us = (arc_value es).items in
+    let xs = in_order (map derivation_of ts) in
+    let ys = in_order (map derivation_of us) in
+    ap (λ d. compare_trees d (derivation_of (Phrase q n es))) (derivation_of-Phrase r m ds)
+    ∙ ap (compare_trees (phrase r xs)) (derivation_of-Phrase q n es)
     ∙ ap (ordering_then (nat_cmp r q)) (
-    ap (λ o. ordering_then o (compare_daughters xs ys)) (word_counts-in_order ds.items es.items)
-    ∙ ap (ordering_then (slice_cmp (on word_count_of nat_cmp) ds.items es.items)) (compare_daughters-in_order ds.items es.items))
+    ap (λ o. ordering_then o (compare_daughters xs ys)) (word_counts-in_order ts us)
+    ∙ ap (ordering_then (slice_cmp (on word_count_of nat_cmp) ts us)) (compare_daughters-in_order ts us))
 
 -- two phrases of one rule
-pub compare_phrases : (tree other : Tree) (r q : ℕ) (ds es : Vec Tree Global) (xs ys : List Tree) (o : Ordering) →
-    tree ≡ Phrase r ds → other ≡ Phrase q es → xs ≡ ds.items → ys ≡ es.items → Equal ≡ nat_cmp r q → o ≡ by_daughters xs ys →
+pub compare_phrases : (tree other : Tree) (r m q n : ℕ) (ds es : Arc (Vec Tree Global) Global) (xs ys : List Tree) (o : Ordering) →
+    tree ≡ Phrase r m ds → other ≡ Phrase q n es → xs ≡ (arc_value ds).items → ys ≡ (arc_value es).items → Equal ≡ nat_cmp r q → o ≡ by_daughters xs ys →
     o ≡ compare_trees (derivation_of tree) (derivation_of other)
-compare_phrases tree other r q ds es xs ys o is other_is same other_same tie e =
-    e ∙ ap (λ zs. by_daughters zs ys) same ∙ ap (by_daughters ds.items) other_same
-    ∙ ap (λ p. ordering_then p (by_daughters ds.items es.items)) tie ∙ sym (compare_trees-Phrase r ds q es)
-    ∙ ap (λ t. compare_trees (derivation_of t) (derivation_of (Phrase q es))) (sym is)
+compare_phrases tree other r m q n ds es xs ys o is other_is same other_same tie e =
+    e ∙ ap (λ zs. by_daughters zs ys) same ∙ ap (by_daughters (arc_value ds).items) other_same
+    ∙ ap (λ p. ordering_then p (by_daughters (arc_value ds).items (arc_value es).items)) tie ∙ sym (compare_trees-Phrase r m ds q n es)
+    ∙ ap (λ t. compare_trees (derivation_of t) (derivation_of (Phrase q n es))) (sym is)
     ∙ ap (λ t. compare_trees (derivation_of tree) (derivation_of t)) (sym other_is)
 
 nat_cmp-suc : (m n : ℕ) → nat_cmp m n ≡ nat_cmp (suc m) (suc n)

@@ -1,22 +1,21 @@
--- The daughters of a phrase, as a list.
-use Rattle.std.proofs.Common.{◌≡◌, ℕ, map, Vec, Global, refl, ap, ◌∙◌}
-use Rattle.derivation.specs.Trees.{phrase, first}
-use Rattle.derivation.specs.Views.{derivation_of, daughters_of, in_order}
-use Rattle.derivation.specs.declared.Tree.{Tree, Phrase, Phrase', Row_of-Tree, end_of-Tree, more_of-Tree, items-the_row-Tree, items_hidden-the_row-Tree-0}
-use mathlib.Core.Former.{Count}
+-- What trees stand for, variant by variant.
+use Rattle.std.proofs.Common.{◌≡◌, ℕ, Option, map, Vec, String, Global, sym, ap, ◌∙◌}
+use Rattle.std.specs.Arc.{arc_value}
+use Rattle.std.specs.String.{string_bytes}
+use Rattle.std.specs.declared.sync.Arc.{Arc}
+use Rattle.derivation.specs.Trees.{Derivation, lexical, phrase}
+use Rattle.derivation.specs.Views.{derivation_of, in_order, node_of}
+use Rattle.derivation.specs.declared.Tree.{Tree}
+use Rattle.derivation.specs.declared.Tree.TheVariants.{Lexical, Phrase, rolls-Lexical, rolls-Phrase}
+use Rattle.derivation.specs.declared.Tree.TheOpen.{Tree-F}
+use Rattle.derivation.specs.declared.Tree.TheFolds.{fold-roll-Tree}
 
--- the derivations of a row are those of its list
-pub daughters_of_row : (n : _) (row : Row_of-Tree n) → daughters_of row ≡ in_order (map derivation_of (items-the_row-Tree n row))
-daughters_of_row n end_of-Tree = refl
-daughters_of_row n (more_of-Tree tree rest) = ap (first (derivation_of tree)) (daughters_of_row _ rest)
+pub derivation_of-Phrase : (rule words : ℕ) (daughters : Arc (Vec Tree Global) Global) →
+    derivation_of (Phrase rule words daughters) ≡ phrase rule (in_order (map derivation_of (arc_value daughters).items))
+derivation_of-Phrase rule words daughters =
+    ap derivation_of (sym (rolls-Phrase rule words daughters)) ∙ fold-roll-Tree Derivation node_of (Tree-F.Phrase rule words daughters)
 
-abbrev row_of : Tree → (n : Count) × Row_of-Tree n
-row_of (Phrase' _ _ row) = (_, row)
-row_of _ = (_, end_of-Tree)
-
-pub derivation_of-Phrase : (rule : ℕ) (daughters : Vec Tree Global) →
-    derivation_of (Phrase rule daughters) ≡ phrase rule (in_order (map derivation_of daughters.items))
-derivation_of-Phrase rule daughters =
-    let row = row_of (Phrase rule daughters) in
-    let e = daughters_of_row row.0 row.1 ∙ ap (λ ts. in_order (map derivation_of ts)) (items_hidden-the_row-Tree-0 daughters) in
-    ap (phrase rule) e
+pub derivation_of-Lexical : (entry : ℕ) (rules : Arc (Vec ℕ Global) Global) (words : Arc (Vec (String Global) Global) Global) (nodes : Option (ℕ × ℕ)) →
+    derivation_of (Lexical entry rules words nodes) ≡ lexical entry (arc_value rules).items (map string_bytes (arc_value words).items) nodes
+derivation_of-Lexical entry rules words nodes =
+    ap derivation_of (sym (rolls-Lexical entry rules words nodes)) ∙ fold-roll-Tree Derivation node_of (Tree-F.Lexical entry rules words nodes)

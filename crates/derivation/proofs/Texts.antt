@@ -6,7 +6,10 @@ use Rattle.std.specs.List.{flat_map, join_with_byte}
 use Rattle.std.specs.String.{string_bytes}
 use Rattle.derivation.specs.Views.{derivation_of, in_order}
 use Rattle.derivation.specs.Text.{IsNamed, AreNamed, text_of, daughters_text, node_text, under, opening, openings, name_of, escaped}
-use Rattle.derivation.specs.declared.Tree.{Tree, Phrase}
+use Rattle.derivation.specs.declared.Tree.{Tree}
+use Rattle.derivation.specs.declared.Tree.TheVariants.{Phrase}
+use Rattle.std.specs.Arc.{arc_value}
+use Rattle.std.specs.declared.sync.Arc.{Arc}
 use Rattle.derivation.proofs.Rows.{derivation_of-Phrase}
 
 -- each of these daughters has its places in range
@@ -15,13 +18,13 @@ named_at n [] k d h lt = absurd (omega arith)
 named_at n (t ∷ ts) zero d h lt = h.0
 named_at n (t ∷ ts) (suc k) d h lt = named_at n ts k d h.1 (omega arith)
 
-pub named-Phrase : (n rule : ℕ) (daughters : Vec Tree Global) → IsNamed n (derivation_of (Phrase rule daughters)) →
-    (rule < n) × AreNamed n (in_order (map derivation_of daughters.items))
-named-Phrase n rule daughters h = subst (IsNamed n) (derivation_of-Phrase rule daughters) h
+pub named-Phrase : (n rule words : ℕ) (daughters : Arc (Vec Tree Global) Global) → IsNamed n (derivation_of (Phrase rule words daughters)) →
+    (rule < n) × AreNamed n (in_order (map derivation_of (arc_value daughters).items))
+named-Phrase n rule words daughters h = subst (IsNamed n) (derivation_of-Phrase rule words daughters) h
 
-pub Phrase-named : (n rule : ℕ) (daughters : Vec Tree Global) → rule < n → AreNamed n (in_order (map derivation_of daughters.items)) →
-    IsNamed n (derivation_of (Phrase rule daughters))
-Phrase-named n rule daughters lt named = subst (IsNamed n) (sym (derivation_of-Phrase rule daughters)) (lt, named)
+pub Phrase-named : (n rule words : ℕ) (daughters : Arc (Vec Tree Global) Global) → rule < n → AreNamed n (in_order (map derivation_of (arc_value daughters).items)) →
+    IsNamed n (derivation_of (Phrase rule words daughters))
+Phrase-named n rule words daughters lt named = subst (IsNamed n) (sym (derivation_of-Phrase rule words daughters)) (lt, named)
 
 named_push : (n : ℕ) (ts : List Tree) (t : Tree) → AreNamed n (in_order (map derivation_of ts)) → IsNamed n (derivation_of t) →
     AreNamed n (in_order (map derivation_of (ts ++ t ∷ [])))
@@ -42,9 +45,9 @@ daughters_text-more names asked (u ∷ ts) t =
     ap (λ xs. 32 ∷ text_of names asked (derivation_of u) ++ xs) (daughters_text-more names asked ts t)
     ∙ sym (append_assoc (32 ∷ text_of names asked (derivation_of u)) (daughters_text names asked (in_order (map derivation_of ts))) (32 ∷ text_of names asked (derivation_of t)))
 
-pub text_of-Phrase : (names : List (List ℕ)) (asked : Bool) (rule : ℕ) (daughters : Vec Tree Global) →
-    text_of names asked (derivation_of (Phrase rule daughters)) ≡ (40 ∷ name_of names rule) ++ daughters_text names asked (in_order (map derivation_of daughters.items)) ++ 41 ∷ []
-text_of-Phrase names asked rule daughters = ap (text_of names asked) (derivation_of-Phrase rule daughters)
+pub text_of-Phrase : (names : List (List ℕ)) (asked : Bool) (rule words : ℕ) (daughters : Arc (Vec Tree Global) Global) →
+    text_of names asked (derivation_of (Phrase rule words daughters)) ≡ (40 ∷ name_of names rule) ++ daughters_text names asked (in_order (map derivation_of (arc_value daughters).items)) ++ 41 ∷ []
+text_of-Phrase names asked rule words daughters = ap (text_of names asked) (derivation_of-Phrase rule words daughters)
 
 -- pieces in a row
 round_rule : (before name blank inner end after : List ℕ) →

@@ -3,3 +3,4 @@ pub mod Views
 pub mod Order
 pub mod Text
 pub mod Counts
+pub mod Counted

@@ -5,15 +5,18 @@ ghost use Rattle.std.specs.Prelude.{◌≡◌, map, IfOk};
 ghost use Rattle.std.specs.String.{string_bytes};
 ghost use Rattle.derivation.specs.Trees.{lexical, phrase};
 ghost use Rattle.derivation.specs.Views.{derivation_of, in_order};
+ghost use Rattle.derivation.specs.Counted.{IsCounted, AreCounted};
 
 mod counts;
 mod names;
 mod order;
 mod text;
 
+use counts::count_of_all;
 pub use names::is_named;
-pub use order::{compare, order_is_total};
+pub use order::{compare, compare_counted, order_is_total};
 use std::alloc::{AllocError, AllocFailed, Global};
+use std::sync::Arc;
 pub use text::write;
 
 /// Memory was wanting.
@@ -40,45 +43,59 @@ pub enum Tree {
     /// In a lattice `nodes` are those at which the words begin and end.
     Lexical {
         entry: u32,
-        rules: Vec<u32>,
-        words: Vec<String>,
+        rules: Arc<Vec<u32>>,
+        words: Arc<Vec<String>>,
         nodes: Option<(u32, u32)>,
     },
     /// A phrase rule over its daughters, from the left.
+    /// `words` is the number of words that it spells, or the greatest number there is where they are more; the tree that it stands for says nothing of it.
     Phrase {
         rule: u32,
-        daughters: Vec<Tree>,
+        words: u64,
+        daughters: Arc<Vec<Tree>>,
     },
 }
 
 impl Tree {
-    /// The lexical tree of an entry under these rules, from the inside out.
+    /// The lexical tree of an entry under these rules, from the inside out; `NoMemory` where that is wanting.
     pub fn lexical(
+        alloc: Global,
         entry: u32,
         rules: Vec<u32>,
         words: Vec<String>,
         nodes: Option<(u32, u32)>,
-    ) -> Tree
-        ensures { derivation_of result ≡ lexical entry rules.items (map string_bytes words.items) nodes }
+    ) -> Result<Tree, NoMemory>
+        ensures is { IfOk result (λ tree. derivation_of tree ≡ lexical entry rules.items (map string_bytes words.items) nodes) }
+        ensures counted { IfOk result IsCounted }
     {
-        Tree::Lexical {
+        let rules = Arc::new(alloc, rules)?;
+        let words = Arc::new(alloc, words)?;
+        Ok(Tree::Lexical {
             entry,
             rules,
             words,
             nodes,
-        }
+        })
     }
 
-    /// The phrase of a rule over these daughters, from the left.
-    pub fn phrase(rule: u32, daughters: Vec<Tree>) -> Tree
-        ensures { derivation_of result ≡ phrase rule (in_order (map derivation_of daughters.items)) }
+    /// The phrase of a rule over these daughters, from the left; `NoMemory` where that is wanting.
+    pub fn phrase(alloc: Global, rule: u32, daughters: Vec<Tree>) -> Result<Tree, NoMemory>
+        ensures is { IfOk result (λ tree. derivation_of tree ≡ phrase rule (in_order (map derivation_of daughters.items))) }
+        ensures counted { AreCounted daughters.items → IfOk result IsCounted }
     {
-        Tree::Phrase { rule, daughters }
+        let words = count_of_all(&daughters);
+        let daughters = Arc::new(alloc, daughters)?;
+        Ok(Tree::Phrase {
+            rule,
+            words,
+            daughters,
+        })
     }
 
-    /// A copy in memory of its own; `NoMemory` where that is wanting.
-    pub fn copy(&self, alloc: Global) -> Result<Tree, NoMemory>
-        ensures { IfOk result (λ tree. derivation_of tree ≡ derivation_of self.now) }
+    /// The same tree once more. It shares what stands below the outermost node, so its cost doesn't grow with the tree.
+    pub fn copy(&self) -> Result<Tree, NoMemory>
+        ensures is { IfOk result (λ tree. derivation_of tree ≡ derivation_of self.now) }
+        ensures counted { IsCounted self.now → IfOk result IsCounted }
     {
         match self {
             Tree::Lexical {
@@ -86,29 +103,21 @@ impl Tree {
                 rules,
                 words,
                 nodes,
-            } => {
-                let rules = rules.clone()?;
-                let words = copy_words(alloc, words)?;
-                Ok(Tree::lexical(*entry, rules, words, *nodes))
-            }
-            Tree::Phrase { rule, daughters } => {
-                let mut copies = Vec::with_capacity(alloc, daughters.len())?;
-                for daughter in daughters {
-                    copies.push(daughter.copy(alloc)?)?;
-                }
-                Ok(Tree::phrase(*rule, copies))
-            }
+            } => Ok(Tree::Lexical {
+                entry: *entry,
+                rules: rules.clone()?,
+                words: words.clone()?,
+                nodes: *nodes,
+            }),
+            Tree::Phrase {
+                rule,
+                words,
+                daughters,
+            } => Ok(Tree::Phrase {
+                rule: *rule,
+                words: *words,
+                daughters: daughters.clone()?,
+            }),
         }
     }
-}
-
-/// These words once more.
-fn copy_words(alloc: Global, words: &[String]) -> Result<Vec<String>, NoMemory>
-    ensures { IfOk result (λ copies. map string_bytes copies.items ≡ map string_bytes words.now) }
-{
-    let mut copies = Vec::with_capacity(alloc, words.len())?;
-    for word in words {
-        copies.push(word.clone()?)?;
-    }
-    Ok(copies)
 }

@@ -12,7 +12,11 @@ pub fn is_named(tree: &Tree, count: usize) -> bool
 {
     match tree {
         Tree::Lexical { entry, rules, .. } => (*entry as usize) < count && are_below(rules, count),
-        Tree::Phrase { rule, daughters } => (*rule as usize) < count && are_named(daughters, count),
+        Tree::Phrase {
+            rule,
+            daughters,
+            ..
+        } => (*rule as usize) < count && are_named(daughters, count),
     }
 }
 

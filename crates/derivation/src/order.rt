@@ -1,5 +1,5 @@
 //! The order of trees.
-ghost use Rattle.std.specs.Prelude.{◌≡◌, ◌↔◌, map};
+ghost use Rattle.std.specs.Prelude.{◌≡◌, ◌↔◌, IsTrue, map};
 ghost use Rattle.std.specs.Cmp.{IsTotalOrder};
 ghost use Rattle.std.specs.declared.cmp.Ordering.TheVariants.{Equal};
 ghost use Rattle.derivation.specs.Trees.{Derivation};
@@ -10,6 +10,7 @@ ghost use Rattle.std.specs.Ordering.{nat_cmp, on, ordering_then};
 ghost use Rattle.derivation.specs.Views.{derivation_of};
 ghost use Rattle.derivation.specs.Order.{compare_trees, compare_pairs, inwards, outermost};
 ghost use Rattle.derivation.specs.Counts.{word_count_of};
+ghost use Rattle.derivation.specs.Counted.{IsCounted, AreCounted};
 
 use crate::Tree;
 use crate::counts::compare_word_counts;
@@ -19,9 +20,27 @@ use std::iter;
 /// The order of trees. Two trees compare by the place of their outermost node, and a lexical tree comes before a phrase of the same place.
 /// Two lexical trees then compare inwards, node by node, then by their words, and last by their nodes, none first.
 /// Two phrases of one rule then compare by the word counts of their daughters from the left, then by their daughters from the left.
-/// A list comes before a longer one that it begins. It takes no memory.
-#[cycle(order)]
+/// A list comes before a longer one that it begins. It takes no memory, and counts words by walking.
 pub fn compare(tree: &Tree, other: &Tree) -> Ordering
+    ensures { result ≡ compare_trees (derivation_of tree.now) (derivation_of other.now) }
+{
+    compare_by(tree, other, false)
+}
+
+/// The order of trees, as `compare` gives it, of two whose phrases hold the numbers of their words, as those do that `Tree::phrase` made of such daughters.
+/// It takes no memory, and counts no words.
+pub fn compare_counted(tree: &Tree, other: &Tree) -> Ordering
+    requires tree { IsCounted tree.now }
+    requires other { IsCounted other.now }
+    ensures { result ≡ compare_trees (derivation_of tree.now) (derivation_of other.now) }
+{
+    compare_by(tree, other, true)
+}
+
+/// The order of trees; where `counted`, by the numbers of words that phrases hold.
+#[cycle(order)]
+fn compare_by(tree: &Tree, other: &Tree, counted: bool) -> Ordering
+    requires { IsTrue counted → IsCounted tree.now × IsCounted other.now }
     ensures { result ≡ compare_trees (derivation_of tree.now) (derivation_of other.now) }
 {
     match tree {
@@ -43,15 +62,20 @@ pub fn compare(tree: &Tree, other: &Tree) -> Ordering
             }
             Tree::Phrase { rule, .. } => outermost(*entry, rules).cmp(rule).then(Ordering::Less),
         },
-        Tree::Phrase { rule, daughters } => match other {
+        Tree::Phrase {
+            rule,
+            daughters,
+            ..
+        } => match other {
             Tree::Lexical { entry, rules, .. } => rule
                 .cmp(&outermost(*entry, rules))
                 .then(Ordering::Greater),
             Tree::Phrase {
                 rule: other_rule,
                 daughters: others,
+                ..
             } => match rule.cmp(other_rule) {
-                Ordering::Equal => compare_daughters(daughters, others),
+                Ordering::Equal => compare_daughters(daughters, others, counted),
                 differ => differ,
             },
         },
@@ -60,22 +84,24 @@ pub fn compare(tree: &Tree, other: &Tree) -> Ordering
 
 /// By their word counts, and then in turn.
 #[cycle(order)]
-fn compare_daughters(daughters: &[Tree], others: &[Tree]) -> Ordering
+fn compare_daughters(daughters: &[Tree], others: &[Tree], counted: bool) -> Ordering
+    requires { IsTrue counted → AreCounted daughters.now × AreCounted others.now }
     ensures { result ≡ ordering_then (slice_cmp (on word_count_of nat_cmp) daughters.now others.now)
         (slice_cmp (on derivation_of compare_trees) daughters.now others.now) }
 {
-    match compare_counts(daughters, others) {
-        Ordering::Equal => compare_in_turn(daughters, others),
+    match compare_counts(daughters, others, counted) {
+        Ordering::Equal => compare_in_turn(daughters, others, counted),
         differ => differ,
     }
 }
 
 /// By their word counts, from the left.
-fn compare_counts(daughters: &[Tree], others: &[Tree]) -> Ordering
+fn compare_counts(daughters: &[Tree], others: &[Tree], counted: bool) -> Ordering
+    requires { IsTrue counted → AreCounted daughters.now × AreCounted others.now }
     ensures { result ≡ slice_cmp (on word_count_of nat_cmp) daughters.now others.now }
 {
     for (daughter, other) in daughters.iter().zip(others) {
-        match compare_word_counts(daughter, other) {
+        match compare_word_counts(daughter, other, counted) {
             Ordering::Equal => {}
             differ => return differ,
         }
@@ -85,11 +111,12 @@ fn compare_counts(daughters: &[Tree], others: &[Tree]) -> Ordering
 
 /// By the daughters themselves, from the left.
 #[cycle(order)]
-fn compare_in_turn(trees: &[Tree], others: &[Tree]) -> Ordering
+fn compare_in_turn(trees: &[Tree], others: &[Tree], counted: bool) -> Ordering
+    requires { IsTrue counted → AreCounted trees.now × AreCounted others.now }
     ensures { result ≡ slice_cmp (on derivation_of compare_trees) trees.now others.now }
 {
     for (tree, other) in trees.iter().zip(others) {
-        match compare(tree, other) {
+        match compare_by(tree, other, counted) {
             Ordering::Equal => {}
             differ => return differ,
         }

@@ -45,7 +45,11 @@ fn put_tree(tree: &Tree, names: &[String], asked: bool, into: &mut Vec<u8>) -> R
             put_nodes(asked, *nodes, into)?;
             close(rules.len() + 1, into)
         }
-        Tree::Phrase { rule, daughters } => {
+        Tree::Phrase {
+            rule,
+            daughters,
+            ..
+        } => {
             put_name(*rule, names, into)?;
             put_daughters(daughters, names, asked, into)?;
             close(1, into)

@@ -19,7 +19,8 @@ fn word_tree(alloc: Global, grammar: &FirstGrammar, entry: u32) -> Result<Tree, 
     let word = String::from_str(alloc, grammar.entry_word(entry))?;
     let mut words = Vec::new(alloc);
     words.push(word)?;
-    Ok(Tree::lexical(entry, Vec::new(alloc), words, None))
+    let tree = Tree::lexical(alloc, entry, Vec::new(alloc), words, None)?;
+    Ok(tree)
 }
 
 /// The phrase of a rule over two daughters.
@@ -29,7 +30,8 @@ fn phrase_tree(alloc: Global, rule: u32, left: Tree, right: Tree) -> Result<Tree
     let mut daughters = Vec::new(alloc);
     daughters.push(left)?;
     daughters.push(right)?;
-    Ok(Tree::phrase(rule, daughters))
+    let tree = Tree::phrase(alloc, rule, daughters)?;
+    Ok(tree)
 }
 
 /// The tree of a node. Its calls stand one in another as deep as the tree.

@@ -1,4 +1,5 @@
-use Rattle.std.proofs.Common.{map, sym, ap, subst, ◌∙◌, arith}
+use Rattle.std.proofs.Common.{map, Vec, Global, sym, ap, subst, ◌∙◌, arith}
+use Rattle.derivation.specs.declared.Tree.{Tree}
 use Rattle.derivation.specs.Text.{IsNamed, AreNamed}
 use Rattle.derivation.specs.Views.{derivation_of, in_order}
 use Rattle.derivation.proofs.Texts.{named_at, named_more, named-Phrase, Phrase-named}
@@ -18,18 +19,18 @@ are_named-loop-daughter-preserved t c =
 
 pub is_named-are_named-requires : goal.is_named-are_named-requires
 is_named-are_named-requires t c =
-    let whole = weight-Phrase c.in-Phrase.rule c.in-Phrase.daughters in
+    let whole = weight-Phrase c.in-Phrase.rule c.in-Phrase.words c.in-Phrase.daughters in
     let is = ap (λ d. weight (derivation_of d)) c.in-Phrase.is in
-    let same = ap weight_of c.deref-then-rule-count.ensures.value in
+    let same = ap weight_of (c.deref-then-rule-count-2.ensures.value ∙ ap (λ (ds : Vec Tree Global). ds.items) c.deref-then-rule-count.ensures) in
     (omega arith, tt)
 
 pub is_named-returns-then-rule-count : goal.is_named-returns-then-rule-count
 is_named-returns-then-rule-count t c =
     let n = c.args.count in
-    let same = c.deref-then-rule-count.ensures.value in
+    let same = c.deref-then-rule-count-2.ensures.value ∙ ap (λ (ds : Vec Tree Global). ds.items) c.deref-then-rule-count.ensures in
     let is = c.in-Phrase.is in (
-      λ told. subst (λ d. IsNamed n (derivation_of d)) (sym is) (Phrase-named n c.in-Phrase.rule c.in-Phrase.daughters c.if-rule-count.true
+      λ told. subst (λ d. IsNamed n (derivation_of d)) (sym is) (Phrase-named n c.in-Phrase.rule c.in-Phrase.words c.in-Phrase.daughters c.if-rule-count.true
           (subst (λ ts. AreNamed n (in_order (map derivation_of ts))) same (c.are_named.ensures.0 told))),
       λ named. c.are_named.ensures.1 (subst (λ ts. AreNamed n (in_order (map derivation_of ts))) (sym same)
-          (named-Phrase n c.in-Phrase.rule c.in-Phrase.daughters (subst (λ d. IsNamed n (derivation_of d)) is named)).1),
+          (named-Phrase n c.in-Phrase.rule c.in-Phrase.words c.in-Phrase.daughters (subst (λ d. IsNamed n (derivation_of d)) is named)).1),
     )
