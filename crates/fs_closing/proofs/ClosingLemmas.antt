@@ -3,7 +3,7 @@ use Rattle.std.proofs.Common.{ℕ, ◌≡◌, ◌<◌, Bool, true, Option, Some,
 use Rattle.std.proofs.lemmas.List.{get_or-map, length-map}
 use Rattle.std.specs.Prelude.{flat_map}
 use Rattle.fs_model.specs.Claims.{Claim, Has}
-use Rattle.fs_model.specs.Table.{NodeClaim, is_there, is_under, from}
+use Rattle.fs_model.specs.Table.{NodeClaim, is_there, from}
 use Rattle.fs_paths.specs.declared.facts.Fact.{Fact}
 use Rattle.fs_paths.specs.declared.facts.Feat.{Feat}
 use Rattle.fs_paths.specs.Facts.{path_of, claim_of, claims_of}
@@ -19,7 +19,7 @@ use Rattle.fs_closing.specs.Rules.{Rule, Grammar, system_of}
 use Rattle.fs_closing.specs.Work.{pair_claim, bound_claim, entry_claims, work_of, AreSameTasks}
 use Rattle.fs_closing.specs.Keeps.{deep_of, AreSound, Leads, Clashes, StepsTo, Reaches, Progresses}
 use Rattle.fs_closing.proofs.HasLemmas.{Has-map, Has-at}
-use Rattle.fs_closing.proofs.KeepsLemmas.{Turns-on, Turns-order, Refutes-after, same_itself, same_turned, joined_same}
+use Rattle.fs_closing.proofs.KeepsLemmas.{Turns-on, Refutes-after, same_turned, joined_same}
 use Rattle.fs_closing.proofs.StepLemmas.{Turns-there, steps_order}
 
 pub reaches_by : (g : Grammar) (nodes : Nodes) (tasks : Tasks) (n : ℕ) (p p' : List Feat) (nodes' : Nodes) (tasks' : Tasks) (o o' : Option ℕ) → p ≡ p' → o ≡ o' →

@@ -9,22 +9,11 @@ use Rattle.fs_model.proofs.TableLemmas.{walk-append, walk-prefix, walk_ends}
 use Rattle.fs_model.proofs.StepLemmas.{same_or_other}
 use Rattle.fs_closing.specs.declared.nodes.Cell.{Cell}
 use Rattle.fs_closing.specs.Cells.{live_of, chain, find_arc, AreOnce}
-use Rattle.fs_closing.specs.NodeTable.{table_from, AreWhole}
+use Rattle.fs_closing.specs.NodeTable.{table_from}
 use Rattle.fs_closing.specs.Levels.{IsMarked, MeetsNode, MeetsArcs, IsNextLevel, IsLevel, BoundsPaths}
 use Rattle.fs_closing.proofs.HasLemmas.{Has-left, Has-right, Has-either, Has-one}
-use Rattle.fs_closing.proofs.ChaseLemmas.{live_twice}
 use Rattle.fs_closing.proofs.ChainLemmas.{find_arc-has, found_of_once}
-use Rattle.fs_closing.proofs.NodeLemmas.{arc_within}
-use Rattle.fs_closing.proofs.StepLemmas.{live_le}
 use Rattle.fs_closing.proofs.WorkLemmas.{nil_of}
-
--- whole arrays are a table
-pub table_whole : (types fs ds firsts : List ℕ) (cells : List Cell) → AreWhole types fs ds firsts cells → IsTable (table_from types fs firsts cells)
-table_whole types fs ds firsts cells whole = record {
-  live_in = λ n h. omega (arith, live_le fs whole.falls n);
-  live_twice = live_twice fs whole.falls;
-  arc_in = λ n f m h e. arc_within types fs ds firsts cells whole n f m e;
-}
 
 pub meets_marked : (node : ℕ) (next marks : List ℕ) (level : ℕ) → node < length marks → slice_index_or marks node 0 ≡ level → IsMarked next marks level →
     MeetsNode node next next

@@ -8,5 +8,7 @@ pub mod KeepsLemmas
 pub mod RangeLemmas
 pub mod StepLemmas
 pub mod ClosingLemmas
-pub mod LevelLemmas
+pub mod UniteLemmas
 pub mod OrderLemmas
+pub mod RuleRowLemmas
+pub mod LevelLemmas

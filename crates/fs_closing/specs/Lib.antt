@@ -6,4 +6,5 @@ pub mod Joined
 pub mod Work
 pub mod Keeps
 pub mod Systems
+pub mod Inner
 pub mod Levels

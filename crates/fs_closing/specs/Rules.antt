@@ -1,5 +1,5 @@
 -- What closure needs of a grammar: types, introducers, facts of types, and the limit on paths.
-use Rattle.std.specs.Prelude.{ℕ, ◌<◌, ◌==◌, true, false, List, [], ◌∷◌, ◌++◌, All, length, filter, slice_index_or}
+use Rattle.std.specs.Prelude.{ℕ, ◌<◌, ◌==◌, nat_lt, Bool, true, false, List, [], ◌∷◌, ◌++◌, All, length, filter, slice_index_or}
 use Rattle.std.specs.List.{range_with_len}
 use Rattle.fs_model.specs.Claims.{Claim, exists_at, same, below, System, Has}
 use Rattle.type_hierarchy.specs.Table.{TypeTable, count_of, is_below, meet_of}
@@ -34,9 +34,17 @@ system_of g =
       path_limit = g.path_limit;
     }
 
--- the places of the rules whose type is at or above a type
+-- a rule that has facts
+abbrev pub has_facts : Rule → Bool
+has_facts r = nat_lt 0 (length r.claims)
+
+-- the places of the rules that have facts
+abbrev pub rules_with_facts : List Rule → List ℕ
+rules_with_facts rules = filter (λ j. has_facts (slice_index_or rules j no_rule)) (range_with_len 0 (length rules))
+
+-- the places of those whose type is at or above a type
 abbrev pub rules_above : TypeTable → List Rule → ℕ → List ℕ
-rules_above types rules t = filter (λ j. is_below types t (slice_index_or rules j no_rule).ty) (range_with_len 0 (length rules))
+rules_above types rules t = filter (λ j. is_below types t (slice_index_or rules j no_rule).ty) (rules_with_facts rules)
 
 -- a claim speaks of features and types that are there
 abbrev pub IsClaimIn : ℕ → ℕ → Claim → Type 0

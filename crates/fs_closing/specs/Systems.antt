@@ -1,10 +1,11 @@
 -- What a type system stands for.
-use Rattle.std.specs.Prelude.{ℕ, ◌≡◌, ◌<◌, ◌^◌, List, [], map, length, slice_index_or}
+use Rattle.std.specs.Prelude.{ℕ, ◌<◌, ◌^◌, List, map, length}
 use Rattle.type_hierarchy.specs.declared.types.Ty.{Ty}
 use Rattle.type_hierarchy.specs.Table.{TypeTable, count_of}
 use Rattle.fs_paths.specs.Facts.{claims_of}
 use Rattle.fs_closing.specs.declared.facts.TypeFacts.{TypeFacts}
-use Rattle.fs_closing.specs.Rules.{Rule, Grammar, IsGrammar, rules_above}
+use Rattle.fs_closing.specs.Rules.{Rule, Grammar, IsGrammar}
+use Rattle.fs_closing.specs.Inner.RuleRows.{HaveRows}
 
 abbrev pub rule_of : TypeFacts → Rule
 rule_of c = record { ty = c.ty.0; claims = claims_of c.facts.items }
@@ -16,9 +17,8 @@ abbrev pub grammar_of : TypeTable → List Ty → List TypeFacts → ℕ → Gra
 grammar_of types introducers constraints path_limit =
     record { types = types; introducers = map (λ t. t.0) introducers; rules = rules_of constraints; path_limit = path_limit }
 
--- for each type the rules above it
-pub record IsSystemInside (g : Grammar) (above : List (List ℕ)) : Type 0 where
+-- no rule is out of range, and each type has the row of the rules above it
+pub record IsSystemInside (g : Grammar) (rows : List (List ℕ)) (row_of : List ℕ) : Type 0 where
   pub grammar : IsGrammar g
   pub few : length g.rules < 2 ^ 32
-  pub rows : length above ≡ count_of g.types
-  pub row_is : (t : ℕ) → t < count_of g.types → slice_index_or above t [] ≡ rules_above g.types g.rules t
+  pub above : HaveRows g.types g.rules rows row_of (count_of g.types)

@@ -1,17 +1,17 @@
 //! What closure needs of a grammar.
 
-ghost use Rattle.std.specs.Prelude.{◌≡◌, ℕ, ◌+◌, ◌<◌, ◌≤◌, ◌^◌, length, map, filter, option_map, IfOk, IfSome, slice_index_or, OnOk, [], ◌∷◌, ◌++◌, if◌then◌else◌};
-ghost use Rattle.std.specs.List.{range_with_len};
-ghost use Rattle.type_hierarchy.specs.Table.{count_of, is_below, meet_of};
+ghost use Rattle.std.specs.Prelude.{◌≡◌, ℕ, ◌<◌, length, IfOk, slice_index_or};
+ghost use Rattle.type_hierarchy.specs.Table.{count_of};
 ghost use Rattle.fs_paths.specs.Facts.{claims_of};
-ghost use Rattle.fs_closing.specs.Rules.{Grammar, IsGrammar, rules_above, no_rule, IsClaimIn, HaveTypesIn};
-ghost use Rattle.fs_closing.specs.Systems.{grammar_of, rules_of};
+ghost use Rattle.fs_closing.specs.Rules.{IsGrammar, rules_above, no_rule, IsClaimIn};
+ghost use Rattle.fs_closing.specs.Systems.{grammar_of};
 ghost use Rattle.fs_model.specs.Claims.{Claim, Has};
 
 use crate::facts::TypeFacts;
 use crate::fault::NoMemory;
+use crate::rule_rows::{RuleRows, rule_rows};
 use fs_paths::Fact;
-use std::alloc::{AllocError, Global};
+use std::alloc::Global;
 use std::marker::Model;
 use type_hierarchy::{Ty, Types};
 
@@ -22,7 +22,7 @@ pub struct TypeSystem {
     types: Types,
     introducers: Vec<Ty>,
     constraints: Vec<TypeFacts>,
-    above: Vec<Vec<u32>>,
+    above: RuleRows,
     path_limit: u32,
 }
 
@@ -36,54 +36,7 @@ impl Model for TypeSystem {
 
     ghost view = { λ s. grammar_of s.types s.introducers.items s.constraints.items s.path_limit };
 
-    ghost invariant = { λ s. IsSystemInside (grammar_of s.types s.introducers.items s.constraints.items s.path_limit) (map (λ row. row.items) s.above.items) };
-}
-
-// Adds a number where it is wanted.
-fn push_if(row: &mut Vec<u32>, wanted: bool, number: u32) -> Result<(), AllocError>
-    ensures { OnOk result (row.new.items ≡ row.old.items ++ (if wanted then number ∷ [] else [])) }
-{
-    if wanted {
-        row.push(number)?;
-    }
-    Ok(())
-}
-
-// The places of the constraints of types at or above a type.
-fn row_above(
-    alloc: Global,
-    types: &Types,
-    constraints: &[TypeFacts],
-    t: u32,
-) -> Result<Vec<u32>, AllocError>
-    requires small { length constraints.now < 2 ^ 32 }
-    requires t_in { t < count_of types.now }
-    requires types_in { HaveTypesIn (count_of types.now) (rules_of constraints.now) }
-    ensures { IfOk result (λ row. row.items ≡ rules_above types.now (rules_of constraints.now) t) }
-{
-    let mut row = Vec::new(alloc);
-    for j in 0..constraints.len() {
-        let is_above = types.at_or_below(Ty(t), constraints[j].ty);
-        push_if(&mut row, is_above, j as u32)?;
-    }
-    Ok(row)
-}
-
-// The same for each type.
-fn rows_above(
-    alloc: Global,
-    types: &Types,
-    constraints: &[TypeFacts],
-) -> Result<Vec<Vec<u32>>, AllocError>
-    requires small { length constraints.now < 2 ^ 32 }
-    requires types_in { HaveTypesIn (count_of types.now) (rules_of constraints.now) }
-    ensures { IfOk result (λ rows. map (λ row. row.items) rows.items ≡ map (rules_above types.now (rules_of constraints.now)) (range_with_len 0 (count_of types.now))) }
-{
-    let mut rows = Vec::new(alloc);
-    for t in 0..types.counts().all {
-        rows.push(row_above(alloc, types, constraints, t)?)?;
-    }
-    Ok(rows)
+    ghost invariant = { λ s. IsSystemInside (grammar_of s.types s.introducers.items s.constraints.items s.path_limit) (map (λ row. row.items) s.above.rows.items) s.above.row_of.items };
 }
 
 impl TypeSystem {
@@ -102,7 +55,7 @@ impl TypeSystem {
         if constraints.len() > u32::MAX as usize {
             return Err(NoMemory);
         }
-        let above = rows_above(alloc, &types, &constraints)?;
+        let above = rule_rows(alloc, &types, &constraints)?;
         Ok(TypeSystem {
             types,
             introducers,
@@ -127,6 +80,13 @@ impl TypeSystem {
         self.path_limit
     }
 
+    /// A law: no type and no feature of the grammar is out of range. It does nothing.
+    pub fn laws(&self)
+        ensures { IsGrammar self.now }
+    {
+        let _ = &self.path_limit;
+    }
+
     /// The type that introduces a feature.
     pub fn introducer(&self, feat: u32) -> u32
         requires { feat < length self.now.introducers }
@@ -136,12 +96,13 @@ impl TypeSystem {
         self.introducers[feat as usize].0
     }
 
-    /// The places of the entries of `constraints` whose type is at or above a type.
+    /// The places of the entries of `constraints` that have facts and whose type is at or above a type.
     pub fn rules_above(&self, t: u32) -> &[u32]
         requires { t < count_of self.now.types }
         ensures { result.now ≡ rules_above self.now.types self.now.rules t }
     {
-        &self.above[t as usize]
+        let row = self.above.row_of[t as usize];
+        &self.above.rows[row as usize]
     }
 
     /// The type of an entry of `constraints`.

@@ -15,7 +15,7 @@ use Rattle.fs_closing.specs.Cells.{chain}
 use Rattle.fs_closing.specs.NodeTable.{table_of, IsWhole, IsWithin}
 use Rattle.fs_closing.specs.Rules.{Grammar, system_of}
 use Rattle.fs_closing.proofs.ChainLemmas.{find_arc-has, chain-has}
-use Rattle.fs_closing.proofs.LevelLemmas.{table_whole}
+use Rattle.fs_closing.proofs.UniteLemmas.{table_whole}
 use Rattle.fs_unify.specs.Entering.{IsGraphIn}
 use Rattle.fs_unify.specs.Drawing.{IsPicture}
 use Rattle.fs_unify.specs.Placing.{IsAnswerIn}

@@ -6,9 +6,9 @@ use Rattle.fs_model.proofs.TableLemmas.{walk_ends}
 use Rattle.fs_closing.specs.Cells.{live_of}
 use Rattle.fs_closing.specs.NodeTable.{table_of}
 use Rattle.fs_closing.specs.Levels.{IsLevel, IsNextLevel}
-use Rattle.fs_closing.proofs.StepLemmas.{live_le}
 use Rattle.fs_closing.proofs.WorkLemmas.{nil_of}
-use Rattle.fs_closing.proofs.LevelLemmas.{table_whole, level_first, level_next, bounds_all, bounds_by, zeros}
+use Rattle.fs_closing.proofs.UniteLemmas.{live_le, table_whole}
+use Rattle.fs_closing.proofs.LevelLemmas.{level_first, level_next, bounds_all, bounds_by, zeros}
 use Rattle.fs_closing.proofs.levels.is_within.Goals as goal
 
 pub loop-level-init : goal.loop-level-init

@@ -1,4 +1,4 @@
-use Rattle.fs_closing.proofs.StepLemmas.{table_united, whole_united, within_united}
+use Rattle.fs_closing.proofs.UniteLemmas.{table_united, whole_united, within_united}
 use Rattle.fs_closing.proofs.nodes.unite.Goals as goal
 
 pub returns-clause-unites : goal.returns-clause-unites

@@ -1,17 +1,17 @@
-use Rattle.std.proofs.Common.{◌≡◌, ◌≢◌, ◌<◌, None, Some, List, [], ◌∷◌, ◌++◌, length, slice_index_or, refl, sym, ◌∙◌, ap, subst, arith}
+use Rattle.std.proofs.Common.{◌≢◌, ◌<◌, List, [], ◌∷◌, ◌++◌, length, slice_index_or, refl, sym, ◌∙◌, ap, subst, arith}
 use Rattle.std.proofs.lemmas.List.{get_or_default}
 use Rattle.type_hierarchy.specs.Table.{TypeTable, count_of, meet_of}
 use Rattle.type_hierarchy.specs.Laws.{HasTypeLaws}
 use Rattle.fs_model.specs.Table.{NodeClaim, is_same}
 use Rattle.fs_model.specs.Steps.{Joins}
 use Rattle.fs_closing.specs.Cells.{live_of, chain}
-use Rattle.fs_closing.specs.NodeTable.{table_of}
 use Rattle.fs_closing.specs.Rules.{system_of}
 use Rattle.fs_closing.specs.Work.{work_of, AreReady}
 use Rattle.fs_closing.specs.Keeps.{StepsTo, deep_of, arc_claims, PushesFacts}
 use Rattle.fs_closing.proofs.KeepsLemmas.{Turns-joins, Refutes-meet}
 use Rattle.fs_closing.proofs.OrderLemmas.{order_of_laws}
-use Rattle.fs_closing.proofs.StepLemmas.{joins_by, steps_after}
+use Rattle.fs_closing.proofs.StepLemmas.{steps_after}
+use Rattle.fs_closing.proofs.UniteLemmas.{joins_by}
 use Rattle.fs_closing.proofs.steps.merge.Goals as goal
 
 pub meet-requires-clause-a_in : goal.meet-requires-clause-a_in

@@ -1,14 +1,14 @@
-use Rattle.std.proofs.Common.{length, slice_index_or, refl, ◌∙◌, subst}
+use Rattle.std.proofs.Common.{slice_index_or, refl, ◌∙◌, subst}
 use Rattle.std.proofs.lemmas.List.{take_more, take_all}
-use Rattle.std.specs.List.{range_with_len}
 use Rattle.type_hierarchy.specs.Table.{is_below}
 use Rattle.fs_model.specs.Claims.{Has}
 use Rattle.fs_closing.specs.declared.tasks.Entry.{Entry}
-use Rattle.fs_closing.specs.Rules.{no_rule}
+use Rattle.fs_closing.specs.Rules.{no_rule, rules_with_facts}
 use Rattle.fs_closing.specs.Work.{work_of}
 use Rattle.fs_closing.proofs.HasLemmas.{Has-at}
-use Rattle.fs_closing.proofs.RangeLemmas.{Has-of_filter, Has-of_range}
-use Rattle.fs_closing.proofs.StepLemmas.{TakesRules, pushes_none, takes_more, takes_step, takes_all}
+use Rattle.fs_closing.proofs.RangeLemmas.{Has-of_filter}
+use Rattle.fs_closing.proofs.RuleRowLemmas.{rule_in}
+use Rattle.fs_closing.proofs.StepLemmas.{TakesRules, takes_more, takes_step, takes_all}
 use Rattle.fs_closing.proofs.steps.push_rules.Goals as goal
 
 pub push_rule-requires-clause-rule_in : goal.push_rule-requires-clause-rule_in
@@ -16,9 +16,9 @@ push_rule-requires-clause-rule_in c =
     let list = c.rules_above-rule-items.result.now in
     let at = Has-at list c.loop-rule.rule-index 0 c.loop-rule-test.true in
     let g = c.args.system.now in
-    let r = Has-of_filter (λ j. is_below g.types c.args.ty (slice_index_or g.rules j no_rule).ty) (range_with_len 0 (length g.rules))
+    let r = Has-of_filter (λ j. is_below g.types c.args.ty (slice_index_or g.rules j no_rule).ty) (rules_with_facts g.rules)
     (slice_index_or list c.loop-rule.rule-index 0) (subst (Has (slice_index_or list c.loop-rule.rule-index 0)) c.rules_above-rule-items.ensures at) in
-    Has-of_range (length g.rules) (slice_index_or list c.loop-rule.rule-index 0) r.0
+    rule_in g.rules (slice_index_or list c.loop-rule.rule-index 0) r.0
 
 pub loop-rule-preserved : goal.loop-rule-preserved
 loop-rule-preserved c =

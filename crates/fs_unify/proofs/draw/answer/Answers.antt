@@ -3,7 +3,7 @@ use Rattle.fs_graph.specs.Inside.{graph_map}
 use Rattle.fs_graph.specs.Orders.{IsClash}
 use Rattle.fs_closing.specs.Cells.{live_of}
 use Rattle.fs_closing.specs.Keeps.{deep_of}
-use Rattle.fs_closing.proofs.StepLemmas.{live_le}
+use Rattle.fs_closing.proofs.UniteLemmas.{live_le}
 use Rattle.fs_unify.proofs.DrawLemmas.{answer_cycle, answer_graph}
 use Rattle.fs_unify.proofs.DrawRows.{drawn_plan, draw_by}
 use Rattle.fs_unify.proofs.InsideLemmas.{graph_inside}

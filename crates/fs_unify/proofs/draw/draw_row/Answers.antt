@@ -1,6 +1,6 @@
 use Rattle.std.proofs.Common.{◌<◌, length, ◌∙◌, arith}
 use Rattle.std.proofs.lemmas.List.{get_or_default}
-use Rattle.fs_closing.proofs.StepLemmas.{live_next}
+use Rattle.fs_closing.proofs.UniteLemmas.{live_next}
 use Rattle.fs_unify.proofs.DrawRows.{rises_none, to_in_none}
 use Rattle.fs_unify.proofs.draw.draw_row.Goals as goal
 
