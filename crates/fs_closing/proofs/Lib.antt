@@ -11,4 +11,5 @@ pub mod ClosingLemmas
 pub mod UniteLemmas
 pub mod OrderLemmas
 pub mod RuleRowLemmas
+pub mod OutlineLemmas
 pub mod LevelLemmas

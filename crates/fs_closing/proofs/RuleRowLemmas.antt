@@ -1,5 +1,5 @@
 -- Rows of rules, which strings share.
-use Rattle.std.proofs.Common.{ℕ, ◌≡◌, ◌≢◌, ◌<◌, ◌≤◌, ◌+◌, ◌⊎◌, inl, inr, Bool, true, false, cond, Option, Some, None, List, [], ◌∷◌, ◌++◌, length, filter, slice_index_or, refl, sym, ◌∙◌, ap, arith, length-append}
+use Rattle.std.proofs.Common.{ℕ, ◌≡◌, ◌≢◌, ◌<◌, ◌≤◌, ◌+◌, ◌⊎◌, inl, inr, Bool, true, false, cond, Option, Some, None, List, [], ◌∷◌, ◌++◌, length, filter, slice_index_or, refl, sym, ◌∙◌, ap, arith, length-append, subst}
 use Rattle.std.specs.List.{range_with_len}
 use Rattle.std.specs.Prelude.{◌||◌}
 use Rattle.std.proofs.Math.ListN.{set, get_or-append}
@@ -10,7 +10,7 @@ use Rattle.type_hierarchy.specs.Table.{TypeTable, count_of, completed_count, is_
 use Rattle.type_hierarchy.proofs.LawLemmas.{below_string}
 use Rattle.fs_model.specs.Claims.{Claim, Has, here, there}
 use Rattle.fs_model.proofs.StepLemmas.{same_or_other}
-use Rattle.fs_closing.specs.Rules.{Rule, no_rule, has_facts, rules_with_facts, rules_above, HaveTypesIn}
+use Rattle.fs_closing.specs.Rules.{Rule, no_rule, has_facts, rules_with_facts, rules_above, HaveTypesIn, HaveSame}
 use Rattle.fs_closing.specs.Inner.RuleRows.{HaveRows, AddsRow, IsShared, HaveOwn}
 use Rattle.fs_closing.proofs.RangeLemmas.{Has-range, Has-of_range, Has-filter, Has-of_filter}
 
@@ -52,23 +52,27 @@ string_row types rules count t string t_in within is free =
     below_other types t (slice_index_or rules j no_rule).ty string (free j (omega (arith, j_in, is)))
     ∙ sym (below_other types (count_of types) (slice_index_or rules j no_rule).ty (omega (arith, string, t_in)) (λ e. omega (arith, within j j_in, e))))
 
-pub row_added : (rows rows' : List (List ℕ)) (number : ℕ) (row : List ℕ) → rows' ≡ rows ++ row ∷ [] → number ≡ length rows → AddsRow rows rows' number row
-row_added rows rows' number row is at = record {
+pub row_added : (rows rows' : List (List ℕ)) (number : ℕ) (row wanted : List ℕ) → rows' ≡ rows ++ row ∷ [] → number ≡ length rows → HaveSame row wanted →
+    AddsRow rows rows' number wanted
+row_added rows rows' number row wanted is at same = record {
   more = omega (arith, ap length is, length-append rows (row ∷ []));
   old = λ k h. ap (λ l. slice_index_or l k []) is ∙ get_or-append rows (row ∷ []) [] k h;
   within = omega (arith, ap length is, length-append rows (row ∷ []));
-  row_is = ap (λ l. slice_index_or l number []) is ∙ ap (λ i. slice_index_or (rows ++ row ∷ []) i []) at ∙ get_or-append_seam rows row [] [];
+  row_is = subst (λ l. HaveSame l wanted)
+      (sym (ap (λ l. slice_index_or l number []) is ∙ ap (λ i. slice_index_or (rows ++ row ∷ []) i []) at ∙ get_or-append_seam rows row [] [])) same;
 }
 
 -- a row that is there already
-pub row_found : (rows : List (List ℕ)) (number : ℕ) (row : List ℕ) → number < length rows → slice_index_or rows number [] ≡ row → AddsRow rows rows number row
+pub row_found : (rows : List (List ℕ)) (number : ℕ) (row : List ℕ) → number < length rows → HaveSame (slice_index_or rows number []) row →
+    AddsRow rows rows number row
 row_found rows number row h is = record { more = omega arith; old = λ k _. refl; within = h; row_is = is }
 
 -- the shared row stays where rows are added
 pub shared_kept : (types : TypeTable) (rules : List Rule) (rows rows' : List (List ℕ)) (number : ℕ) (row : List ℕ) (shared : Option ℕ) →
     AddsRow rows rows' number row → IsShared types rules rows shared → IsShared types rules rows' shared
 shared_kept types rules rows rows' number row None added old = tt
-shared_kept types rules rows rows' number row (Some r) added (within, is) = (omega (arith, within, added.more), added.old r within ∙ is)
+shared_kept types rules rows rows' number row (Some r) added (within, is) =
+    (omega (arith, within, added.more), subst (λ l. HaveSame l (rules_above types rules (count_of types))) (sym (added.old r within)) is)
 
 pub rows_none : (types : TypeTable) (rules : List Rule) (rows : List (List ℕ)) → HaveRows types rules rows [] 0
 rows_none types rules rows = record { each = refl; within = λ t h. absurd (omega arith); row_is = λ t h. absurd (omega arith) }
@@ -95,12 +99,14 @@ rows_more types rules rows rows' row_of row_of' number t old added is = record {
     within k h (inl a) = omega (arith, at_old k a, old.within k a, added.more)
     within k h (inr a) = let e : k ≡ t = omega arith in omega (arith, at_new k e, added.within)
 
-    row_is : (k : ℕ) → k < t + 1 → (k < t) ⊎ (t ≤ k) → slice_index_or rows' (slice_index_or row_of' k 0) [] ≡ rules_above types rules k
+    row_is : (k : ℕ) → k < t + 1 → (k < t) ⊎ (t ≤ k) → HaveSame (slice_index_or rows' (slice_index_or row_of' k 0) []) (rules_above types rules k)
     row_is k h (inl a) =
-        ap (λ i. slice_index_or rows' i []) (at_old k a) ∙ added.old (slice_index_or row_of k 0) (old.within k a) ∙ old.row_is k a
+        subst (λ l. HaveSame l (rules_above types rules k))
+        (sym (ap (λ i. slice_index_or rows' i []) (at_old k a) ∙ added.old (slice_index_or row_of k 0) (old.within k a))) (old.row_is k a)
     row_is k h (inr a) =
         let e : k ≡ t = omega arith in
-        ap (λ i. slice_index_or rows' i []) (at_new k e) ∙ added.row_is ∙ ap (rules_above types rules) (sym e)
+        subst (λ z. HaveSame (slice_index_or rows' (slice_index_or row_of' k 0) []) (rules_above types rules z)) (sym e)
+        (subst (λ l. HaveSame l (rules_above types rules t)) (sym (ap (λ i. slice_index_or rows' i []) (at_new k e))) added.row_is)
 
 -- the mark of one rule's type more
 pub own_more : (rules : List Rule) (taken count ty : ℕ) (own : List Bool) → ty < count → ty ≡ (slice_index_or rules taken no_rule).ty →

@@ -20,7 +20,7 @@ use Rattle.fs_closing.specs.declared.nodes.Cell.{Cell}
 use Rattle.fs_closing.specs.declared.tasks.Entry.{Entry}
 use Rattle.fs_closing.specs.NodeTable.{table_from}
 use Rattle.fs_closing.specs.Joined.{IsJoined}
-use Rattle.fs_closing.specs.Rules.{Rule, Grammar, no_rule, facts_in, rules_with_facts, rules_above, system_of}
+use Rattle.fs_closing.specs.Rules.{Rule, Grammar, no_rule, facts_in, rules_with_facts, rules_above, system_of, HaveSame}
 use Rattle.fs_closing.specs.declared.tasks.Tasks.{Tasks}
 use Rattle.fs_closing.specs.Work.{entry_claims, work_of}
 use Rattle.fs_closing.specs.Keeps.{Deep, Turns, Refutes, IsSameWork, begin, IsHeld, PushesFacts, deep_of, Leads, StepsTo, Reaches}
@@ -200,6 +200,20 @@ takes_more g node old other j taken taken' work now work' entry is en er ef befo
             let r = Has-of_map (from node) c _ (subst (Has c) claims_are x) in
             inl (j, r.0, subst (Has j) (sym is) (Has-right j taken (j ∷ []) here), r.1, r.2)
         go (inr x) = wider c (before.only c x)
+
+-- rules in another order
+pub takes_same : (g : Grammar) (node old other : ℕ) (taken taken' : List ℕ) (work work' : List NodeClaim) → HaveSame taken taken' →
+    TakesRules g node old other taken work work' → TakesRules g node old other taken' work work'
+takes_same g node old other taken taken' work work' same all = record {
+  facts = λ j h. all.facts j (same.back j h);
+  rest = all.rest;
+  only = λ c h. go c (all.only c h);
+}
+  where
+    go : (c : NodeClaim) → ((j : ℕ) × (d : Claim) × Has j taken × Has d (slice_index_or g.rules j no_rule).claims × (c ≡ from node d)) ⊎ Has c work →
+        ((j : ℕ) × (d : Claim) × Has j taken' × Has d (slice_index_or g.rules j no_rule).claims × (c ≡ from node d)) ⊎ Has c work
+    go c (inl (j, d, a, b, e)) = inl (j, d, same.to j a, b, e)
+    go c (inr h) = inr h
 
 -- all rules above a type were taken
 pub takes_all : (g : Grammar) (node ty old other : ℕ) (work work' : List NodeClaim) → TakesRules g node old other (rules_above g.types g.rules ty) work work' →

@@ -46,6 +46,11 @@ rules_with_facts rules = filter (λ j. has_facts (slice_index_or rules j no_rule
 abbrev pub rules_above : TypeTable → List Rule → ℕ → List ℕ
 rules_above types rules t = filter (λ j. is_below types t (slice_index_or rules j no_rule).ty) (rules_with_facts rules)
 
+-- two lists have the same members
+pub record HaveSame (xs ys : List ℕ) : Type 0 where
+  pub to : (j : ℕ) → Has j xs → Has j ys
+  pub back : (j : ℕ) → Has j ys → Has j xs
+
 -- a claim speaks of features and types that are there
 abbrev pub IsClaimIn : ℕ → ℕ → Claim → Type 0
 IsClaimIn types feats (exists_at p) = All (λ f. f < feats) p

@@ -1,13 +1,15 @@
 //! For each type, the rules whose type is at or above it.
 
-ghost use Rattle.std.specs.Prelude.{◌≡◌, ◌≢◌, ℕ, ◌<◌, ◌≤◌, ◌^◌, ◌++◌, [], ◌∷◌, length, map, IfOk, OnOk, slice_index_or, if◌then◌else◌};
+ghost use Rattle.std.specs.Prelude.{◌≡◌, ◌≢◌, ℕ, ◌<◌, ◌≤◌, ◌^◌, length, map, IfOk, OnOk, slice_index_or};
 ghost use Rattle.type_hierarchy.specs.Table.{count_of, completed_count};
-ghost use Rattle.fs_closing.specs.Rules.{no_rule, has_facts, rules_with_facts, rules_above, HaveTypesIn};
-ghost use Rattle.fs_closing.specs.Systems.{rule_of, rules_of};
+ghost use Rattle.fs_closing.specs.Rules.{no_rule, rules_above, HaveTypesIn, HaveSame};
+ghost use Rattle.fs_closing.specs.Systems.{rules_of};
+ghost use Rattle.fs_closing.specs.Inner.Outlines.{IsOutline};
 ghost use Rattle.fs_closing.specs.Inner.RuleRows.{HaveRows, AddsRow, IsShared, HaveOwn};
 
 use crate::facts::TypeFacts;
 use crate::fault::NoMemory;
+use crate::outline::{Outline, outline_of, type_of};
 use std::alloc::{AllocError, Global};
 use type_hierarchy::{Ty, Types};
 
@@ -25,53 +27,30 @@ pub struct Rows {
     pub shared: Option<u32>,
 }
 
-// Adds a number where it is wanted.
-fn push_if(row: &mut Vec<u32>, wanted: bool, number: u32) -> Result<(), AllocError>
-    ensures { OnOk result (row.new.items ≡ row.old.items ++ (if wanted then number ∷ [] else [])) }
-{
-    if wanted {
-        row.push(number)?;
-    }
-    Ok(())
-}
-
-// Whether there are facts of a type.
-fn says_something(constraint: &TypeFacts) -> bool
-    ensures { result ≡ has_facts (rule_of constraint.now) }
-{
-    0 < constraint.facts.len()
-}
-
-// The places of the constraints that have facts.
-fn with_facts(alloc: Global, constraints: &[TypeFacts]) -> Result<Vec<u32>, AllocError>
-    requires { length constraints.now < 2 ^ 32 }
-    ensures { IfOk result (λ places. places.items ≡ rules_with_facts (rules_of constraints.now)) }
-{
-    let mut places = Vec::new(alloc);
-    for j in 0..constraints.len() {
-        let wanted = says_something(&constraints[j]);
-        push_if(&mut places, wanted, j as u32)?;
-    }
-    Ok(places)
-}
-
-// The places of those constraints with facts whose type is at or above a type.
+// The places of the constraints with facts whose type is at or above a type.
 fn row_above(
     alloc: Global,
     types: &Types,
     constraints: &[TypeFacts],
-    places: &[u32],
+    outline: &Outline,
     t: u32,
 ) -> Result<Vec<u32>, AllocError>
     requires t_in { t < count_of types.now }
     requires types_in { HaveTypesIn (count_of types.now) (rules_of constraints.now) }
-    requires places { places.now ≡ rules_with_facts (rules_of constraints.now) }
-    ensures { IfOk result (λ row. row.items ≡ rules_above types.now (rules_of constraints.now) t) }
+    requires outline { IsOutline types.now (rules_of constraints.now) outline.now.order.items outline.now.ends.items }
+    ensures { IfOk result (λ row. HaveSame row.items (rules_above types.now (rules_of constraints.now) t)) }
 {
+    types.laws();
     let mut row = Vec::new(alloc);
-    for j in places {
-        let is_above = types.at_or_below(Ty(t), constraints[*j as usize].ty);
-        push_if(&mut row, is_above, *j)?;
+    let mut i = 0;
+    while i < outline.order.len() {
+        let place = outline.order[i];
+        if types.at_or_below(Ty(t), type_of(constraints, place)) {
+            row.push(place)?;
+            i += 1;
+        } else {
+            i = outline.ends[i];
+        }
     }
     Ok(row)
 }
@@ -88,17 +67,17 @@ fn new_row(
     alloc: Global,
     types: &Types,
     constraints: &[TypeFacts],
-    places: &[u32],
+    outline: &Outline,
     rows: &mut Vec<Vec<u32>>,
     t: u32,
 ) -> Result<u32, NoMemory>
-    requires places { places.now ≡ rules_with_facts (rules_of constraints.now) }
+    requires outline { IsOutline types.now (rules_of constraints.now) outline.now.order.items outline.now.ends.items }
     requires t_in { t < count_of types.now }
     requires types_in { HaveTypesIn (count_of types.now) (rules_of constraints.now) }
     ensures { IfOk result (λ r. AddsRow (map (λ row. row.items) rows.old.items) (map (λ row. row.items) rows.new.items) r (rules_above types.now (rules_of constraints.now) t)) }
 {
     let number = row_count(rows)?;
-    let row = row_above(alloc, types, constraints, places, t)?;
+    let row = row_above(alloc, types, constraints, outline, t)?;
     rows.push(row)?;
     Ok(number)
 }
@@ -108,11 +87,11 @@ fn shared_row(
     alloc: Global,
     types: &Types,
     constraints: &[TypeFacts],
-    places: &[u32],
+    outline: &Outline,
     rows: &mut Rows,
     t: u32,
 ) -> Result<u32, NoMemory>
-    requires places { places.now ≡ rules_with_facts (rules_of constraints.now) }
+    requires outline { IsOutline types.now (rules_of constraints.now) outline.now.order.items outline.now.ends.items }
     requires t_in { t < count_of types.now }
     requires string { completed_count types.now ≤ t }
     requires types_in { HaveTypesIn (count_of types.now) (rules_of constraints.now) }
@@ -124,7 +103,7 @@ fn shared_row(
     if let Some(number) = rows.shared {
         return Ok(number);
     }
-    let number = new_row(alloc, types, constraints, places, &mut rows.list, t)?;
+    let number = new_row(alloc, types, constraints, outline, &mut rows.list, t)?;
     rows.shared = Some(number);
     Ok(number)
 }
@@ -146,12 +125,12 @@ fn row_number(
     alloc: Global,
     types: &Types,
     constraints: &[TypeFacts],
-    places: &[u32],
+    outline: &Outline,
     own: &[bool],
     rows: &mut Rows,
     t: u32,
 ) -> Result<u32, NoMemory>
-    requires places { places.now ≡ rules_with_facts (rules_of constraints.now) }
+    requires outline { IsOutline types.now (rules_of constraints.now) outline.now.order.items outline.now.ends.items }
     requires t_in { t < count_of types.now }
     requires types_in { HaveTypesIn (count_of types.now) (rules_of constraints.now) }
     requires own { HaveOwn (rules_of constraints.now) (length constraints.now) (count_of types.now) own.now }
@@ -161,10 +140,10 @@ fn row_number(
 {
     let completed = types.counts().completed;
     if completed <= t && !own[t as usize] {
-        let number = shared_row(alloc, types, constraints, places, rows, t)?;
+        let number = shared_row(alloc, types, constraints, outline, rows, t)?;
         return Ok(number);
     }
-    let number = new_row(alloc, types, constraints, places, &mut rows.list, t)?;
+    let number = new_row(alloc, types, constraints, outline, &mut rows.list, t)?;
     Ok(number)
 }
 
@@ -179,7 +158,7 @@ pub fn rule_rows(
     ensures { IfOk result (λ table. HaveRows types.now (rules_of constraints.now) (map (λ row. row.items) table.rows.items) table.row_of.items (count_of types.now)) }
 {
     let all = types.counts().all;
-    let places = with_facts(alloc, constraints)?;
+    let outline = outline_of(alloc, types, constraints)?;
     let own = owners(alloc, all, constraints)?;
     let mut rows = Rows {
         list: Vec::new(alloc),
@@ -187,7 +166,7 @@ pub fn rule_rows(
     };
     let mut row_of = Vec::with_capacity(alloc, all as usize)?;
     for t in 0..all {
-        let number = row_number(alloc, types, constraints, &places, &own, &mut rows, t)?;
+        let number = row_number(alloc, types, constraints, &outline, &own, &mut rows, t)?;
         row_of.push(number)?;
     }
     Ok(RuleRows {

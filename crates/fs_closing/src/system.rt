@@ -3,7 +3,7 @@
 ghost use Rattle.std.specs.Prelude.{◌≡◌, ℕ, ◌<◌, length, IfOk, slice_index_or};
 ghost use Rattle.type_hierarchy.specs.Table.{count_of};
 ghost use Rattle.fs_paths.specs.Facts.{claims_of};
-ghost use Rattle.fs_closing.specs.Rules.{IsGrammar, rules_above, no_rule, IsClaimIn};
+ghost use Rattle.fs_closing.specs.Rules.{IsGrammar, rules_above, no_rule, IsClaimIn, HaveSame};
 ghost use Rattle.fs_closing.specs.Systems.{grammar_of};
 ghost use Rattle.fs_model.specs.Claims.{Claim, Has};
 
@@ -96,10 +96,10 @@ impl TypeSystem {
         self.introducers[feat as usize].0
     }
 
-    /// The places of the entries of `constraints` that have facts and whose type is at or above a type.
+    /// The places of the entries of `constraints` that have facts and whose type is at or above a type, in any order.
     pub fn rules_above(&self, t: u32) -> &[u32]
         requires { t < count_of self.now.types }
-        ensures { result.now ≡ rules_above self.now.types self.now.rules t }
+        ensures { HaveSame result.now (rules_above self.now.types self.now.rules t) }
     {
         let row = self.above.row_of[t as usize];
         &self.above.rows[row as usize]

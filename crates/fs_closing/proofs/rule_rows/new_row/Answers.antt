@@ -6,7 +6,6 @@ use Rattle.fs_closing.proofs.rule_rows.new_row.Goals as goal
 pub returns : goal.returns
 returns c =
     let rows = c.args.rows.now.items in
-    row_added (map (λ row. row.items) rows) (map (λ row. row.items) c.push.new.self.items) _ _
-    (ap (map (λ row. row.items)) c.in_ok-push.ensures.items ∙ map-append (λ row. row.items) rows (c.in_ok-row.row ∷ [])
-    ∙ ap (λ x. map (λ row. row.items) rows ++ x ∷ []) c.in_ok-row.ensures)
-    (c.in_ok-number.ensures ∙ sym (length-map rows (λ row. row.items)))
+    row_added (map (λ row. row.items) rows) (map (λ row. row.items) c.push.new.self.items) _ c.in_ok-row.row.items _
+    (ap (map (λ row. row.items)) c.in_ok-push.ensures.items ∙ map-append (λ row. row.items) rows (c.in_ok-row.row ∷ []))
+    (c.in_ok-number.ensures ∙ sym (length-map rows (λ row. row.items))) c.in_ok-row.ensures

@@ -1,60 +1,52 @@
-use Rattle.std.proofs.Common.{◌<◌, ◌++◌, [], ◌∷◌, length, take, slice_index_or, filter, sym, ◌∙◌, ap, subst, cond, arith}
-use Rattle.std.proofs.lemmas.List.{get_or-map, length-map, take_more, take_all}
-use Rattle.std.proofs.lemmas.List.Elements.{filter-append}
+use Rattle.std.proofs.Common.{◌≡◌, ◌<◌, ◌≤◌, ◌-◌, false, length, filter, slice_index_or, sym, ◌∙◌, ap, subst, arith}
+use Rattle.std.proofs.lemmas.List.{get_or_default, take_all}
 use Rattle.type_hierarchy.specs.Table.{is_below}
-use Rattle.fs_model.specs.Claims.{Has}
 use Rattle.fs_closing.specs.Rules.{no_rule}
-use Rattle.fs_closing.specs.Systems.{rule_of, rules_of}
-use Rattle.fs_closing.proofs.HasLemmas.{Has-at}
-use Rattle.fs_closing.proofs.RuleRowLemmas.{rule_in}
+use Rattle.fs_closing.specs.Systems.{rules_of}
+use Rattle.fs_closing.specs.Inner.Outlines.{IsEnd}
+use Rattle.fs_closing.proofs.OutlineLemmas.{place_in, passed_over, same_above}
 use Rattle.fs_closing.proofs.rule_rows.row_above.Goals as goal
 
-pub bounds-constraints-j : goal.bounds-constraints-j
-bounds-constraints-j c =
-    let places = c.args.places.now in
-    let i = c.loop-j.j-index in
-    let rules = rules_of c.args.constraints.now in
-    let k_in : slice_index_or c.args.places.now c.loop-j.j-index 0 < length (rules_of c.args.constraints.now) =
-    rule_in rules (slice_index_or places i 0) (subst (Has (slice_index_or places i 0)) c.requires.places (Has-at places i 0 c.loop-j-test.true)) in
-    omega (arith, k_in, length-map c.args.constraints.now rule_of)
+pub type_of-requires : goal.type_of-requires
+type_of-requires c =
+    let order = c.args.outline.now.order.items in
+    let i_in : c.loop-i.i < length c.args.outline.now.order.items = omega (arith, c.loop-i-test.true, c.len.ensures) in
+    omega (arith, c.index-place.ensures ∙ get_or_default order c.loop-i.i _ 0 i_in, place_in c.args.constraints.now order c.loop-i.i c.requires.outline.same i_in)
 
-pub bounds-constraints-j-in-loop-j : goal.bounds-constraints-j-in-loop-j
-bounds-constraints-j-in-loop-j c =
-    let places = c.args.places.now in
-    let i = c.loop-j.j-index in
-    let rules = rules_of c.args.constraints.now in
-    let k_in : slice_index_or c.args.places.now c.loop-j.j-index 0 < length (rules_of c.args.constraints.now) =
-    rule_in rules (slice_index_or places i 0) (subst (Has (slice_index_or places i 0)) c.requires.places (Has-at places i 0 c.loop-j-test.true)) in
-    omega (arith, k_in, length-map c.args.constraints.now rule_of)
+pub loop-i-smaller : goal.loop-i-smaller
+loop-i-smaller c =
+    let outline = c.args.outline.now in
+    let i_in : c.loop-i.i < length c.args.outline.now.order.items = omega (arith, c.loop-i-test.true, c.len.ensures) in
+    let end = c.requires.outline.each_end.ends_at c.loop-i.i i_in in
+    let at = c.index-i.ensures ∙ get_or_default outline.ends.items c.loop-i.i _ 0 (omega (arith, i_in, c.requires.outline.each_end.each)) in
+    let smaller : length c.args.outline.now.order.items - c.index-i.result.now < length c.args.outline.now.order.items - c.loop-i.i =
+    omega (arith, i_in, at, end.behind, end.within) in
+    smaller
 
-pub at_or_below-is_above-requires-clause-b_in : goal.at_or_below-is_above-requires-clause-b_in
-at_or_below-is_above-requires-clause-b_in c =
-    let places = c.args.places.now in
-    let i = c.loop-j.j-index in
+pub loop-i-preserved : goal.loop-i-preserved
+loop-i-preserved c =
+    let types = c.args.types.now in
     let rules = rules_of c.args.constraints.now in
-    let k_in : slice_index_or c.args.places.now c.loop-j.j-index 0 < length (rules_of c.args.constraints.now) =
-    rule_in rules (slice_index_or places i 0) (subst (Has (slice_index_or places i 0)) c.requires.places (Has-at places i 0 c.loop-j-test.true)) in
-    let k_there : slice_index_or c.args.places.now c.loop-j.j-index 0 < length c.args.constraints.now = omega (arith, k_in, length-map c.args.constraints.now rule_of) in
-    let rule = get_or-map rule_of c.args.constraints.now (slice_index_or places i 0) c.index-constraints-j.result no_rule k_there in
-    omega (arith, ap (λ r. r.ty) rule, c.requires.types_in (slice_index_or places i 0) k_in)
-
-pub loop-j-preserved : goal.loop-j-preserved
-loop-j-preserved c =
-    let places = c.args.places.now in
-    let i = c.loop-j.j-index in
-    let k = slice_index_or places i 0 in
-    let rules = rules_of c.args.constraints.now in
-    let k_in : k < length rules = rule_in rules k (subst (Has k) c.requires.places (Has-at places i 0 c.loop-j-test.true)) in
-    let rule = get_or-map rule_of c.args.constraints.now k c.index-constraints-j.result no_rule (omega (arith, k_in, length-map c.args.constraints.now rule_of)) in
-    c.in_ok-push_if.ensures
-    ∙ ap (λ l. l ++ cond c.at_or_below-is_above.result (k ∷ []) []) c.loop-j.invariant
-    ∙ ap (λ b. filter (λ k. is_below c.args.types.now c.args.t (slice_index_or rules k no_rule).ty) (take i places) ++ cond b (k ∷ []) [])
-    (c.at_or_below-is_above.ensures ∙ ap (λ r. is_below c.args.types.now c.args.t r.ty) (sym rule))
-    ∙ sym (filter-append (λ k. is_below c.args.types.now c.args.t (slice_index_or rules k no_rule).ty) (take i places) (k ∷ []))
-    ∙ sym (ap (filter (λ k. is_below c.args.types.now c.args.t (slice_index_or rules k no_rule).ty)) (take_more places i 0 c.loop-j-test.true))
+    let outline = c.args.outline.now in
+    let order = outline.order.items in
+    let i = c.loop-i.i in
+    let i_in : c.loop-i.i < length c.args.outline.now.order.items = omega (arith, c.loop-i-test.true, c.len.ensures) in
+    let at = c.index-i.ensures ∙ get_or_default outline.ends.items i _ 0 (omega (arith, i_in, c.requires.outline.each_end.each)) in
+    let end = subst (IsEnd types rules order i) (sym at) (c.requires.outline.each_end.ends_at i i_in) in
+    let place = c.index-place.ensures ∙ get_or_default order i _ 0 i_in in
+    let free : is_below c.args.types.now c.args.t
+    (slice_index_or (rules_of c.args.constraints.now) (slice_index_or c.args.outline.now.order.items c.loop-i.i 0) no_rule).ty ≡ false =
+    ap (λ z. is_below types c.args.t (slice_index_or rules z no_rule).ty) (sym place) ∙ ap (is_below types c.args.t) (sym c.type_of.ensures) ∙ sym c.at_or_below.ensures
+    ∙ c.if-at_or_below.false in
+    record {
+      row_is = c.loop-i.invariant.row_is ∙ sym (passed_over types rules order c.args.t c.laws.ensures.transitive i c.index-i.result.now end free);
+      within = end.within;
+    }
 
 pub returns : goal.returns
 returns c =
     let rules = rules_of c.args.constraints.now in
-    c.loop-j.invariant
-    ∙ ap (filter (λ k. is_below c.args.types.now c.args.t (slice_index_or rules k no_rule).ty)) (take_all c.loop-j.j-index c.args.places.now c.loop-j-test.false ∙ c.requires.places)
+    let order = c.args.outline.now.order.items in
+    let over : length c.args.outline.now.order.items ≤ c.loop-i.i = omega (arith, c.loop-i-test.false, c.len.ensures) in
+    same_above c.args.types.now rules c.args.t order c.loop-i.row.items c.requires.outline.same
+    (c.loop-i.invariant.row_is ∙ ap (filter (λ k. is_below c.args.types.now c.args.t (slice_index_or rules k no_rule).ty)) (take_all c.loop-i.i order over))

@@ -4,7 +4,7 @@ use Rattle.std.specs.List.{range_with_len}
 use Rattle.fs_closing.specs.Rules.{no_rule, has_facts}
 use Rattle.fs_closing.specs.Systems.{rule_of, rules_of}
 use Rattle.fs_closing.proofs.RangeLemmas.{filter_more}
-use Rattle.fs_closing.proofs.rule_rows.with_facts.Goals as goal
+use Rattle.fs_closing.proofs.outline.with_facts.Goals as goal
 
 pub loop-j-preserved : goal.loop-j-preserved
 loop-j-preserved c =
