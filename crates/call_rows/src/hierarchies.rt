@@ -1,47 +1,140 @@
 //! Faults of declarations, the order of types, and completed types with their meets.
 
+use crate::steps::{front, number};
 use glb_completion::{CompleteFault, complete};
 use std::alloc::{AllocError, Global};
-use std::io;
 use type_hierarchy::{Decl, Hierarchy, Ty, TypeFault, Types};
 
-const DECLARED: [&str; 11] = [
-    "a *top*/b *top*/c a b/d a b",
-    "a *top*/a *top*",
-    "a *top* nope2/b nope1",
-    "a glbtype1",
-    "a b/b a",
-    "c a/a b/b a",
-    "*top* a/a",
-    "*top*",
-    "glbtype1 *top*",
-    "glbtype/glbtypex1",
-    "a string/string *top*",
-];
+// The types that the last steps declared.
+#[derive(Drop)]
+pub struct Hierarchies {
+    declared: Option<Hierarchy>,
+    completed: Option<Types>,
+}
 
-pub fn print<R: Print>(rt: &R, alloc: Global) -> io::Result<()> {
-    for lines in DECLARED {
-        let found = fault(alloc, &decls(alloc, lines)?)?;
-        println!(rt; "types of {lines}: {found}")?;
+impl Hierarchies {
+    pub fn new() -> Hierarchies {
+        Hierarchies {
+            declared: None,
+            completed: None,
+        }
     }
-    too_many(rt, alloc)?;
-    order(rt, alloc)?;
-    completed(rt, alloc)?;
-    let found = crossed(alloc, 12)?;
-    println!(rt; "crossed 12: {found}")
+
+    // `types DECLARATIONS` is the fault of these, each a name and its parents', with a stroke between each two; `below A
+    // B` asks the types declared last. `complete STRINGS` completes them, `supertypes T`, `meet A B`, `at-or-below A B`
+    // and `find NAME` ask what came of it. `numbered COUNT` and `crossed COUNT` declare many.
+    pub fn answer(
+        &mut self,
+        alloc: Global,
+        step: &str,
+        rest: &str,
+    ) -> Result<Option<String>, AllocError> {
+        match step {
+            "types" => {
+                let decls = decls(alloc, rest)?;
+                Ok(Some(self.declare(alloc, &decls)?))
+            }
+            "numbered" => {
+                let decls = numbered(alloc, number(rest))?;
+                Ok(Some(self.declare(alloc, &decls)?))
+            }
+            "crossed" => {
+                let decls = crossed(alloc, number(rest))?;
+                Ok(Some(self.declare(alloc, &decls)?))
+            }
+            "below" => Ok(Some(self.below(alloc, rest)?)),
+            "complete" => Ok(Some(self.complete(alloc, rest)?)),
+            _ => match &self.completed {
+                Some(types) => asked(alloc, types, step, rest),
+                None => Ok(None),
+            },
+        }
+    }
+
+    fn declare(&mut self, alloc: Global, decls: &[Decl]) -> Result<String, AllocError> {
+        match Hierarchy::build(alloc, decls, "*top*", "string") {
+            Ok(found) => {
+                self.declared = Some(found);
+                String::from_str(alloc, "none")
+            }
+            Err(fault) => fault_text(alloc, &fault),
+        }
+    }
+
+    fn below(&self, alloc: Global, rest: &str) -> Result<String, AllocError> {
+        let (a, b) = pair(rest);
+        match &self.declared {
+            Some(types) if a < types.count() && b < types.count() => {
+                format!(in alloc; "{}", types.below(a, b))
+            }
+            _ => String::from_str(alloc, "no such types"),
+        }
+    }
+
+    fn complete(&mut self, alloc: Global, rest: &str) -> Result<String, AllocError> {
+        let Some(hierarchy) = self.declared.take() else {
+            return String::from_str(alloc, "no types");
+        };
+        match complete(alloc, hierarchy, &strings(alloc, rest)?) {
+            Ok(types) => {
+                let counts = types.counts();
+                self.completed = Some(types);
+                format!(in alloc;
+                    "{} written, {} completed, {} in all",
+                    counts.written, counts.completed, counts.all
+                )
+            }
+            Err(CompleteFault::TooManyTypes) => String::from_str(alloc, "TooManyTypes"),
+            Err(CompleteFault::NoMemory) => String::from_str(alloc, "NoMemory"),
+        }
+    }
+}
+
+// The two numbers of a text.
+fn pair(text: &str) -> (u32, u32) {
+    let (a, b) = front(text);
+    (number(a), number(b))
+}
+
+// The texts of strings, each with a blank before it.
+fn strings(alloc: Global, rest: &str) -> Result<Vec<String>, AllocError> {
+    let mut found = Vec::new(alloc);
+    for word in rest.split(' ') {
+        if !word.is_empty() {
+            found.push(String::from_str(alloc, word)?)?;
+        }
+    }
+    Ok(found)
+}
+
+// What is asked of completed types.
+fn asked(
+    alloc: Global,
+    types: &Types,
+    step: &str,
+    rest: &str,
+) -> Result<Option<String>, AllocError> {
+    let (a, b) = pair(rest);
+    let all = types.counts().all;
+    match step {
+        "find" => Ok(Some(format!(in alloc; "{:?}", types.find(rest))?)),
+        "supertypes" if a < all => Ok(Some(line_of(alloc, types, Ty(a))?)),
+        "meet" if a < all && b < all => {
+            Ok(Some(format!(in alloc; "{:?}", types.meet(Ty(a), Ty(b)))?))
+        }
+        "at-or-below" if a < all && b < all => {
+            Ok(Some(format!(in alloc; "{}", types.at_or_below(Ty(a), Ty(b)))?))
+        }
+        _ => Ok(None),
+    }
 }
 
 // A declaration, written as its name and its parents' names.
 fn decl(alloc: Global, line: &str) -> Result<Decl, AllocError> {
-    let mut words = line.split(' ');
-    let name = words.next().unwrap_or("");
-    let mut parents = Vec::new(alloc);
-    for word in words {
-        parents.push(String::from_str(alloc, word)?)?;
-    }
+    let (name, rest) = front(line);
     Ok(Decl {
         name: String::from_str(alloc, name)?,
-        parents,
+        parents: strings(alloc, rest)?,
         at: 0,
     })
 }
@@ -55,134 +148,59 @@ fn decls(alloc: Global, lines: &str) -> Result<Vec<Decl>, AllocError> {
     Ok(decls)
 }
 
-// The fault of the declarations in words, or `none`.
-fn fault(alloc: Global, decls: &[Decl]) -> Result<String, AllocError> {
-    let Err(fault) = Hierarchy::build(alloc, decls, "*top*", "string") else {
-        return String::from_str(alloc, "none");
-    };
-    match fault {
-        TypeFault::Duplicate { name } => format!(in alloc; "Duplicate {name}"),
-        TypeFault::Unknown { name, parent } => format!(in alloc; "Unknown {name} {parent}"),
-        TypeFault::Cycle { name } => format!(in alloc; "Cycle {name}"),
-        TypeFault::Reserved { name } => format!(in alloc; "Reserved {name}"),
-        TypeFault::TooMany { count } => format!(in alloc; "TooMany {count}"),
-        TypeFault::NoMemory => String::from_str(alloc, "NoMemory"),
-    }
-}
-
-// One type more than there may be.
-fn too_many<R: Print>(rt: &R, alloc: Global) -> io::Result<()> {
+// So many types below the top type.
+fn numbered(alloc: Global, count: u32) -> Result<Vec<Decl>, AllocError> {
     let mut decls = Vec::new(alloc);
-    for number in 0..16_385u32 {
+    for number in 0..count {
         let line = format!(in alloc; "t{number:05} *top*")?;
         decls.push(decl(alloc, line.as_str())?)?;
     }
-    let found = fault(alloc, &decls)?;
-    println!(rt; "16385 types: {found}")
+    Ok(decls)
 }
 
-// Types that stand before their parents: c is 2, a is 3, d is 4, b is 5, e is 6.
-fn order<R: Print>(rt: &R, alloc: Global) -> io::Result<()> {
-    let Ok(h) = Hierarchy::build(
-        alloc,
-        &decls(alloc, "c a b/a *top*/d e/b *top*/e a")?,
-        "*top*",
-        "string",
-    ) else {
-        return println!(rt; "no hierarchy");
-    };
-    if h.count() <= 6 {
-        return println!(rt; "too few types");
+// Types c0 to cn below the top type, and d0 to dn, each below every c but the one of its own number.
+fn crossed(alloc: Global, count: u32) -> Result<Vec<Decl>, AllocError> {
+    let mut decls = Vec::new(alloc);
+    for upper in 0..count {
+        let line = format!(in alloc; "c{upper} *top*")?;
+        decls.push(decl(alloc, line.as_str())?)?;
     }
-    for (a, b) in [(2u32, 3u32), (2, 5), (4, 3), (1, 0), (3, 2), (4, 5), (2, 6)] {
-        if a < h.count() && b < h.count() {
-            println!(rt; "{a} is at or below {b}: {}", h.below(a, b))?;
-        }
+    for lower in 0..count {
+        let line = below_all_but(alloc, lower, count)?;
+        decls.push(decl(alloc, line.as_str())?)?;
     }
-    Ok(())
+    Ok(decls)
 }
 
-// A type's name and those of its immediate supertypes.
-fn line_of(alloc: Global, types: &Types, t: u32) -> Result<String, AllocError> {
-    if t >= types.counts().all {
-        return String::from_str(alloc, "no such type");
-    }
-    let Ok(above) = types.supertypes(alloc, Ty(t)) else {
-        return String::from_str(alloc, "no memory");
-    };
-    let mut line = format!(in alloc; "{}:", types.name(Ty(t)))?;
-    for u in &above {
-        if u.0 < types.counts().all {
-            line.push_str(format!(in alloc; " {}", types.name(*u))?.as_str())?;
+fn below_all_but(alloc: Global, lower: u32, count: u32) -> Result<String, AllocError> {
+    let mut line = format!(in alloc; "d{lower}")?;
+    for upper in 0..count {
+        if upper != lower {
+            line.push_str(format!(in alloc; " c{upper}")?.as_str())?;
         }
     }
     Ok(line)
 }
 
-// The types a and b, c and d below both, and a string with the text of a type.
-fn diamond(alloc: Global) -> Result<Option<Types>, AllocError> {
-    let decls = decls(alloc, "a *top*/b *top*/c a b/d a b")?;
-    let strings = vec![in alloc; String::from_str(alloc, "a")?]?;
-    let Ok(hierarchy) = Hierarchy::build(alloc, &decls, "*top*", "string") else {
-        return Ok(None);
-    };
-    Ok(complete(alloc, hierarchy, &strings).ok())
+fn fault_text(alloc: Global, fault: &TypeFault) -> Result<String, AllocError> {
+    format!(in alloc; "{fault:?}")
 }
 
-fn completed<R: Print>(rt: &R, alloc: Global) -> io::Result<()> {
-    let Some(types) = diamond(alloc)? else {
-        return println!(rt; "no completion");
-    };
+// A type's name and those of its immediate supertypes.
+fn line_of(alloc: Global, types: &Types, t: Ty) -> Result<String, AllocError> {
     let all = types.counts().all;
-    for t in 0..all {
-        let line = line_of(alloc, &types, t)?;
-        println!(rt; "{line}")?;
+    if t.0 >= all {
+        return String::from_str(alloc, "no such type");
     }
-    for (a, b) in [(2u32, 3u32), (4, 5), (0, 7), (2, 7)] {
-        if a < all && b < all {
-            println!(rt; "meet of {a} and {b}: {:?}", types.meet(Ty(a), Ty(b)))?;
-        }
-    }
-    for (a, b) in [(4u32, 6u32), (7, 1), (6, 4)] {
-        if a < all && b < all {
-            println!(rt;
-                "{a} is at or below {b}: {}",
-                types.at_or_below(Ty(a), Ty(b))
-            )?;
-        }
-    }
-    for name in ["a", "glbtype1", "glbtype2"] {
-        println!(rt; "{name} is {:?}", types.find(name))?;
-    }
-    Ok(())
-}
-
-// How many types are completed where there are types c0 to cn below the top type, and d0 to dn, each below every c but the
-// one of its own number.
-fn crossed(alloc: Global, n: u32) -> Result<String, AllocError> {
-    let mut decls = Vec::new(alloc);
-    for c in 0..n {
-        decls.push(decl(alloc, format!(in alloc; "c{c} *top*")?.as_str())?)?;
-    }
-    for d in 0..n {
-        let mut line = format!(in alloc; "d{d}")?;
-        for c in 0..n {
-            if c != d {
-                line.push_str(format!(in alloc; " c{c}")?.as_str())?;
-            }
-        }
-        decls.push(decl(alloc, line.as_str())?)?;
-    }
-    let Ok(hierarchy) = Hierarchy::build(alloc, &decls, "*top*", "string") else {
-        return String::from_str(alloc, "no hierarchy");
+    let Ok(above) = types.supertypes(alloc, t) else {
+        return String::from_str(alloc, "no memory");
     };
-    match complete(alloc, hierarchy, &[]) {
-        Ok(types) => format!(in alloc;
-            "{} written, {} completed",
-            types.counts().written,
-            types.counts().completed
-        ),
-        Err(CompleteFault::TooManyTypes) => String::from_str(alloc, "TooManyTypes"),
-        Err(CompleteFault::NoMemory) => String::from_str(alloc, "NoMemory"),
+    let mut line = format!(in alloc; "{}:", types.name(t))?;
+    for u in &above {
+        if u.0 < all {
+            line.push(' ')?;
+            line.push_str(types.name(*u))?;
+        }
     }
+    Ok(line)
 }

@@ -1,179 +1,150 @@
-//! The forms of stems, the stems of forms, and entries by their words, over three spelling rules: a plural `pl`, a past
-//! `past` that doubles a last `p` or `t`, and a prefix `re`.
+//! The forms of stems and the stems of forms, over rules that steps say.
 
-use lexicon::Lexicon;
+ghost use Rattle.std.specs.Prelude.{◌<◌, length};
+
+use crate::steps::{front, number};
 use spelling_rules::{Irregular, SpellGroup, SpellRule, SpellSign, Spelling, are_bound};
 use std::alloc::{AllocError, Global};
-use std::io;
 
-const PL: u32 = 0;
-
-const PAST: u32 = 1;
-
-const RE: u32 = 2;
-
-pub fn print<R: Print>(rt: &R, alloc: Global) -> io::Result<()> {
-    let rules = rules(alloc)?;
-    if !are_bound(&rules) {
-        return println!(rt; "a variable is not bound");
-    }
-    let Ok(regular) = Spelling::make(alloc, &rules, &[]) else {
-        return println!(rt; "no memory");
-    };
-    for (rule, stem) in [
-        (PL, "man"),
-        (PAST, "tap"),
-        (PAST, "tab"),
-        (PAST, "sip"),
-        (RE, "tap"),
-    ] {
-        forms(rt, alloc, &regular, rule, stem)?;
-    }
-    for (rule, form) in [
-        (RE, "retap"),
-        (PL, "s"),
-        (PL, "mans"),
-        (PAST, "tapped"),
-        (PAST, "taped"),
-        (PAST, "tabbed"),
-        (PAST, "tabed"),
-    ] {
-        stems(rt, alloc, &regular, rule, form)?;
-    }
-    all(rt, alloc, &regular, "reretapped")?;
-    let lines = vec![in alloc; irregular(alloc, "man", "men")?]?;
-    let Ok(spelling) = Spelling::make(alloc, &rules, &lines) else {
-        return println!(rt; "no memory");
-    };
-    forms(rt, alloc, &spelling, PL, "man")?;
-    for form in ["mans", "men"] {
-        stems(rt, alloc, &spelling, PL, form)?;
-    }
-    entries(rt, alloc)
+// The rules and irregular lines said so far, and the spelling made of them.
+#[derive(Drop)]
+pub struct Rules {
+    rules: Vec<SpellRule>,
+    irregular: Vec<Irregular>,
+    spelling: Option<Spelling>,
 }
 
-// The signs of a text, in which `!` stands for a variable over p and t.
+impl Rules {
+    pub fn new(alloc: Global) -> Rules {
+        Rules {
+            rules: Vec::new(alloc),
+            irregular: Vec::new(alloc),
+            spelling: None,
+        }
+    }
+
+    // `suffix PATTERN WITH ..` and `prefix PATTERN WITH ..` say a rule, in which `*` is the empty text and `!` a variable
+    // over p and t; `irregular RULE STEM FORM` says a line of irregular forms; `made` makes a spelling of them. `forms
+    // RULE STEM`, `stems RULE FORM` and `all FORM` ask it.
+    pub fn answer(
+        &mut self,
+        alloc: Global,
+        step: &str,
+        rest: &str,
+    ) -> Result<Option<String>, AllocError> {
+        match step {
+            "suffix" | "prefix" => {
+                self.rules.push(rule(alloc, step == "suffix", rest)?)?;
+                Ok(None)
+            }
+            "irregular" => {
+                self.irregular.push(irregular(alloc, rest)?)?;
+                Ok(None)
+            }
+            "made" => Ok(Some(self.make(alloc)?)),
+            _ => match &self.spelling {
+                Some(spelling) => asked(alloc, spelling, step, rest),
+                None => Ok(None),
+            },
+        }
+    }
+
+    fn make(&mut self, alloc: Global) -> Result<String, AllocError> {
+        if !are_bound(&self.rules) {
+            return String::from_str(alloc, "a variable is not bound");
+        }
+        match Spelling::make(alloc, &self.rules, &self.irregular) {
+            Ok(spelling) => {
+                self.spelling = Some(spelling);
+                String::from_str(alloc, "a spelling")
+            }
+            Err(_) => String::from_str(alloc, "no memory"),
+        }
+    }
+}
+
+// What is asked of a spelling.
+fn asked(
+    alloc: Global,
+    spelling: &Spelling,
+    step: &str,
+    rest: &str,
+) -> Result<Option<String>, AllocError> {
+    let (rule, text) = front(rest);
+    let rule = number(rule);
+    match step {
+        "forms" if rule < spelling.rules() => Ok(Some(forms(alloc, spelling, rule, text)?)),
+        "stems" if rule < spelling.rules() => Ok(Some(stems(alloc, spelling, rule, text)?)),
+        "all" => Ok(Some(all(alloc, spelling, rest)?)),
+        _ => Ok(None),
+    }
+}
+
+// The signs of a text.
 fn signs(alloc: Global, text: &str) -> Result<Vec<SpellSign>, AllocError> {
     let mut signs = Vec::new(alloc);
     for c in text.chars() {
-        if c == '!' {
-            let members = vec![in alloc; 'p', 't']?;
-            signs.push(SpellSign::Set { name: 'c', members })?;
-        } else {
-            signs.push(SpellSign::Char { c })?;
+        match c {
+            '*' => {}
+            '!' => {
+                let members = vec![in alloc; 'p', 't']?;
+                signs.push(SpellSign::Set { name: 'c', members })?;
+            }
+            _ => signs.push(SpellSign::Char { c })?,
         }
     }
     Ok(signs)
 }
 
-fn group(alloc: Global, pattern: &str, with: &str) -> Result<SpellGroup, AllocError> {
-    Ok(SpellGroup {
-        pattern: signs(alloc, pattern)?,
-        with: signs(alloc, with)?,
-    })
+fn rule(alloc: Global, suffix: bool, rest: &str) -> Result<SpellRule, AllocError> {
+    let mut groups = Vec::new(alloc);
+    let mut words = rest.split(' ');
+    while let (Some(pattern), Some(with)) = (words.next(), words.next()) {
+        groups.push(SpellGroup {
+            pattern: signs(alloc, pattern)?,
+            with: signs(alloc, with)?,
+        })?;
+    }
+    Ok(SpellRule { suffix, groups })
 }
 
-fn rules(alloc: Global) -> Result<Vec<SpellRule>, AllocError> {
-    let mut rules = Vec::new(alloc);
-    rules.push(SpellRule {
-        suffix: true,
-        groups: vec![in alloc; group(alloc, "", "s")?]?,
-    })?;
-    rules.push(SpellRule {
-        suffix: true,
-        groups: vec![in alloc; group(alloc, "", "ed")?, group(alloc, "!", "!!ed")?]?,
-    })?;
-    rules.push(SpellRule {
-        suffix: false,
-        groups: vec![in alloc; group(alloc, "", "re")?]?,
-    })?;
-    Ok(rules)
-}
-
-fn irregular(alloc: Global, stem: &str, form: &str) -> Result<Irregular, AllocError> {
+fn irregular(alloc: Global, rest: &str) -> Result<Irregular, AllocError> {
+    let (rule, rest) = front(rest);
+    let (stem, form) = front(rest);
     Ok(Irregular {
-        rule: PL,
+        rule: number(rule),
         stem: String::from_str(alloc, stem)?,
         form: String::from_str(alloc, form)?,
     })
 }
 
-fn forms<R: Print>(
-    rt: &R,
-    alloc: Global,
-    spelling: &Spelling,
-    rule: u32,
-    stem: &str,
-) -> io::Result<()> {
-    if rule >= spelling.rules() {
-        return println!(rt; "no such rule");
-    }
+fn forms(alloc: Global, spelling: &Spelling, rule: u32, stem: &str) -> Result<String, AllocError>
+    requires { rule < length spelling.now.rules }
+{
     match spelling.inflect(alloc, rule, stem) {
-        Ok(forms) => println!(rt; "forms of {stem} by rule {rule}: {forms:?}"),
-        Err(_) => println!(rt; "no memory"),
+        Ok(forms) => format!(in alloc; "{forms:?}"),
+        Err(_) => String::from_str(alloc, "no memory"),
     }
 }
 
-fn stems<R: Print>(
-    rt: &R,
-    alloc: Global,
-    spelling: &Spelling,
-    rule: u32,
-    form: &str,
-) -> io::Result<()> {
-    if rule >= spelling.rules() {
-        return println!(rt; "no such rule");
-    }
+fn stems(alloc: Global, spelling: &Spelling, rule: u32, form: &str) -> Result<String, AllocError>
+    requires { rule < length spelling.now.rules }
+{
     match spelling.stems(alloc, rule, form) {
-        Ok(stems) => println!(rt; "stems of {form} by rule {rule}: {stems:?}"),
-        Err(_) => println!(rt; "no memory"),
+        Ok(stems) => format!(in alloc; "{stems:?}"),
+        Err(_) => String::from_str(alloc, "no memory"),
     }
 }
 
-fn all<R: Print>(rt: &R, alloc: Global, spelling: &Spelling, form: &str) -> io::Result<()> {
-    match spelling.all_stems(alloc, form) {
-        Ok(stems) => {
-            for stem in &stems {
-                println!(rt; "a stem of {form}: {} by rule {}", stem.stem, stem.rule)?;
-            }
-            Ok(())
-        }
-        Err(_) => println!(rt; "no memory"),
-    }
-}
-
-fn owned(alloc: Global, text: &str) -> Result<Vec<String>, AllocError> {
-    let mut words = Vec::new(alloc);
-    for word in text.split(' ') {
-        words.push(String::from_str(alloc, word)?)?;
-    }
-    Ok(words)
-}
-
-// Entries of one word and of two, given out of order.
-fn entries<R: Print>(rt: &R, alloc: Global) -> io::Result<()> {
-    let mut given = Vec::new(alloc);
-    for (number, text) in [
-        (7u32, "look up"),
-        (3, "up"),
-        (5, "look up"),
-        (1, "give up"),
-        (0, "look"),
-    ] {
-        given.push((number, owned(alloc, text)?))?;
-    }
-    let Ok(lexicon) = Lexicon::make(alloc, &given) else {
-        return println!(rt; "no memory");
+// The stems under all rules, each after its rule.
+fn all(alloc: Global, spelling: &Spelling, form: &str) -> Result<String, AllocError> {
+    let Ok(stems) = spelling.all_stems(alloc, form) else {
+        return String::from_str(alloc, "no memory");
     };
-    for text in ["look up", "up", "give up", "give", "up look"] {
-        let words = owned(alloc, text)?;
-        println!(rt; "entries of {text}: {:?}", lexicon.by_words(&words))?;
+    let mut text = String::new(alloc);
+    for stem in &stems {
+        let one = format!(in alloc; "{} {}, ", stem.rule, stem.stem)?;
+        text.push_str(one.as_str())?;
     }
-    for word in ["up", "look", "give"] {
-        println!(rt;
-            "groups that end in {word}: {}",
-            lexicon.by_last(word).len()
-        )?;
-    }
-    Ok(())
+    Ok(text)
 }

@@ -1,52 +1,13 @@
 //! The tokens of texts, the first fault of texts that have none, and the values of tokens.
 
-ghost use Rattle.std.specs.Prelude.{◌<◌, ◌^◌, length};
+ghost use Rattle.std.specs.Prelude.{◌<◌, ◌^◌, ◌≡◌, length};
+ghost use Rattle.tdl_lexer.specs.Spelling.{has_value};
 
 use std::alloc::{AllocError, Global};
-use std::io;
 use tdl_lexer::{TokenKind, tokens, value};
 
-const TEXTS: [&str; 19] = [
-    "a :+b.",
-    "a:<B&c",
-    "%suffixes",
-    "%(letter-set (!c pt)).",
-    "%prefix (* re) (a(b)c).",
-    "<!#1.a!>....",
-    "<[:end 'x_1,]>",
-    "\"\" \"a\\\"b\"\"\"\"\"doc\" \"\"\"x;y",
-    "#|a|b|#c;d\ne",
-    "\u{feff}a\u{feff}\u{85}b",
-    "a := \"x",
-    "#| x",
-    "#|#",
-    "\"\"\"a\"\"\"\"",
-    "%SUFFIX",
-    "l := %suffix ;x\n(* s) w.",
-    "%(a) (b)",
-    "%suffix (a(b)",
-    "a := ^x$ & \"",
-];
-
-pub fn print<R: Print>(rt: &R, alloc: Global) -> io::Result<()> {
-    for text in TEXTS {
-        if text.len() < 1000 {
-            let found = shown(alloc, text.as_bytes())?;
-            println!(rt; "tokens of {text:?}: {found}")?;
-        }
-    }
-    let cut = shown(alloc, &[97, 0xE2, 0x82, 0x28])?;
-    println!(rt; "tokens of a cut character after a: {cut}")?;
-    let text = "\u{feff}N-\u{c9} := #Tag & 'Sym & \"A\\\\ \\\"b\\c\".";
-    if text.len() < 1000 {
-        let found = values(alloc, text)?;
-        println!(rt; "values of {text:?}: {found}")?;
-    }
-    Ok(())
-}
-
 // The tokens with their places, or the fault.
-fn shown(alloc: Global, source: &[u8]) -> Result<String, AllocError>
+pub fn shown(alloc: Global, source: &[u8]) -> Result<String, AllocError>
     requires { length source.now < 2 ^ 32 }
 {
     match tokens(alloc, source) {
@@ -62,8 +23,21 @@ fn shown(alloc: Global, source: &[u8]) -> Result<String, AllocError>
     }
 }
 
+// The tokens of bytes by their numbers.
+pub fn of_bytes(alloc: Global, numbers: &str) -> Result<String, AllocError> {
+    let mut bytes = Vec::new(alloc);
+    for number in numbers.split(' ') {
+        bytes.push(number.parse::<u8>().unwrap_or(0))?;
+    }
+    if bytes.len() < 1_000 {
+        shown(alloc, &bytes)
+    } else {
+        String::from_str(alloc, "too long")
+    }
+}
+
 // The values of a text's tokens that have one, with a stroke after each.
-fn values(alloc: Global, text: &str) -> Result<String, AllocError>
+pub fn values(alloc: Global, text: &str) -> Result<String, AllocError>
     requires { length text.now < 2 ^ 32 }
 {
     let mut out = String::new(alloc);
@@ -71,11 +45,7 @@ fn values(alloc: Global, text: &str) -> Result<String, AllocError>
         return String::from_str(alloc, "no tokens");
     };
     for token in &found {
-        if token.kind == TokenKind::Name
-            || token.kind == TokenKind::Text
-            || token.kind == TokenKind::Symbol
-            || token.kind == TokenKind::Coref
-        {
+        if has_value(token.kind) {
             match value(alloc, text, token) {
                 Ok(value) => out.push_str(value.as_str())?,
                 Err(_) => out.push_str("no memory")?,
@@ -84,4 +54,13 @@ fn values(alloc: Global, text: &str) -> Result<String, AllocError>
         }
     }
     Ok(out)
+}
+
+fn has_value(kind: TokenKind) -> bool
+    ensures { result ≡ has_value kind }
+{
+    match kind {
+        TokenKind::Name | TokenKind::Text | TokenKind::Symbol | TokenKind::Coref => true,
+        _ => false,
+    }
 }

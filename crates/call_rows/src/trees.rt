@@ -1,119 +1,124 @@
-//! The texts and the order of trees.
+//! The texts and the order of trees, which steps put on a pile.
 
+use crate::steps::{front, number, parted};
 use derivation::{Tree, compare, is_named, write};
 use std::alloc::{AllocError, Global};
-use std::io;
 
-pub fn print<R: Print>(rt: &R, alloc: Global) -> io::Result<()> {
-    texts(rt, alloc)?;
-    let trees = in_order(alloc)?;
-    for (tree, next) in trees.iter().zip(trees.iter().skip(1)) {
-        let (here, back) = (compare(tree, next), compare(next, tree));
-        println!(rt;
-            "a tree and the next: {here:?} {back:?} {:?}",
-            compare(tree, tree)
-        )?;
-    }
-    Ok(())
+#[derive(Drop)]
+pub struct Trees {
+    pile: Vec<Tree>,
 }
 
-// An entry with these words, under rules from the inside out.
-fn entry(
-    alloc: Global,
-    place: u32,
-    rules: &[u32],
-    words: &[&str],
-    nodes: Option<(u32, u32)>,
-) -> Result<Tree, AllocError> {
-    let mut spelt = Vec::new(alloc);
-    for word in words {
-        spelt.push(String::from_str(alloc, word)?)?;
+impl Trees {
+    pub fn new(alloc: Global) -> Trees {
+        Trees {
+            pile: Vec::new(alloc),
+        }
     }
-    let rules = Vec::from_slice(alloc, rules)?;
-    Tree::lexical(alloc, place, rules, spelt, nodes).map_err(|_| AllocError)
+
+    // `lexical PLACE RULES WORDS NODES` puts a lexical tree on the pile, its rules from the inside out and its words
+    // between commas, `-` for none; `phrase RULE COUNT` a phrase over the last so many. `tree NAMES` and `spans NAMES`
+    // write the last one, without nodes and with them. `order` compares the last with the one before it.
+    pub fn answer(
+        &mut self,
+        alloc: Global,
+        step: &str,
+        rest: &str,
+    ) -> Result<Option<String>, AllocError> {
+        match step {
+            "lexical" => {
+                self.pile.push(lexical(alloc, rest)?)?;
+                Ok(None)
+            }
+            "phrase" => {
+                self.join(alloc, rest)?;
+                Ok(None)
+            }
+            "tree" => Ok(Some(self.text(alloc, rest, false)?)),
+            "spans" => Ok(Some(self.text(alloc, rest, true)?)),
+            "order" => Ok(Some(self.order(alloc)?)),
+            _ => Ok(None),
+        }
+    }
+
+    fn join(&mut self, alloc: Global, rest: &str) -> Result<(), AllocError> {
+        let (rule, count) = front(rest);
+        let mut daughters = Vec::new(alloc);
+        for _ in 0..number(count) {
+            if let Some(last) = self.pile.pop() {
+                daughters.push(last)?;
+            }
+        }
+        daughters.reverse();
+        self.pile.push(phrase(alloc, number(rule), daughters)?)?;
+        Ok(())
+    }
+
+    fn text(&self, alloc: Global, names: &str, nodes: bool) -> Result<String, AllocError> {
+        match self.pile.last() {
+            Some(tree) => text_of(alloc, tree, names, nodes),
+            None => String::from_str(alloc, "no tree"),
+        }
+    }
+
+    fn order(&self, alloc: Global) -> Result<String, AllocError> {
+        let mut last = self.pile.iter().rev();
+        match (last.next(), last.next()) {
+            (Some(tree), Some(before)) => {
+                let (here, back) = (compare(before, tree), compare(tree, before));
+                format!(in alloc; "{here:?} {back:?} {:?}", compare(tree, tree))
+            }
+            _ => String::from_str(alloc, "no two trees"),
+        }
+    }
 }
 
-// The phrase of a rule over these daughters.
+// The numbers between commas; none for `-`.
+fn numbers(alloc: Global, text: &str) -> Result<Vec<u32>, AllocError> {
+    let mut found = Vec::new(alloc);
+    if text != "-" {
+        for one in text.split(',') {
+            found.push(number(one))?;
+        }
+    }
+    Ok(found)
+}
+
+// The nodes of a text, two numbers.
+fn nodes_of(alloc: Global, text: &str) -> Result<Option<(u32, u32)>, AllocError> {
+    let found = numbers(alloc, text)?;
+    match (found.first(), found.get(1)) {
+        (Some(from), Some(to)) => Ok(Some((*from, *to))),
+        _ => Ok(None),
+    }
+}
+
+fn lexical(alloc: Global, rest: &str) -> Result<Tree, AllocError> {
+    let (place, rest) = front(rest);
+    let (rules, rest) = front(rest);
+    let (words, nodes) = front(rest);
+    let rules = numbers(alloc, rules)?;
+    let words = parted(alloc, words, ',')?;
+    let nodes = nodes_of(alloc, nodes)?;
+    Tree::lexical(alloc, number(place), rules, words, nodes).map_err(|_| AllocError)
+}
+
 fn phrase(alloc: Global, rule: u32, daughters: Vec<Tree>) -> Result<Tree, AllocError> {
     Tree::phrase(alloc, rule, daughters).map_err(|_| AllocError)
 }
 
-fn pair(alloc: Global, rule: u32, left: Tree, right: Tree) -> Result<Tree, AllocError> {
-    let mut daughters = Vec::new(alloc);
-    daughters.push(left)?;
-    daughters.push(right)?;
-    phrase(alloc, rule, daughters)
-}
-
-fn two_words(alloc: Global, rule: u32) -> Result<Tree, AllocError> {
-    let left = entry(alloc, 0, &[], &["w"], None)?;
-    let right = entry(alloc, 0, &[], &["w"], None)?;
-    pair(alloc, rule, left, right)
-}
-
-// Prints the text of a tree over these names, with nodes or without.
-fn text<R: Print>(
-    rt: &R,
-    alloc: Global,
-    tree: &Tree,
-    names: &[&str],
-    nodes: bool,
-) -> io::Result<()> {
-    let mut held = Vec::new(alloc);
-    for name in names {
-        held.push(String::from_str(alloc, name)?)?;
+// The text of a tree over these names.
+fn text_of(alloc: Global, tree: &Tree, names: &str, nodes: bool) -> Result<String, AllocError> {
+    let names = parted(alloc, names, ' ')?;
+    if !is_named(tree, names.len()) {
+        return String::from_str(alloc, "a name is missing");
     }
     let mut into = Vec::new(alloc);
-    if is_named(tree, held.len()) {
-        let Ok(()) = write(tree, &held, nodes, &mut into) else {
-            return println!(rt; "text: no memory");
-        };
-        match std::str::from_utf8(&into) {
-            Ok(text) => println!(rt; "text: {text}"),
-            Err(_) => println!(rt; "text: not utf-8"),
-        }
-    } else {
-        println!(rt; "text: a name is missing")
+    if write(tree, &names, nodes, &mut into).is_err() {
+        return String::from_str(alloc, "no memory");
     }
-}
-
-fn texts<R: Print>(rt: &R, alloc: Global) -> io::Result<()> {
-    let names = ["dogs_n", "bark_v", "s_rule"];
-    let dogs = entry(alloc, 0, &[], &["dogs"], Some((0, 1)))?;
-    let bark = entry(alloc, 1, &[], &["bark"], Some((1, 3)))?;
-    let tree = pair(alloc, 2, dogs, bark)?;
-    text(rt, alloc, &tree, &names, false)?;
-    let Ok(copy) = tree.copy() else {
-        return println!(rt; "text: no memory");
-    };
-    text(rt, alloc, &copy, &names, true)?;
-    let names = ["tap", "re", "past"];
-    let deep = entry(alloc, 0, &[1, 1, 2], &["reretapped"], None)?;
-    text(rt, alloc, &deep, &names, true)?;
-    let quoted = entry(alloc, 0, &[], &["a\"b", "c\\d"], Some((7, 4_294_967_295)))?;
-    text(rt, alloc, &quoted, &names, true)?;
-    let unnamed = entry(alloc, 3, &[], &["w"], None)?;
-    text(rt, alloc, &unnamed, &names, true)
-}
-
-// Trees in their order: lexical ones by place, words and nodes, a phrase after them, the right-branching first.
-fn in_order(alloc: Global) -> Result<Vec<Tree>, AllocError> {
-    let mut trees = Vec::new(alloc);
-    trees.push(entry(alloc, 0, &[], &["a"], None)?)?;
-    trees.push(entry(alloc, 0, &[], &["a"], Some((0, 1)))?)?;
-    trees.push(entry(alloc, 0, &[], &["a"], Some((0, 2)))?)?;
-    trees.push(entry(alloc, 0, &[], &["a", "b"], None)?)?;
-    trees.push(entry(alloc, 1, &[2], &["a"], None)?)?;
-    trees.push(entry(alloc, 0, &[1, 2], &["b"], None)?)?;
-    trees.push(entry(alloc, 1, &[1, 2], &["a"], None)?)?;
-    trees.push(phrase(alloc, 2, Vec::new(alloc))?)?;
-    trees.push(phrase(alloc, 3, Vec::new(alloc))?)?;
-    trees.push(two_words(alloc, 3)?)?;
-    let word = entry(alloc, 0, &[], &["w"], None)?;
-    let right = two_words(alloc, 4)?;
-    trees.push(pair(alloc, 4, word, right)?)?;
-    let word = entry(alloc, 0, &[], &["w"], None)?;
-    let left = two_words(alloc, 4)?;
-    trees.push(pair(alloc, 4, left, word)?)?;
-    Ok(trees)
+    match std::str::from_utf8(&into) {
+        Ok(text) => String::from_str(alloc, text),
+        Err(_) => String::from_str(alloc, "not utf-8"),
+    }
 }
