@@ -1,0 +1,15 @@
+pub mod Members
+pub mod RisingNames
+pub mod OneSystem
+pub mod Senses
+pub mod OneBook
+pub mod OneFault
+pub mod BookLemmas
+pub mod NamedLines
+pub mod LineTexts
+pub mod InstanceLemmas
+pub mod HasBooks
+pub mod OutcomeLemmas
+pub mod GrammarLemmas
+pub mod TypeLines
+pub mod CommandLaws

@@ -1,0 +1,5 @@
+pub mod Grammars
+pub mod Books
+pub mod Expansions
+pub mod TypeReports
+pub mod Commands

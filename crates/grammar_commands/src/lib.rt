@@ -1,0 +1,48 @@
+//! The commands that answer from a grammar's files alone: `types` and `expand`.
+#![tactic(auto)]
+
+ghost use Rattle.std.specs.Prelude.{◌≡◌, ◌↔◌};
+
+use std::alloc::{AllocError, AllocFailed};
+
+pub mod commands;
+pub mod expansion;
+pub mod laws;
+pub mod loading;
+pub mod types;
+
+pub use commands::{Expand, Types};
+
+/// Memory was wanting.
+#[derive(Clone, Copy, Debug, PartialEq, Eq)]
+pub struct NoMemory;
+
+impl From<AllocError> for NoMemory {
+    fn from(_: AllocError) -> NoMemory {
+        NoMemory
+    }
+}
+
+impl<T: Drop> From<AllocFailed<T>> for NoMemory {
+    fn from(_: AllocFailed<T>) -> NoMemory {
+        NoMemory
+    }
+}
+
+impl From<type_hierarchy::NoMemory> for NoMemory {
+    fn from(_: type_hierarchy::NoMemory) -> NoMemory {
+        NoMemory
+    }
+}
+
+impl From<fs_paths::NoMemory> for NoMemory {
+    fn from(_: fs_paths::NoMemory) -> NoMemory {
+        NoMemory
+    }
+}
+
+impl From<fs_graph::NoMemory> for NoMemory {
+    fn from(_: fs_graph::NoMemory) -> NoMemory {
+        NoMemory
+    }
+}
