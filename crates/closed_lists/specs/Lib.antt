@@ -1,0 +1,4 @@
+pub mod Names
+pub mod Lists
+pub mod Strings
+pub mod Inner

@@ -1,0 +1,11 @@
+//! Closed lists in feature structures, and the words of their strings.
+#![tactic(auto)]
+
+mod lists;
+mod names;
+mod words;
+
+pub use lists::list_at;
+pub use names::ListNames;
+pub use word_lists::NoMemory;
+pub use words::words_at;
