@@ -1,9 +1,9 @@
 -- Rules in an order in which rows of them are found fast.
-use Rattle.std.proofs.Common.{ℕ, zero, suc, ◌≡◌, ◌≢◌, ◌<◌, ◌≤◌, ◌+◌, ◌-◌, ◌⊎◌, inl, inr, Bool, true, false, cond, List, [], ◌∷◌, ◌++◌, length, filter, take, slice_index_or, replicate, refl, sym, ◌∙◌, ap, subst, arith, length-append}
+use Rattle.std.proofs.Common.{ℕ, zero, suc, ◌≡◌, ◌≢◌, ◌<◌, ◌≤◌, ◌+◌, ◌-◌, ◌⊎◌, inl, inr, Bool, true, false, cond, List, [], ◌∷◌, ◌++◌, length, filter, take, slice_index_or, refl, sym, ◌∙◌, ap, subst, arith, length-append}
 use Rattle.std.proofs.Math.ListN.{set, get_or-append}
 use Rattle.std.proofs.Math.Seq.{get_or-append_seam}
 use Rattle.std.proofs.lemmas.Bool.{cases_lt}
-use Rattle.std.proofs.lemmas.List.{get_or-set_same, get_or-set_other, length-set, length-map, length-replicate, get_or-replicate, get_or_past, take_more, take_all}
+use Rattle.std.proofs.lemmas.List.{get_or-set_other, length-set, length-map, take_more}
 use Rattle.std.proofs.lemmas.List.Elements.{filter-append}
 use Rattle.type_hierarchy.specs.Table.{TypeTable, is_below}
 use Rattle.fs_model.specs.Claims.{Has, here, there}
@@ -12,14 +12,11 @@ use Rattle.fs_model.proofs.VisitLemmas.{bool_cases}
 use Rattle.fs_closing.specs.declared.facts.TypeFacts.{TypeFacts}
 use Rattle.fs_closing.specs.Rules.{Rule, no_rule, has_facts, rules_with_facts, rules_above, HaveTypesIn, HaveSame}
 use Rattle.fs_closing.specs.Systems.{rule_of, rules_of}
-use Rattle.fs_closing.specs.Inner.Outlines.{AreMarks, IsEnd, AreEnds, IsOutline}
+use Rattle.fs_closing.specs.Inner.Outlines.{AreMarks, IsEnd, AreEnds}
 use Rattle.fs_closing.proofs.HasLemmas.{Has-left, Has-right, Has-either, Has-one, Has-at}
 use Rattle.fs_closing.proofs.RuleRowLemmas.{rule_in}
 use Rattle.fs_closing.proofs.RangeLemmas.{Has-filter, Has-of_filter, Has-range}
 use Rattle.std.specs.List.{range_with_len}
-
-pub same_itself : (xs ys : List ℕ) → xs ≡ ys → HaveSame xs ys
-same_itself xs ys is = record { to = λ j h. subst (Has j) is h; back = λ j h. subst (Has j) (sym is) h }
 
 -- the places of an outline are those of rules, whose types are there
 pub place_in : (constraints : List TypeFacts) (order : List ℕ) (i : ℕ) → HaveSame order (rules_with_facts (rules_of constraints)) → i < length order →
@@ -30,18 +27,6 @@ place_in constraints order i same h =
 pub ty_in : (rules : List Rule) (count : ℕ) (order : List ℕ) (i : ℕ) → HaveTypesIn count rules → HaveSame order (rules_with_facts rules) → i < length order →
     (slice_index_or rules (slice_index_or order i 0) no_rule).ty < count
 ty_in rules count order i within same h = within (slice_index_or order i 0) (rule_in rules (slice_index_or order i 0) (same.to (slice_index_or order i 0) (Has-at order i 0 h)))
-
--- no mark
-pub marks_none : (rules : List Rule) (count : ℕ) (marks : List Bool) → count ≡ length rules → marks ≡ replicate count false → AreMarks rules [] marks
-marks_none rules count marks e is = record {
-  each = ap length is ∙ length-replicate count false ∙ e;
-  only = λ j h. elim h [ ];
-  marked = λ j h. absurd (let f : false ≡ true = sym (ap (λ l. slice_index_or l j false) is ∙ none j (cases_lt j count)) ∙ h in cc f);
-}
-  where
-    none : (j : ℕ) → (j < count) ⊎ (count ≤ j) → slice_index_or (replicate count false) j false ≡ false
-    none j (inl h) = get_or-replicate count j false false h
-    none j (inr h) = get_or_past (replicate count false) j false (let e = length-replicate count false in omega arith)
 
 -- one mark more
 pub marks_more : (rules : List Rule) (list list' : List ℕ) (marks : List Bool) (j : ℕ) → list' ≡ list ++ j ∷ [] → j < length rules →
@@ -61,11 +46,6 @@ marks_more rules list list' marks j is h some old = record {
     marked : (k : ℕ) → slice_index_or (set marks j true) k false ≡ true → (k ≡ j) ⊎ (k ≢ j) → Has k (list ++ j ∷ [])
     marked k e (inl q) = Has-right k list (j ∷ []) (subst (λ z. Has z (j ∷ [])) (sym q) here)
     marked k e (inr q) = Has-left k list (j ∷ []) (old.marked k (sym (get_or-set_other marks j k true false q) ∙ e))
-
--- all places are marked, and so in the list
-pub same_marked : (rules : List Rule) (list : List ℕ) (marks : List Bool) → AreMarks rules list marks →
-    ((j : ℕ) → Has j (rules_with_facts rules) → slice_index_or marks j false ≡ true) → HaveSame list (rules_with_facts rules)
-same_marked rules list marks are all = record { to = are.only; back = λ j h. are.marked j (all j h) }
 
 -- one rule more is below that at i
 pub end_more : (types : TypeTable) (rules : List Rule) (order : List ℕ) (i k other ty : ℕ) → other ≡ (slice_index_or rules (slice_index_or order k 0) no_rule).ty →
@@ -115,13 +95,6 @@ filter_passes p xs i (suc d) h fails =
     append_nil : (xs : List ℕ) → xs ++ [] ≡ xs
     append_nil [] = refl
     append_nil (x ∷ xs) = ap (λ l. x ∷ l) (append_nil xs)
-
--- what passes a test is taken
-pub filter_takes : (p : ℕ → Bool) (xs : List ℕ) (i : ℕ) → i < length xs → p (slice_index_or xs i 0) ≡ true →
-    filter p (take (i + 1) xs) ≡ filter p (take i xs) ++ slice_index_or xs i 0 ∷ []
-filter_takes p xs i h passes =
-    ap (filter p) (take_more xs i 0 h) ∙ filter-append p (take i xs) (slice_index_or xs i 0 ∷ [])
-    ∙ ap (λ b. filter p (take i xs) ++ cond b (slice_index_or xs i 0 ∷ []) []) passes
 
 -- a type that isn't below that of a rule is below none of those up to the rule's end
 module _ (types : TypeTable) (rules : List Rule) (order : List ℕ) (t : ℕ)

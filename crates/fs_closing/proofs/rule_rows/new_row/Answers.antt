@@ -1,4 +1,4 @@
-use Rattle.std.proofs.Common.{map, ◌∙◌, ap, sym, [], ◌∷◌, ◌++◌}
+use Rattle.std.proofs.Common.{map, ◌∙◌, ap, sym, [], ◌∷◌}
 use Rattle.std.proofs.lemmas.List.{map-append, length-map}
 use Rattle.fs_closing.proofs.RuleRowLemmas.{row_added}
 use Rattle.fs_closing.proofs.rule_rows.new_row.Goals as goal

@@ -1,4 +1,4 @@
-use Rattle.std.proofs.Common.{[], map, length, slice_index_or, sym, ◌∙◌, subst}
+use Rattle.std.proofs.Common.{[], map, length, slice_index_or, sym, subst}
 use Rattle.std.proofs.lemmas.List.{length-map}
 use Rattle.fs_closing.specs.Rules.{HaveSame}
 use Rattle.fs_closing.specs.Systems.{rule_of, rules_of}
