@@ -1,0 +1,16 @@
+use Rattle.std.proofs.Common.{◌≡◌}
+use Rattle.command_line.specs.declared.tasks.Command.{Command}
+use Rattle.command_line.specs.declared.tasks.Command.TheVariants.{Run}
+use Rattle.endings.specs.Meanings.{Shelves, shelves}
+use Rattle.endings.specs.Reports.{Streams, streams}
+use Rattle.top_call.proofs.Arms.{as-asked}
+use Rattle.top_call.proofs.asked.AskedCommand.perform.Goals as goal
+
+pub returns-in-Run-clause-ended : goal.returns-in-Run-clause-ended
+returns-in-Run-clause-ended g c =
+    let asked = c.in-Run in
+    let run : Command = Run asked.task asked.options in
+    let done = c.do_task in
+    let h : Shelves = shelves g.S.Shelf.files g.S.Shelf.faults g.S.Shelf.asked c.args.shelf.now done.new.shelf in
+    let o : Streams = streams g.I.Source.left g.I.Source.faults g.O.Sink.written g.O.Sink.flushed g.O.Sink.faults c.args.input.now done.new.input c.args.out.now done.new.out in
+    as-asked c.args.self.now.command run h o (done.new.input ≡ c.args.input.now) ((done.new.input ≡ c.args.input.now) × (done.new.out ≡ c.args.out.now)) done.result asked.is done.ensures.ended

@@ -1,0 +1,40 @@
+use Rattle.std.proofs.Common.{◌∙◌, ℕ, sym, List}
+use Rattle.command_line.specs.Words.{Form, help, version, run, parse, generate, types, expand, check, self_test, scope, batch, transfer}
+use Rattle.endings.specs.Meanings.{Lawful}
+use Rattle.endings.specs.PlainTexts.{plain_meaning}
+use Rattle.top_call.specs.Commands.{meaning_of, not_built}
+use Rattle.top_call.proofs.laws.built_lawful.Goals as goal
+
+plain : (text : List ℕ) → Lawful (plain_meaning text)
+plain text = record {
+  loads = λ files lines pieces refused r. tt;
+  one_first = λ files f g a b. absurd a;
+  not_both = λ files f l a. a;
+  one_report = λ files lines pieces others refused may p q. (p.0 ∙ sym q.0, p.1 ∙ sym q.1);
+  calm = λ h f x none. x.0;
+}
+
+none : Lawful not_built
+none = record {
+  loads = λ files lines pieces refused r. r;
+  one_first = λ files f g a b. absurd a;
+  not_both = λ files f l a. a;
+  one_report = λ files lines pieces others refused may p q. absurd p;
+  calm = λ h f x calm. x.0;
+}
+
+pub returns : goal.returns
+returns c = by_cases
+  where
+    by_cases : (form : Form) → Lawful (meaning_of form)
+    by_cases help = plain _
+    by_cases version = plain _
+    by_cases (run (parse grammar) options) = c.parse_lawful.ensures grammar
+    by_cases (run (types grammar) options) = c.types_lawful.ensures grammar options.settings
+    by_cases (run (expand grammar entry) options) = c.expand_lawful.ensures grammar entry options.settings
+    by_cases (run (generate grammar) options) = none
+    by_cases (run (check grammar) options) = none
+    by_cases (run (self_test seed size) options) = none
+    by_cases (run scope options) = none
+    by_cases (run (batch grammar profile) options) = none
+    by_cases (run (transfer rules) options) = none

@@ -1,0 +1,166 @@
+//! What the words of the command line ask for, as a command. A command is one arm of `do_task`, and one of `is_built`.
+ghost use Rattle.std.specs.Prelude.{◌≡◌, IfOk, IfErr, map, string_bytes, true, false};
+ghost use Rattle.command_line.specs.Commands.{form, options_in};
+ghost use Rattle.command_line.specs.declared.reading.WordsFault.{WordsFault};
+ghost use Rattle.command_line.specs.declared.tasks.Command.{Command};
+ghost use Rattle.endings.specs.Meanings.{shelves};
+ghost use Rattle.endings.specs.Reports.{streams};
+ghost use Rattle.endings.specs.Endings.{Ended};
+ghost use Rattle.endings.specs.declared.Fault.{Fault};
+ghost use Rattle.endings.specs.declared.Stop.{Stop};
+ghost use Rattle.top_call.specs.Commands.{HasForm, meaning_of, is_built, are_defaults, version_line};
+ghost use Rattle.top_call.specs.Runs.{IsFormless};
+
+use crate::laws::built_lawful;
+use command_line::laws::one_form;
+use command_line::{Command, Options, Task, WordsFault, command_of};
+use endings::commands::{answer_lines, write_whole};
+use endings::plain::Plain;
+use endings::{Fault, Stop, usage_text};
+use grammar_commands::{Expand, Types};
+use line_commands::Parse;
+use lkb_io::{Shelf, Sink, Source};
+use std::alloc::Global;
+use std::sync::Wait;
+use std::thread::Threads;
+use worker_gate::Gate;
+
+/// The version and its line end.
+pub fn version_text() -> &'static [u8]
+    ensures { result.now ≡ version_line }
+{
+    b"lkb 0.1.0\n"
+}
+
+/// What the words ask for, as a command.
+#[derive(Clone, Copy, Debug)]
+pub struct Asked<'a> {
+    pub command: Command<'a>,
+}
+
+impl endings::Command for Asked<'_> {
+    ghost use Rattle.command_line.specs.Commands.{form};
+    ghost use Rattle.top_call.specs.Commands.{meaning_of};
+
+    ghost meaning = { λ a. meaning_of (form a.command) };
+
+    fn lawful(&self) {
+        built_lawful();
+    }
+
+    fn perform<S: Shelf, I: Source, O: Sink, Rt: Threads + Wait + Sync>(
+        &self,
+        rt: &Rt,
+        alloc: Global,
+        shelf: &mut S,
+        input: &mut I,
+        out: &mut O,
+        gate: &dyn Gate,
+    ) -> Result<bool, Fault> {
+        match self.command {
+            Command::Help => {
+                let text = usage_text();
+                (Plain { text }).perform(rt, alloc, shelf, input, out, gate)
+            }
+            Command::Version => {
+                let text = version_text();
+                (Plain { text }).perform(rt, alloc, shelf, input, out, gate)
+            }
+            Command::Run(task, options) => {
+                do_task(rt, alloc, task, options, shelf, input, out, gate)
+            }
+        }
+    }
+}
+
+// Does a task under these options. A command is one arm.
+fn do_task<S: Shelf, I: Source, O: Sink, Rt: Threads + Wait + Sync>(
+    rt: &Rt,
+    alloc: Global,
+    task: Task,
+    options: Options,
+    shelf: &mut S,
+    input: &mut I,
+    out: &mut O,
+    gate: &dyn Gate,
+) -> Result<bool, Fault>
+    ensures ended { Ended (meaning_of (form (Command.Run task.entry options.entry))) (shelves S.files S.faults S.asked shelf.old shelf.new) (streams I.left I.faults O.written O.flushed O.faults input.old input.new out.old out.new)
+        (input.new ≡ input.old) ((input.new ≡ input.old) × (out.new ≡ out.old)) result }
+    ensures unopened { (meaning_of (form (Command.Run task.entry options.entry))).opens ≡ false → shelf.new ≡ shelf.old }
+{
+    let settings = options.settings;
+    match task {
+        Task::Parse(grammar) => {
+            answer_lines(rt, alloc, &Parse { grammar }, shelf, input, out, gate)
+        }
+        Task::Types(grammar) => {
+            let command = Types { grammar, settings };
+            write_whole(rt, alloc, &command, shelf, input, out, gate)
+        }
+        Task::Expand(grammar, entry) => {
+            let command = Expand {
+                grammar,
+                entry,
+                settings,
+            };
+            write_whole(rt, alloc, &command, shelf, input, out, gate)
+        }
+        // No words ask for these: they are outside the form until they are built.
+        _ => Err(Fault::Stopped(Stop::NoMemory)),
+    }
+}
+
+// Whether the options are their defaults, but for the number of workers.
+fn are_defaults(options: &Options) -> bool
+    ensures { result ≡ are_defaults (options_in options.now) }
+{
+    options.edges == 5_000
+        && options.readings == 10_000
+        && options.lexical == 7
+        && options.unary == 8
+        && options.empty == 4
+        && options.settings.is_none()
+        && !options.mrs
+        && !options.lattice
+}
+
+// Whether the program does this yet.
+fn is_built(command: &Command) -> bool
+    ensures { result ≡ is_built (form command.now) }
+{
+    match command {
+        Command::Help | Command::Version => true,
+        Command::Run(Task::Parse(_), options) => are_defaults(options),
+        Command::Run(Task::Types(_), _) | Command::Run(Task::Expand(_, _), _) => true,
+        Command::Run(_, _) => false,
+    }
+}
+
+/// What these words ask for. They are outside the form where they ask for what isn't built.
+pub fn asked_by(alloc: Global, words: &[String]) -> Result<Asked<'_>, WordsFault>
+    ensures ok { IfOk result (λ a. HasForm (map (λ w. string_bytes w) words.now) (form a.command)) }
+    ensures usage { IfErr result (λ e. e ≡ WordsFault.Usage → IsFormless (map (λ w. string_bytes w) words.now)) }
+{
+    one_form();
+    match command_of(alloc, words) {
+        Err(fault) => Err(fault),
+        Ok(command) => {
+            if is_built(&command) {
+                Ok(Asked { command })
+            } else {
+                Err(WordsFault::Usage)
+            }
+        }
+    }
+}
+
+/// What a fault of the words is to the program.
+pub fn fault_of(fault: WordsFault) -> Fault
+    ensures usage { fault ≡ WordsFault.Usage → result ≡ Fault.Usage }
+    ensures memory { fault ≡ WordsFault.NoMemory → result ≡ Fault.Stopped Stop.NoMemory }
+{
+    match fault {
+        WordsFault::Usage => Fault::Usage,
+        WordsFault::NoMemory => Fault::Stopped(Stop::NoMemory),
+    }
+}

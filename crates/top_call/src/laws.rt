@@ -1,0 +1,16 @@
+//! What holds of every command: told files have one report, or one first fault, and never both.
+ghost use Rattle.command_line.specs.Words.{Form};
+ghost use Rattle.endings.specs.Meanings.{Lawful};
+ghost use Rattle.top_call.specs.Commands.{meaning_of};
+
+use grammar_commands::laws::{expand_lawful, types_lawful};
+use line_commands::laws::parse_lawful;
+
+/// What holds of every command. It calls the law of each.
+pub fn built_lawful()
+    ensures { (form : Form) → Lawful (meaning_of form) }
+{
+    parse_lawful();
+    types_lawful();
+    expand_lawful();
+}

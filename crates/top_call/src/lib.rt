@@ -1,0 +1,124 @@
+//! The top call: one function, `run`, does all that the program does.
+#![tactic(auto)]
+
+ghost use Rattle.std.specs.Prelude.{◌≡◌, ◌++◌, ◌⊎◌, ℕ, List, Bool, Option, Some, Result, true, false, map, string_bytes};
+ghost use Rattle.std.specs.List.{concat};
+ghost use Rattle.lkb_io.specs.Outside.{HasRisen};
+ghost use Rattle.lkb_io.specs.Lines.{lines_of};
+ghost use Rattle.command_line.specs.Words.{Form};
+ghost use Rattle.endings.specs.Meanings.{FileFault, Fails, shelves};
+ghost use Rattle.endings.specs.Reports.{streams};
+ghost use Rattle.endings.specs.Readings.{AreReadable};
+ghost use Rattle.endings.specs.Endings.{RanInPart, StopsReading, IsFaultless, IsReadThrough, IsWhole, Tells, fault_text, status_of, is_items};
+ghost use Rattle.endings.specs.declared.Fault.{Fault};
+ghost use Rattle.top_call.specs.Commands.{HasForm, meaning_of};
+ghost use Rattle.top_call.specs.Runs.{IsFormless, RunEnded};
+
+pub mod asked;
+pub mod laws;
+
+use asked::{asked_by, fault_of};
+use command_line::laws::one_form;
+use endings::{Status, conclude, run_command};
+use laws::built_lawful;
+use lkb_io::{Shelf, Sink, Source};
+use std::alloc::AllocGlobal;
+use std::sync::Wait;
+use std::thread::Threads;
+use worker_gate::Gate;
+
+/// Does all that the program does: reads the words of the command line, which don't hold the program's name, does
+/// what they say, and tells how it ended. The order is: words, the command's files from the shelf, then the input,
+/// where the command reads it, line by line: read, answer, write. A fault is told on `err` by its text, and a fault
+/// of `err` itself changes nothing. No clause names the workers or the gate.
+pub fn run<S: Shelf, I: Source, O: Sink, X: Sink, Rt: AllocGlobal + Threads + Wait + Sync>(
+    rt: &Rt,
+    words: &[String],
+    shelf: &mut S,
+    input: &mut I,
+    out: &mut O,
+    err: &mut X,
+    gate: &dyn Gate,
+) -> Status
+    // How the run ended, by what the words ask for. The status, and what was told of a fault, are those of this end.
+    ensures ended { let h = shelves S.files S.faults S.asked shelf.old shelf.new in
+        let o = streams I.left I.faults O.written O.flushed O.faults input.old input.new out.old out.new in
+        (end : Result Bool Fault) × RunEnded (map (λ w. string_bytes w) words.now) h o (shelf.new ≡ shelf.old) (input.new ≡ input.old) ((input.new ≡ input.old) × (out.new ≡ out.old)) end
+        × (result ≡ status_of end) × Tells (X.written err.old) (X.written err.new) (X.faults err.old) (X.faults err.new) (fault_text end) }
+
+    // The headline: after `Done` and `Items` the bytes written are the report over all lines of the input, which was
+    // read to its end where the command reads it. It is `Items` where something is refused, and `Done` where nothing is.
+    ensures report { (bytes before after : List ℕ) → (result ≡ Status.Done) ⊎ (result ≡ Status.Items)
+        → I.left input.old ≡ Some bytes → O.written out.old ≡ Some before → O.written out.new ≡ Some after
+        → (form : Form) × (pieces : List (List ℕ)) × HasForm (map (λ w. string_bytes w) words.now) form
+        × (meaning_of form).report (S.files shelf.old) (lines_of bytes) pieces (is_items result)
+        × (after ≡ before ++ concat pieces) × IsReadThrough (meaning_of form) (I.left input.new) }
+    ensures flushed { (result ≡ Status.Done) ⊎ (result ≡ Status.Items) → O.flushed out.new ≡ O.written out.new }
+    ensures silent { (result ≡ Status.Done) ⊎ (result ≡ Status.Items) → err.new ≡ err.old }
+
+    // `Usage` only where the words are of no form, and always there, unless memory was wanting. Nothing is read, and
+    // nothing written to `out`.
+    ensures usage { result ≡ Status.Usage → IsFormless (map (λ w. string_bytes w) words.now)
+        × (shelf.new ≡ shelf.old) × (input.new ≡ input.old) × (out.new ≡ out.old) }
+    ensures no_form { IsFormless (map (λ w. string_bytes w) words.now) → ((result ≡ Status.Usage) ⊎ (result ≡ Status.NoMemory))
+        × (shelf.new ≡ shelf.old) × (input.new ≡ input.old) × (out.new ≡ out.old) }
+    ensures unopened { (form : Form) → HasForm (map (λ w. string_bytes w) words.now) form → (meaning_of form).opens ≡ false → shelf.new ≡ shelf.old }
+
+    // `Grammar` only where the command's files have the fault that is told, and always where they have no report.
+    // Nothing is read of the input, and nothing written to `out`.
+    ensures grammar { let h = shelves S.files S.faults S.asked shelf.old shelf.new in
+        result ≡ Status.Grammar → (form : Form) × (fault : FileFault)
+        × HasForm (map (λ w. string_bytes w) words.now) form × Fails (meaning_of form) h fault
+        × Tells (X.written err.old) (X.written err.new) (X.faults err.old) (X.faults err.new) fault.text
+        × (input.new ≡ input.old) × (out.new ≡ out.old) }
+    ensures no_grammar { (form : Form) → HasForm (map (λ w. string_bytes w) words.now) form
+        → ((meaning_of form).loadable (S.files shelf.old) → ⊥) → (result ≡ Status.Grammar) ⊎ (result ≡ Status.NoMemory) }
+
+    // Where the shelf tells its files and counts no fault, it is their first fault that is told.
+    ensures first_fault { (form : Form) (files : List ℕ → Option (List ℕ)) (fault : FileFault)
+        → HasForm (map (λ w. string_bytes w) words.now) form → S.files shelf.old ≡ Some files
+        → (meaning_of form).first (Some files) (λ name. false) fault → (HasRisen (S.faults shelf.old) (S.faults shelf.new) → ⊥)
+        → (result ≡ Status.NoMemory) ⊎ ((result ≡ Status.Grammar)
+        × Tells (X.written err.old) (X.written err.new) (X.faults err.old) (X.faults err.new) fault.text) }
+
+    // `ReadFault` only where the source failed, a line is too long, or a line has no number; and always where a line
+    // that the command reads can't be read. Exactly the report over the lines before was written.
+    ensures read_fault { let h = shelves S.files S.faults S.asked shelf.old shelf.new in
+        let o = streams I.left I.faults O.written O.flushed O.faults input.old input.new out.old out.new in
+        result ≡ Status.ReadFault → (form : Form) × HasForm (map (λ w. string_bytes w) words.now) form × StopsReading (meaning_of form) h o }
+    ensures unreadable { let h = shelves S.files S.faults S.asked shelf.old shelf.new in
+        let o = streams I.left I.faults O.written O.flushed O.faults input.old input.new out.old out.new in
+        (form : Form) (files : List ℕ → Option (List ℕ)) (bytes : List ℕ) → HasForm (map (λ w. string_bytes w) words.now) form
+        → (meaning_of form).reads ≡ true → S.files shelf.old ≡ Some files → I.left input.old ≡ Some bytes
+        → (meaning_of form).loadable (Some files) → (AreReadable (lines_of bytes) → ⊥) → IsFaultless h o
+        → (result ≡ Status.ReadFault) ⊎ (result ≡ Status.NoMemory) }
+
+    // `WriteFault` only where the sink failed. Then, and after `NoMemory`, a front of the report over lines that were
+    // read was written; where memory was wanting before the first line, nothing was read or written.
+    ensures write_fault { let h = shelves S.files S.faults S.asked shelf.old shelf.new in
+        let o = streams I.left I.faults O.written O.flushed O.faults input.old input.new out.old out.new in
+        result ≡ Status.WriteFault → (form : Form) × HasForm (map (λ w. string_bytes w) words.now) form
+        × RanInPart (meaning_of form) h o × HasRisen (O.faults out.old) (O.faults out.new) }
+    ensures no_memory { let h = shelves S.files S.faults S.asked shelf.old shelf.new in
+        let o = streams I.left I.faults O.written O.flushed O.faults input.old input.new out.old out.new in
+        result ≡ Status.NoMemory → ((input.new ≡ input.old) × (out.new ≡ out.old))
+        ⊎ ((form : Form) × HasForm (map (λ w. string_bytes w) words.now) form × RanInPart (meaning_of form) h o) }
+
+    // Completeness: where the words are in the form, the told files have no fault, each line can be read and nothing
+    // fails, the whole report is written, or memory was wanting. That report is the only one.
+    ensures complete { let h = shelves S.files S.faults S.asked shelf.old shelf.new in
+        let o = streams I.left I.faults O.written O.flushed O.faults input.old input.new out.old out.new in
+        (form : Form) (files : List ℕ → Option (List ℕ)) (bytes : List ℕ) → HasForm (map (λ w. string_bytes w) words.now) form
+        → S.files shelf.old ≡ Some files → I.left input.old ≡ Some bytes
+        → (meaning_of form).loadable (Some files) → AreReadable (lines_of bytes) → IsFaultless h o → IsWhole (meaning_of form) h o bytes result }
+    ensures one_report { (form : Form) (files : List ℕ → Option (List ℕ)) (lines pieces others : List (List ℕ)) (refused may : Bool)
+        → (meaning_of form).report (Some files) lines pieces refused → (meaning_of form).report (Some files) lines others may
+        → (pieces ≡ others) × (refused ≡ may) }
+{
+    one_form();
+    built_lawful();
+    match asked_by(rt.alloc(), words) {
+        Ok(command) => run_command(rt, rt.alloc(), &command, shelf, input, out, err, gate),
+        Err(fault) => conclude(err, &Err(fault_of(fault))),
+    }
+}
