@@ -1,0 +1,3 @@
+pub mod GatherLemmas
+pub mod PlaceLemmas
+pub mod LineLemmas
