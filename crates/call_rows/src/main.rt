@@ -82,24 +82,38 @@ fn text_answer(alloc: Global, step: &str, rest: &str) -> Result<Option<String>, 
     }
 }
 
-fn main(rt: HostRuntime) -> io::Result<()> {
-    let alloc = rt.alloc();
-    let mut input = Vec::new(alloc);
-    rt.stdin().read_to_end(&mut input)?;
+// Adds a step and what was answered, as a line.
+fn push_answer(out: &mut Vec<u8>, line: &str, found: &str) -> Result<(), AllocError> {
+    out.extend_from_slice(line.as_bytes())?;
+    out.extend_from_slice(b": ")?;
+    out.extend_from_slice(found.as_bytes())?;
+    out.push(b'\n')?;
+    Ok(())
+}
+
+// Takes a line of the input, and adds what it asks for.
+fn take(alloc: Global, rows: &mut Rows, line: &str, out: &mut Vec<u8>) -> Result<(), AllocError> {
+    let (step, rest) = front(line);
+    match rows.answer(alloc, step, rest)? {
+        Some(found) => push_answer(out, line, found.as_str()),
+        None => Ok(()),
+    }
+}
+
+// What the lines of the input ask for.
+fn answers(alloc: Global, input: &str) -> Result<Vec<u8>, AllocError> {
     let mut rows = Rows::new(alloc);
     let mut out = Vec::new(alloc);
-    for line in input.split(|byte| *byte == b'\n') {
-        let Ok(line) = std::str::from_utf8(line) else {
-            continue;
-        };
-        let (step, rest) = front(line);
-        if let Some(found) = rows.answer(alloc, step, rest)? {
-            out.extend_from_slice(line.as_bytes())?;
-            out.extend_from_slice(b": ")?;
-            out.extend_from_slice(found.as_bytes())?;
-            out.push(b'\n')?;
-        }
+    for line in input.split('\n') {
+        take(alloc, &mut rows, line, &mut out)?;
     }
+    Ok(out)
+}
+
+fn main(rt: HostRuntime) -> io::Result<()> {
+    let mut input = String::new(rt.alloc());
+    rt.stdin().read_to_string(&mut input)?;
+    let out = answers(rt.alloc(), input.as_str())?;
     let mut stdout = rt.stdout();
     stdout.write_all(&out)?;
     stdout.flush()

@@ -3,8 +3,12 @@
 #![tactic(auto)]
 
 use row::Row;
+use std::alloc::AllocGlobal;
 use std::io;
 use std::io::{Read, Write};
+use std::rt::Files;
+use std::sync::Wait;
+use std::thread::Threads;
 
 mod row;
 
@@ -16,19 +20,24 @@ fn front(line: &str) -> (&str, &str) {
     }
 }
 
-fn main(rt: HostRuntime) -> io::Result<()> {
-    let alloc = rt.alloc();
-    let mut input = Vec::new(alloc);
-    rt.stdin().read_to_end(&mut input)?;
-    let mut out = Vec::new(alloc);
-    let mut row = Row::new(alloc);
-    for line in input.split(|byte| *byte == b'\n') {
-        let Ok(line) = std::str::from_utf8(line) else {
-            continue;
-        };
+// What came of the rows that the lines of the input say.
+fn shown<R: AllocGlobal + Files + Threads + Wait + Sync>(
+    rt: &R,
+    input: &str,
+) -> io::Result<Vec<u8>> {
+    let mut out = Vec::new(rt.alloc());
+    let mut row = Row::new(rt.alloc());
+    for line in input.split('\n') {
         let (step, rest) = front(line);
-        row.take(&rt, step, rest, &mut out)?;
+        row.take(rt, step, rest, &mut out)?;
     }
+    Ok(out)
+}
+
+fn main(rt: HostRuntime) -> io::Result<()> {
+    let mut input = String::new(rt.alloc());
+    rt.stdin().read_to_string(&mut input)?;
+    let out = shown(&rt, input.as_str())?;
     let mut stdout = rt.stdout();
     stdout.write_all(&out)?;
     stdout.flush()
