@@ -61,6 +61,22 @@ fn has_value(kind: TokenKind) -> bool
 {
     match kind {
         TokenKind::Name | TokenKind::Text | TokenKind::Symbol | TokenKind::Coref => true,
-        _ => false,
+        TokenKind::Directive
+        | TokenKind::LetterSet
+        | TokenKind::Prefix
+        | TokenKind::Suffix
+        | TokenKind::Group
+        | TokenKind::Defined
+        | TokenKind::Added
+        | TokenKind::And
+        | TokenKind::AvmOpens
+        | TokenKind::AvmCloses
+        | TokenKind::ListOpens
+        | TokenKind::ListCloses
+        | TokenKind::DiffOpens
+        | TokenKind::DiffCloses
+        | TokenKind::Comma
+        | TokenKind::Dot
+        | TokenKind::Dots => false,
     }
 }

@@ -80,12 +80,10 @@ fn add_crossed(alloc: Global, bytes: &mut Vec<u8>, count: u64) -> Result<(), All
 // Adds so many blanks.
 fn add_blanks(bytes: &mut Vec<u8>, count: u64) -> Result<(), AllocError> {
     let line = [b' '; 4_096];
-    let mut left = count;
-    while left >= 4_096 {
+    for _ in 0..count / 4_096 {
         bytes.extend_from_slice(&line)?;
-        left -= 4_096;
     }
-    for _ in 0..left {
+    for _ in 0..count % 4_096 {
         bytes.push(b' ')?;
     }
     Ok(())
