@@ -10,8 +10,9 @@ use top_call::run;
 use worker_gate::OpenGate;
 
 // How many bytes of the report are kept back until they are written at once. The report is flushed before the input
-// is asked for more, so a user sees the answer to his line.
-const BUFFER: usize = 65_536;
+// is asked for more, so a user sees the answer to his line; since such a flush writes less, the buffer is twice the 64
+// KiB that a write should have.
+const BUFFER: usize = 131_072;
 
 // The words of the command line without the program's name. One that isn't UTF-8 is outside every form.
 fn words_of(rt: &HostRuntime) -> Result<Vec<String>, Fault> {
