@@ -1,0 +1,4 @@
+pub mod PlaceLemmas
+pub mod ReadableLemmas
+pub mod DaughterLemmas
+pub mod EntryLemmas
