@@ -21,15 +21,17 @@ fn feature(feats: &[String], name: &String) -> Option<Feat>
     None
 }
 
-/// The features of names, where the grammar has them.
+/// The features of names, where the grammar has them. More features than a `u32` can number count as want of memory.
 pub fn features(
     alloc: Global,
     feats: &[String],
     names: &Vec<String>,
 ) -> Result<Vec<Option<Feat>>, NoMemory>
-    requires { length feats.now < 2 ^ 32 }
     ensures { IfOk result (λ found. map (option_map (λ f. f.0)) found.items ≡ map (feature_named (texts feats.now)) (texts names.now.items)) }
 {
+    if feats.len() > u32::MAX as usize {
+        return Err(NoMemory);
+    }
     let mut found = Vec::new(alloc);
     for name in names {
         found.push(feature(feats, name))?;
