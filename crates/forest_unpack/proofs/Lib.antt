@@ -1,0 +1,16 @@
+pub mod Taken
+pub mod Adding
+pub mod Growing
+pub mod Filling
+pub mod Sorting
+pub mod Taking
+pub mod Whole
+pub mod Rising
+pub mod Leading
+pub mod Grouping
+pub mod Telling
+pub mod Grounding
+pub mod Askings
+pub mod Sizing
+pub mod Building
+pub mod Ready

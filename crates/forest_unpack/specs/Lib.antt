@@ -1,0 +1,9 @@
+pub mod Parts
+pub mod Items
+pub mod Plans
+pub mod Unpacking
+pub mod Keeping
+pub mod Skeletons
+pub mod Groups
+pub mod Ranks
+pub mod Asking

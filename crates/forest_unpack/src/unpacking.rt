@@ -1,0 +1,142 @@
+//! The trees of a finished chart that are asked for.
+
+ghost use Rattle.std.specs.Prelude.{◌≡◌, IfOk, MatchOption, MatchResult, length, map};
+ghost use Rattle.chart_core.specs.CoreView.{chart_of, leaves_of};
+ghost use Rattle.chart_core.specs.Kept.{core_of};
+ghost use Rattle.chart_core.specs.Grammar.{grammar_of};
+ghost use Rattle.derivation.specs.Views.{derivation_of};
+ghost use Rattle.forest_unpack.specs.Unpacking.{Suits, AreUnpacked, IsUnpackFault};
+ghost use Rattle.forest_unpack.specs.Items.{NoneListed};
+ghost use Rattle.forest_unpack.specs.Keeping.{AllBelow, asked_of};
+ghost use Rattle.forest_unpack.specs.Plans.{IsPlan};
+ghost use Rattle.forest_unpack.specs.Skeletons.{IsSkeleton};
+
+use crate::asking::wanted_of;
+use crate::collecting::{Wanted, collect};
+use crate::groups::groups_of;
+use crate::keeping::sort;
+use crate::lists::{Item, Plan};
+use crate::ranks::ranks_of;
+use crate::rows::GroupRow;
+use crate::{Fulls, NoMemory, UnpackFault};
+use chart_core::Finished;
+use cover::Shapes;
+use derivation::Tree;
+use std::alloc::Global;
+
+/// As many hosts without a list.
+fn no_lists<F: Fulls>(alloc: Global, count: usize) -> Result<Vec<Option<Vec<Item<F>>>>, NoMemory>
+    ensures length { IfOk result (λ table. length table.items ≡ count) }
+    ensures none { IfOk result (λ table. NoneListed table.items) }
+{
+    let mut table = Vec::with_capacity(alloc, count)?;
+    while table.len() < count {
+        table.push(None)?;
+    }
+    Ok(table)
+}
+
+/// One pass over the wanted hosts of a chart: the trees that are asked for, or none where a list was cut.
+fn pass<'p, 'w, S: Shapes, F: Fulls<Cover = S::Cover>>(
+    alloc: Global,
+    _finished: &Finished<S>,
+    _shapes: &S,
+    plan: &'p Plan<'p, F>,
+    wanted: &'w [Wanted<'w, F>],
+    work: &mut F::Work,
+    max: u32,
+) -> Result<Option<Vec<Tree>>, UnpackFault>
+    requires suits { Suits (grammar_of S.Shapes S.Cover.Cover.own _shapes.now) (F.wholes plan.now.fulls.now) _finished.now (S.full _shapes.now) (S.agrees _shapes.now) (F.named plan.now.fulls.now) (F.ruled plan.now.fulls.now) }
+    requires skeleton { IsSkeleton (F.wholes plan.now.fulls.now) (leaves_of (S.meaning _shapes.now) (core_of _finished.now)) (chart_of (S.meaning _shapes.now) (core_of _finished.now)) plan.now.groups.now plan.now.ranks.now (map asked_of wanted.now) }
+    requires plan { IsPlan (F.named plan.now.fulls.now) (F.ruled plan.now.fulls.now) plan.now.groups.now plan.now.ranks.now }
+    requires wanted { AllBelow (length plan.now.groups.now) wanted.now }
+    ensures { MatchResult result
+        (λ o. MatchOption o (Unit {0}) (λ v. AreUnpacked (grammar_of S.Shapes S.Cover.Cover.own _shapes.now) (F.wholes plan.now.fulls.now) _finished.now max (map derivation_of v.items)))
+        (IsUnpackFault (grammar_of S.Shapes S.Cover.Cover.own _shapes.now) (F.wholes plan.now.fulls.now) _finished.now max) }
+{
+    let mut table = no_lists(alloc, plan.groups.len())?;
+    let mut cut = false;
+    let mut trees = Vec::new(alloc);
+    let over = collect(
+        alloc,
+        plan,
+        work,
+        wanted,
+        max as usize,
+        &mut table,
+        &mut cut,
+        &mut trees,
+    )?;
+    sort(&mut trees);
+    if trees.len() > max as usize {
+        return Err(UnpackFault::ReadingLimit);
+    }
+    if over || cut {
+        return Ok(None);
+    }
+    Ok(Some(trees))
+}
+
+/// The trees over a chart's leaves that are asked for, by its groups, ranks and wanted hosts. Lists are cut first just above `max`, and later if need be.
+fn unpack_by<'w, S: Shapes, F: Fulls<Cover = S::Cover>>(
+    alloc: Global,
+    finished: &Finished<S>,
+    shapes: &S,
+    fulls: &F,
+    groups: &[Vec<GroupRow>],
+    ranks: &[u64],
+    wanted: &'w [Wanted<'w, F>],
+    work: &mut F::Work,
+    max: u32,
+) -> Result<Vec<Tree>, UnpackFault>
+    requires suits { Suits (grammar_of S.Shapes S.Cover.Cover.own shapes.now) (F.wholes fulls.now) finished.now (S.full shapes.now) (S.agrees shapes.now) (F.named fulls.now) (F.ruled fulls.now) }
+    requires skeleton { IsSkeleton (F.wholes fulls.now) (leaves_of (S.meaning shapes.now) (core_of finished.now)) (chart_of (S.meaning shapes.now) (core_of finished.now)) groups.now ranks.now (map asked_of wanted.now) }
+    requires plan { IsPlan (F.named fulls.now) (F.ruled fulls.now) groups.now ranks.now }
+    requires wanted { AllBelow (length groups.now) wanted.now }
+    ensures { MatchResult result
+        (λ v. AreUnpacked (grammar_of S.Shapes S.Cover.Cover.own shapes.now) (F.wholes fulls.now) finished.now max (map derivation_of v.items))
+        (IsUnpackFault (grammar_of S.Shapes S.Cover.Cover.own shapes.now) (F.wholes fulls.now) finished.now max) }
+{
+    let mut most = max as usize + 1;
+    loop {
+        let plan = Plan {
+            fulls: &*fulls,
+            groups: &*groups,
+            ranks: &*ranks,
+            most,
+        };
+        if let Some(trees) = pass(alloc, finished, shapes, &plan, &*wanted, work, max)? {
+            return Ok(trees);
+        }
+        if most == usize::MAX {
+            return Err(UnpackFault::NoMemory);
+        }
+        most = if most < usize::MAX / 8 {
+            most * 8
+        } else {
+            usize::MAX
+        };
+    }
+}
+
+/// The trees over the chart's leaves whose full structure is asked for, each once, in the order of trees; `ReadingLimit` exactly where they are more than `max`.
+pub fn unpack<S: Shapes, F: Fulls<Cover = S::Cover>>(
+    alloc: Global,
+    finished: &Finished<S>,
+    shapes: &S,
+    fulls: &F,
+    work: &mut F::Work,
+    max: u32,
+) -> Result<Vec<Tree>, UnpackFault>
+    requires { Suits (grammar_of S.Shapes S.Cover.Cover.own shapes.now) (F.wholes fulls.now) finished.now (S.full shapes.now) (S.agrees shapes.now) (F.named fulls.now) (F.ruled fulls.now) }
+    ensures { MatchResult result
+        (λ v. AreUnpacked (grammar_of S.Shapes S.Cover.Cover.own shapes.now) (F.wholes fulls.now) finished.now max (map derivation_of v.items))
+        (IsUnpackFault (grammar_of S.Shapes S.Cover.Cover.own shapes.now) (F.wholes fulls.now) finished.now max) }
+{
+    let groups = groups_of(alloc, finished)?;
+    let ranks = ranks_of(alloc, finished)?;
+    let wanted = wanted_of(alloc, finished, fulls)?;
+    unpack_by(
+        alloc, finished, shapes, fulls, &groups, &ranks, &wanted, work, max,
+    )
+}
