@@ -60,9 +60,12 @@ fn has_value(kind: TokenKind) -> bool
     ensures { result ≡ has_value kind }
 {
     match kind {
-        TokenKind::Name | TokenKind::Text | TokenKind::Symbol | TokenKind::Coref => true,
-        TokenKind::Directive
-        | TokenKind::LetterSet
+        TokenKind::Name
+        | TokenKind::Text
+        | TokenKind::Symbol
+        | TokenKind::Coref
+        | TokenKind::Directive => true,
+        TokenKind::LetterSet
         | TokenKind::Prefix
         | TokenKind::Suffix
         | TokenKind::Group
