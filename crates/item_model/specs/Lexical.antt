@@ -1,6 +1,7 @@
 -- Lexical trees: entries under lexical rules, with the words that they spell.
-use Rattle.std.specs.Prelude.{ℕ, ◌≡◌, List, [], ◌∷◌, ◌++◌, length, Some, slice_get}
-use Rattle.fs_model.specs.Claims.{Has}
+use Rattle.std.specs.Prelude.{ℕ, ◌≡◌, ◌<◌, List, [], ◌∷◌, ◌++◌, length, Some, slice_get}
+use Rattle.spelling_rules.specs.Trees.{SpellingTree}
+use Rattle.spelling_rules.specs.Forms.{HasForm}
 use Rattle.fs_model.specs.Sources.{Told}
 use Rattle.fs_model.specs.Closure.{Closure, IsConsistent}
 use Rattle.derivation.specs.Trees.{Derivation, lexical, phrase}
@@ -11,15 +12,20 @@ use Rattle.item_model.specs.Signs.{Signs, Instance, an_entry, a_lexical_rule, ru
 abbrev pub Word : Type 0
 Word = List ℕ
 
--- what is said of words: those of an entry, and the forms of a stem under a lexical rule, both by place
+-- what is said of words: those of an entry, by its place, and the spelling of the lexical rules, each of which has a number there
 pub record Words : Type 0 where
   pub words_of : ℕ → List Word
-  pub forms : ℕ → Word → List Word
+  pub spelling : SpellingTree
+  pub number_of : ℕ → ℕ
+
+-- a form of a stem under the lexical rule at a place; no word is empty
+abbrev pub IsForm : Words → ℕ → Word → Word → Type 0
+IsForm words rule stem form = (0 < length stem) × HasForm words.spelling (words.number_of rule) stem form
 
 -- under these rules, from the inside out, some words become others: each rule replaces the last word by a form of it
 pub data Become (words : Words) : List Word → List ℕ → List Word → Type 0 where
   become_none : {ws : List Word} → Become words ws [] ws
-  become_next : {ws vs : List Word} {rule : ℕ} {rules : List ℕ} (front : List Word) (word form : Word) → ws ≡ front ++ word ∷ [] → Has form (words.forms rule word) →
+  become_next : {ws vs : List Word} {rule : ℕ} {rules : List ℕ} (front : List Word) (word form : Word) → ws ≡ front ++ word ∷ [] → IsForm words rule word form →
       Become words (front ++ form ∷ []) rules vs → Become words ws (rule ∷ rules) vs
 
 -- a chain, an entry under lexical rules, spells the words to which the entry's words lead
