@@ -1,0 +1,148 @@
+-- Rows without the arcs that a cut cuts off.
+use Rattle.std.specs.Prelude.{ℕ, ◌≡◌, ◌<◌, ◌+◌, ◌^◌, ◌==◌, Bool, true, false, cond, if◌then◌else◌, Option, None, List, [], ◌∷◌, ◌++◌, length, map, take, slice_index, slice_index_or}
+use Rattle.std.specs.List.{filter, flat_map, range_with_len}
+use Rattle.std.proofs.Common.{zero, suc, refl, sym, ◌∙◌, ap, subst, arith}
+use Rattle.std.proofs.lemmas.Bool.{eqb-true}
+use Rattle.std.proofs.lemmas.List.{take_more, take_all, map_push, length-map}
+use Rattle.std.proofs.lemmas.List.FromFn.{get_or-range_with_len, length-range_with_len}
+use Rattle.type_hierarchy.specs.declared.types.Ty.{Ty}
+use Rattle.fs_graph.specs.declared.graph.GraphArc.{GraphArc}
+use Rattle.fs_graph.specs.GraphMap.{GraphMap, IsGraph, type_at, arcs_at, arc_to, Rises}
+use Rattle.fs_graph.specs.Inside.{row}
+use Rattle.fs_graph.specs.Renumbering.{starts_of}
+use Rattle.fs_graph.specs.Visits.{feats_of, targets_of}
+use Rattle.fs_graph.proofs.FlatLemmas.{flat-more, starts-more, row_is, rows_are}
+use Rattle.fs_graph.proofs.RowLemmas.{arc_there}
+use Rattle.rule_model.specs.Cuts.{Cut}
+use Rattle.fs_trim.specs.Inner.Rows.{left_at, IsCutPlan, AreLeft}
+
+pub either_none : (b : Bool) (o : Option ℕ) → o ≡ None → None ≡ (if b then o else None)
+either_none true o e = sym e
+either_none false o e = refl
+
+-- a look-up among the arcs whose features pass a test
+pub arc_to-filter : (p : ℕ → Bool) (xs : List GraphArc) (f : ℕ) → arc_to (filter (λ a. p a.feat.0) xs) f ≡ (if p f then arc_to xs f else None)
+arc_to-filter p [] f = either_none (p f) None refl
+arc_to-filter p (x ∷ xs) f = by_tests (p x.feat.0) refl (x.feat.0 == f) refl (arc_to-filter p xs f)
+  where
+    by_tests : (b : Bool) → p x.feat.0 ≡ b → (c : Bool) → (x.feat.0 == f) ≡ c → arc_to (filter (λ a. p a.feat.0) xs) f ≡ (if p f then arc_to xs f else None) →
+        arc_to (filter (λ a. p a.feat.0) (x ∷ xs)) f ≡ (if p f then arc_to (x ∷ xs) f else None)
+    by_tests true e true d rest =
+        let q : p f ≡ true = ap p (sym (eqb-true x.feat.0 f d)) ∙ e in
+        rw (e, d, q) refl
+    by_tests true e false d rest = rw (e, d) rest
+    by_tests false e true d rest =
+        let q : p f ≡ false = ap p (sym (eqb-true x.feat.0 f d)) ∙ e in
+        let none : arc_to (filter (λ a. p a.feat.0) xs) f ≡ None = rest ∙ rw q refl in
+        rw (e, q) none
+    by_tests false e false d rest = rw (e, d) rest
+
+-- where each of a list stands in another one
+abbrev IsWithin : List GraphArc → List GraphArc → Type 0
+IsWithin ys xs = (j : ℕ) → j < length ys →
+    (k : ℕ) × (k < length xs) × (slice_index (feats_of ys) j ≡ slice_index (feats_of xs) k) × (slice_index (targets_of ys) j ≡ slice_index (targets_of xs) k)
+
+within_more : (b : Bool) (x : GraphArc) (ys xs : List GraphArc) → IsWithin ys xs → IsWithin (cond b (x ∷ ys) ys) (x ∷ xs)
+within_more true x ys xs w zero h = (0, omega arith, refl, refl)
+within_more true x ys xs w (suc j) h = let r = w j (omega (arith, h)) in (suc r.0, omega (arith, r.1), r.2, r.3)
+within_more false x ys xs w j h = let r = w j h in (suc r.0, omega (arith, r.1), r.2, r.3)
+
+-- each arc that passes is an arc
+filter_index : (p : GraphArc → Bool) (xs : List GraphArc) → IsWithin (filter p xs) xs
+filter_index p [] j h = absurd (omega (arith, h))
+filter_index p (x ∷ xs) j h = within_more (p x) x (filter p xs) xs (filter_index p xs) j h
+
+rises_rest : (x : GraphArc) (xs : List GraphArc) → Rises (x ∷ xs) → Rises xs
+rises_rest x xs r i j h l = r (suc i) (suc j) (omega (arith, h)) (omega (arith, l))
+
+rises_more : (x : GraphArc) (ys : List GraphArc) → ((j : ℕ) → j < length ys → x.feat.0 < slice_index (feats_of ys) j) → Rises ys → Rises (x ∷ ys)
+rises_more x ys low r zero zero a b = absurd (omega (arith, a))
+rises_more x ys low r zero (suc j) a b = low j (omega (arith, b))
+rises_more x ys low r (suc i) zero a b = absurd (omega (arith, a))
+rises_more x ys low r (suc i) (suc j) a b = r i j (omega (arith, a)) (omega (arith, b))
+
+rises-filter : (p : GraphArc → Bool) (xs : List GraphArc) → Rises xs → Rises (filter p xs)
+rises-filter p [] r = r
+rises-filter p (x ∷ xs) r = by_test (p x) refl (rises-filter p xs (rises_rest x xs r))
+  where
+    low : (j : ℕ) → j < length (filter p xs) → x.feat.0 < slice_index (feats_of (filter p xs)) j
+    low j h =
+        let k = filter_index p xs j h in
+        let up : x.feat.0 < slice_index (feats_of xs) k.0 = r 0 (suc k.0) (omega arith) (omega (arith, k.1)) in
+        subst (λ z. x.feat.0 < z) (sym k.2) up
+
+    by_test : (b : Bool) → p x ≡ b → Rises (filter p xs) → Rises (filter p (x ∷ xs))
+    by_test true e rest = subst (λ b. Rises (cond b (x ∷ filter p xs) (filter p xs))) (sym e) (rises_more x (filter p xs) low rest)
+    by_test false e rest = subst (λ b. Rises (cond b (x ∷ filter p xs) (filter p xs))) (sym e) rest
+
+module _ (cut : Cut) (g : GraphMap) where
+  abbrev nodes : List ℕ
+  nodes = range_with_len 0 (length g.types)
+
+  size : length nodes ≡ length g.types
+  size = length-range_with_len 0 (length g.types)
+
+  node_is : (i : ℕ) → i < length g.types → slice_index_or nodes i 0 ≡ i
+  node_is i h = let e = get_or-range_with_len 0 (length g.types) i 0 h in omega (arith, e)
+
+  -- a step of the loop over the nodes
+  pub left_more : (i : ℕ) (types types' : List Ty) (starts starts' : List ℕ) (arcs arcs' : List GraphArc) (ty : Ty) (at : ℕ) → i < length g.types → AreLeft cut g i types starts arcs →
+      types' ≡ types ++ ty ∷ [] → ty.0 ≡ type_at g i → starts' ≡ starts ++ at ∷ [] → at ≡ length arcs → arcs' ≡ arcs ++ left_at cut g i → AreLeft cut g (i + 1) types' starts' arcs'
+  left_more i types types' starts starts' arcs arcs' ty at h r types_is ty_is starts_is at_is arcs_is = record {
+    types_are =
+        ap (map (λ t. t.0)) types_is ∙ map_push (λ t. t.0) types ty ∙ ap (λ l. l ++ ty.0 ∷ []) r.types_are ∙ ap (λ y. take i g.types ++ y ∷ []) ty_is
+        ∙ sym (take_more g.types i 0 h);
+    starts_are = starts-more (left_at cut g) nodes i at starts starts' arcs r.starts_are r.arcs_are starts_is at_is;
+    arcs_are =
+        arcs_is ∙ ap (λ l. l ++ left_at cut g i) r.arcs_are ∙ ap (λ k. flat_map (left_at cut g) (take i nodes) ++ left_at cut g k) (sym (node_is i h))
+        ∙ sym (flat-more (left_at cut g) nodes i 0 (let e = size in omega (arith, e, h)));
+  }
+
+  -- the end of the loop
+  pub left_all : (i at : ℕ) (types : List Ty) (starts starts' : List ℕ) (arcs : List GraphArc) → i ≡ length g.types → length g.types < 2 ^ 32 → IsGraph g → AreLeft cut g i types starts arcs →
+      starts' ≡ starts ++ at ∷ [] → at ≡ length arcs → IsCutPlan cut g types starts' arcs
+  left_all i at types starts starts' arcs e few is r starts_is at_is =
+      subst (λ z. IsCutPlan cut g types z arcs) (sym (starts_is ∙ ap (λ z. starts ++ z ∷ []) at_is)) plan
+    where
+      all : AreLeft cut g (length g.types) types starts arcs
+      all = subst (λ z. AreLeft cut g z types starts arcs) e r
+
+      types_all : map (λ t. t.0) types ≡ g.types
+      types_all = all.types_are ∙ take_all (length g.types) g.types (omega arith)
+
+      types_size : length types ≡ length g.types
+      types_size = sym (length-map types (λ t. t.0)) ∙ ap length types_all
+
+      starts_all : starts ≡ map (starts_of (left_at cut g) nodes) (range_with_len 0 (length nodes))
+      starts_all = subst (λ z. starts ≡ map (starts_of (left_at cut g) nodes) (range_with_len 0 z)) (sym size) all.starts_are
+
+      arcs_all : arcs ≡ flat_map (left_at cut g) nodes
+      arcs_all = all.arcs_are ∙ ap (flat_map (left_at cut g)) (take_all (length g.types) nodes (let s = size in omega (arith, s)))
+
+      row_all : (n : ℕ) → n < length types → row (starts ++ length arcs ∷ []) arcs n ≡ left_at cut g n
+      row_all n h =
+          row_is (left_at cut g) nodes 0 starts arcs starts_all arcs_all n (let s = size in omega (arith, h, s, types_size))
+          ∙ ap (left_at cut g) (node_is n (omega (arith, h, types_size)))
+
+      targets : (n k : ℕ) → n < length g.types → k < length (left_at cut g n) → slice_index (targets_of (left_at cut g n)) k < length g.types
+      targets n k h l =
+          let at = filter_index _ (arcs_at g n) k l in
+          let there = arc_there (arcs_at g n) at.0 (is.rises n h) at.1 in
+          let low = is.numbered.table.arc_in n (slice_index (feats_of (arcs_at g n)) at.0) (slice_index (targets_of (arcs_at g n)) at.0) h there in
+          subst (λ z. z < length g.types) (sym at.3) low
+
+      plan : IsCutPlan cut g types (starts ++ length arcs ∷ []) arcs
+      plan = record {
+        plan = record {
+          filled = omega (arith, is.numbered.filled, types_size);
+          few = omega (arith, few, types_size);
+          rows = rows_are (left_at cut g) nodes 0 starts arcs starts_all arcs_all (length types) (let s = size in omega (arith, s, types_size));
+          rises = λ n h. subst Rises (sym (row_all n h)) (rises-filter _ (arcs_at g n) (is.rises n (omega (arith, h, types_size))));
+          to_in = λ n k h l.
+              let m : k < length (left_at cut g n) = subst (λ z. k < length z) (row_all n h) l in
+              let low = targets n k (omega (arith, h, types_size)) m in
+              subst (λ z. slice_index (targets_of z) k < length types) (sym (row_all n h)) (omega (arith, low, types_size));
+        };
+        types_are = types_all;
+        rows_are = row_all;
+      }

@@ -1,0 +1,4 @@
+pub mod TrimLemmas
+pub mod KeepLemmas
+pub mod LeftLemmas
+pub mod KeptLemmas
