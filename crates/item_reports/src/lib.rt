@@ -1,0 +1,9 @@
+//! What is written of a line that is parsed, and the words of a line.
+#![tactic(auto)]
+
+mod report;
+mod sentence;
+
+pub use report::{lines_of_no_lattice, lines_of_no_text, lines_of_refusal, lines_of_trees};
+pub use sentence::words_of_line;
+pub use word_lists::NoMemory;
