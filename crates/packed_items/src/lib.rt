@@ -1,0 +1,89 @@
+//! What a chart over given leaves finds: the limit that is broken, that there are too many readings, or the trees.
+//!
+//! A packed chart and its unpacking: Oepen and Carroll 2000.
+#![tactic(auto)]
+
+ghost use Rattle.std.specs.Prelude.{◌≡◌, All, IfOk, MatchResult, map};
+ghost use Rattle.chart_model.specs.Limits.{IsLimitAnswer, Within};
+ghost use Rattle.chart_core.specs.CoreView.{leaves_of, limits_of};
+ghost use Rattle.chart_core.specs.Grammar.{grammar_of};
+ghost use Rattle.chart_core.specs.Kept.{InRange, core_of, limits_seen, pending_of};
+ghost use Rattle.chart_core.specs.Leaves.{LeafBelongs, leaf_seen};
+ghost use Rattle.chart_core.specs.Passed.{IsPassed, IsPassFault};
+ghost use Rattle.packed_items.specs.Packed.{Fit, IsFound};
+
+use chart_core::{ChartFault, Finished, Leaf, Limits, ordered_pass};
+use cover::Shapes;
+use derivation::Tree;
+use forest_unpack::{Fulls, UnpackFault, unpack};
+use std::alloc::Global;
+
+/// What is found over the leaves of an item.
+#[derive(Debug, Drop)]
+pub enum Found {
+    /// there is an edge above more unary rules than the limit, by the least size at which a limit is broken
+    UnaryChain,
+    /// there are more packed classes than the limit by that size, and no such edge
+    Edges,
+    /// more trees are asked for than the limit
+    Readings,
+    /// the number of packed classes, and all trees that are asked for, each once, in the order of trees
+    Trees { classes: u32, trees: Vec<Tree> },
+}
+
+/// Memory ran out.
+#[derive(Debug, Drop, Clone, Copy, PartialEq, Eq)]
+pub struct NoMemory;
+
+/// Finishes the chart over these leaves and unpacks it.
+///
+/// `shapes` is the grammar that the leaves' shapes belong to, and `fulls` the full structures over the leaves, by their names.
+/// The answer is that of the limits on unary chains and packed classes, where one of them is broken; within them it is the
+/// trees that `fulls` asks for, or that there are more than `limits.readings` of them. `NoMemory` may come in place of any
+/// answer.
+pub fn answer_leaves<S: Shapes, F: Fulls<Cover = S::Cover, Work = S::Work>>(
+    alloc: Global,
+    shapes: &S,
+    work: &mut S::Work,
+    leaves: Vec<Leaf<S>>,
+    fulls: &F,
+    limits: &Limits,
+) -> Result<Found, NoMemory>
+    requires limits { InRange limits.now }
+    requires leaves { All (LeafBelongs (S.calculus shapes.now) (S.belongs shapes.now)) leaves.items }
+    requires fit { Fit (S.calculus shapes.now) (S.full shapes.now) (S.agrees shapes.now) (F.wholes fulls.now) (F.named fulls.now) (F.ruled fulls.now) (map (leaf_seen (S.meaning shapes.now)) leaves.items) }
+    ensures { IfOk result (IsFound (S.calculus shapes.now) (S.full shapes.now) (S.agrees shapes.now) (F.wholes fulls.now) limits.now (map (leaf_seen (S.meaning shapes.now)) leaves.items)) }
+{
+    match ordered_pass(alloc, leaves, shapes, work, limits) {
+        Ok(finished) => answer_chart(alloc, shapes, work, &finished, fulls, limits),
+        Err(ChartFault::UnaryChain { .. }) => Ok(Found::UnaryChain),
+        Err(ChartFault::Edges { .. }) => Ok(Found::Edges),
+        Err(ChartFault::NoMemory) => Err(NoMemory),
+    }
+}
+
+// What a finished chart within the limits gives.
+fn answer_chart<S: Shapes, F: Fulls<Cover = S::Cover, Work = S::Work>>(
+    alloc: Global,
+    shapes: &S,
+    work: &mut S::Work,
+    finished: &Finished<S>,
+    fulls: &F,
+    limits: &Limits,
+) -> Result<Found, NoMemory>
+    requires passed { IsPassed (grammar_of S.Shapes S.Cover.Cover.own shapes.now) (S.full shapes.now) (S.agrees shapes.now) (limits_seen limits.now) (leaves_of (S.meaning shapes.now) (core_of finished.now)) finished.now }
+    requires fit { Fit (S.calculus shapes.now) (S.full shapes.now) (S.agrees shapes.now) (F.wholes fulls.now) (F.named fulls.now) (F.ruled fulls.now) (leaves_of (S.meaning shapes.now) (core_of finished.now)) }
+    ensures { IfOk result (IsFound (S.calculus shapes.now) (S.full shapes.now) (S.agrees shapes.now) (F.wholes fulls.now) limits.now (leaves_of (S.meaning shapes.now) (core_of finished.now))) }
+{
+    let classes = match finished.decide(limits) {
+        Ok(classes) => classes,
+        Err(ChartFault::UnaryChain { .. }) => return Ok(Found::UnaryChain),
+        Err(ChartFault::Edges { .. }) => return Ok(Found::Edges),
+        Err(ChartFault::NoMemory) => return Err(NoMemory),
+    };
+    match unpack(alloc, finished, shapes, fulls, work, limits.readings) {
+        Ok(trees) => Ok(Found::Trees { classes, trees }),
+        Err(UnpackFault::ReadingLimit) => Ok(Found::Readings),
+        Err(UnpackFault::NoMemory) => Err(NoMemory),
+    }
+}
