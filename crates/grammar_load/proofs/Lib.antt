@@ -1,0 +1,17 @@
+pub mod ListLemmas
+pub mod NumberLemmas
+pub mod BoundLemmas
+pub mod ReadBound
+pub mod LoadedLemmas
+pub mod InstanceLemmas
+pub mod ShapeLemmas
+pub mod Members
+pub mod RisingNames
+pub mod OneSystem
+pub mod OneBook
+pub mod OneFault
+pub mod SameLists
+pub mod SameShapes
+pub mod OneLoad
+pub mod EachList
+pub mod EachLoad

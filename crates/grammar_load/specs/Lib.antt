@@ -1,0 +1,5 @@
+pub mod Loaded
+pub mod Loads
+pub mod Conditions
+pub mod Outcomes
+pub mod Views
