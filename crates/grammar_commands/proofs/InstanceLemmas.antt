@@ -1,46 +1,45 @@
--- The place of an instance, statement by statement.
-use Rattle.std.proofs.Common.{ℕ, zero, suc, ◌≡◌, ◌+◌, ◌<◌, ◌≤◌, ◌∙◌, sym, ap, refl, List, [], ◌∷◌, length, drop, map, get_or, arith, Bool, true, false, ◌&&◌, cond, Option, None, Some, if◌then◌else◌, filter, subst}
+-- The place of an instance, one by one.
+use Rattle.std.proofs.Common.{ℕ, zero, suc, ◌≡◌, ◌+◌, ◌<◌, ◌≤◌, ◌∙◌, ap, refl, List, [], ◌∷◌, length, drop, map, get_or, arith, Bool, true, false, cond, Option, None, Some, string_bytes, String, sym}
+use Rattle.std.specs.Global.{Global}
 use Rattle.std.specs.List.{position_from}
 use Rattle.std.proofs.lemmas.List.{drop_all, length-map}
-use Rattle.constraint_expand.specs.Placings.{PlacedTree}
-use Rattle.constraint_expand.specs.Statements.{defines_instance, instances_in}
+use Rattle.constraint_expand.specs.declared.books.Instance.{Instance}
+use Rattle.constraint_expand.specs.Books.{instance_of}
+use Rattle.grammar_commands.specs.Expansions.{Called, called_of}
 
--- the statement at a place, and those after it
-drop-at : {X : Type 0} (g : X → PlacedTree) (xs : List X) (i : ℕ) (x : X) → i < length xs → get_or xs i x ≡ x → drop i (map g xs) ≡ g x ∷ drop (suc i) (map g xs)
-drop-at g [] i x h e = absurd (omega (arith, h))
-drop-at g (y ∷ ys) zero x h e = ap (λ t. g t ∷ map g ys) e
-drop-at g (y ∷ ys) (suc i) x h e = drop-at g ys i x (omega (arith, h)) e
+abbrev pub called : Instance → String Global → Called
+called i n = record { status = i.status; name = string_bytes n }
 
--- an instance is looked at, and any other statement passed
-looked : (f : PlacedTree → Bool) (n : ℕ) (p : PlacedTree) (rest : List PlacedTree) (d : Bool) → position_from f n (cond d (p ∷ rest) rest) ≡ cond d (cond (f p) (Some n) (position_from f (n + 1) rest)) (position_from f n rest)
-looked f n p rest true = refl
-looked f n p rest false = refl
+abbrev pub all_of : List Instance → List (String Global) → List Called
+all_of is ns = called_of (map instance_of is) (map string_bytes ns)
 
-passed : (d b : Bool) (n : ℕ) (at : ℕ → Option ℕ) → (d && b) ≡ false → cond d (cond b (Some n) (at (n + 1))) (at n) ≡ at (if d then n + 1 else n)
-passed true true n at e = cc
-passed true false n at e = refl
-passed false b n at e = refl
+-- the instance at a place, and those after it
+drop-at : (is : List Instance) (ns : List (String Global)) (k : ℕ) (i : Instance) (n : String Global) → length ns ≡ length is → k < length is → get_or is k i ≡ i → get_or ns k n ≡ n
+    → drop k (all_of is ns) ≡ called i n ∷ drop (suc k) (all_of is ns)
+drop-at [] ns k i n long h e d = absurd (omega (arith, h))
+drop-at (x ∷ is) [] k i n long h e d = cc
+drop-at (x ∷ is) (y ∷ ns) zero i n long h e d = ap (λ z. called z y ∷ all_of is ns) e ∙ ap (λ z. called i z ∷ all_of is ns) d
+drop-at (x ∷ is) (y ∷ ns) (suc k) i n long h e d = drop-at is ns k i n (omega (arith, long)) (omega (arith, h)) e d
 
-hit : (d b : Bool) (n : ℕ) (at : ℕ → Option ℕ) → (d && b) ≡ true → cond d (cond b (Some n) (at (n + 1))) (at n) ≡ Some n
-hit true true n at e = refl
-hit true false n at e = cc
-hit false b n at e = cc
+met : (b : Bool) (n : ℕ) (o : Option ℕ) → b ≡ true → cond b (Some n) o ≡ Some n
+met true n o e = refl
+met false n o e = cc
 
-pub found-on : {X : Type 0} (g : X → PlacedTree) (f : PlacedTree → Bool) (xs : List X) (i n : ℕ) (x : X) → i < length xs → get_or xs i x ≡ x → (defines_instance (g x) && f (g x)) ≡ false
-    → position_from f n (instances_in (drop i (map g xs))) ≡ position_from f (if defines_instance (g x) then n + 1 else n) (instances_in (drop (suc i) (map g xs)))
-found-on g f xs i n x h e other =
-    let rest = instances_in (drop (suc i) (map g xs)) in
-    ap (λ ps. position_from f n (instances_in ps)) (drop-at g xs i x h e) ∙ looked f n (g x) rest (defines_instance (g x)) ∙ passed (defines_instance (g x)) (f (g x)) n (λ m. position_from f m rest) other
+passed : (b : Bool) (n : ℕ) (o : Option ℕ) → b ≡ false → cond b (Some n) o ≡ o
+passed false n o e = refl
+passed true n o e = cc
 
-pub found-here : {X : Type 0} (g : X → PlacedTree) (f : PlacedTree → Bool) (xs : List X) (i n : ℕ) (x : X) → i < length xs → get_or xs i x ≡ x → (defines_instance (g x) && f (g x)) ≡ true
-    → position_from f n (instances_in (drop i (map g xs))) ≡ Some n
-found-here g f xs i n x h e met =
-    let rest = instances_in (drop (suc i) (map g xs)) in
-    ap (λ ps. position_from f n (instances_in ps)) (drop-at g xs i x h e) ∙ looked f n (g x) rest (defines_instance (g x)) ∙ hit (defines_instance (g x)) (f (g x)) n (λ m. position_from f m rest) met
+module _ (f : Called → Bool) (is : List Instance) (ns : List (String Global)) (k : ℕ) (i : Instance) (n : String Global) (long : length ns ≡ length is) (h : k < length is) (e : get_or is k i ≡ i) (d : get_or ns k n ≡ n) where
+  pub found-here : f (called i n) ≡ true → position_from f k (drop k (all_of is ns)) ≡ Some k
+  found-here is_met = ap (position_from f k) (drop-at is ns k i n long h e d) ∙ met (f (called i n)) k (position_from f (k + 1) (drop (suc k) (all_of is ns))) is_met
 
-pub found-nowhere : {X : Type 0} (g : X → PlacedTree) (f : PlacedTree → Bool) (xs : List X) (i n : ℕ) → length xs ≤ i → position_from f n (instances_in (drop i (map g xs))) ≡ None
-found-nowhere g f xs i n h = ap (λ ps. position_from f n (instances_in ps)) (drop_all i (map g xs) (omega (arith, h, length-map xs g)))
+  pub found-on : f (called i n) ≡ false → position_from f k (drop k (all_of is ns)) ≡ position_from f (k + 1) (drop (suc k) (all_of is ns))
+  found-on is_not = ap (position_from f k) (drop-at is ns k i n long h e d) ∙ passed (f (called i n)) k (position_from f (k + 1) (drop (suc k) (all_of is ns))) is_not
 
-pub place-bound : (d : Bool) (n i m : ℕ) → n ≤ i → m ≡ (if d then n + 1 else n) → m ≤ i + 1
-place-bound true n i m h e = omega (arith, h, e)
-place-bound false n i m h e = omega (arith, h, e)
+called-short : (is : List Instance) (ns : List (String Global)) → length (all_of is ns) ≤ length is
+called-short [] ns = omega arith
+called-short (x ∷ is) [] = omega arith
+called-short (x ∷ is) (y ∷ ns) = omega (arith, called-short is ns)
+
+pub found-nowhere : (f : Called → Bool) (is : List Instance) (ns : List (String Global)) (k : ℕ) → length is ≤ k → position_from f k (drop k (all_of is ns)) ≡ None
+found-nowhere f is ns k h = ap (position_from f k) (drop_all k (all_of is ns) (omega (arith, h, called-short is ns)))

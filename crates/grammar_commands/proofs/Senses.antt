@@ -8,32 +8,22 @@ use Rattle.tdl_reader.specs.declared.Status.TheVariants.{Entry, LexRule, Rule, R
 use Rattle.type_hierarchy.specs.Decls.{Name}
 use Rattle.type_hierarchy.specs.Named.{type_named}
 use Rattle.type_hierarchy.specs.Table.{TypeTable, completed_count}
-use Rattle.constraint_expand.specs.Placings.{PlacedTree}
-use Rattle.grammar_commands.specs.Expansions.{Sense, a_type, an_instance, is_called, instance_named, instance_of_name, sense_of}
+use Rattle.grammar_commands.specs.Expansions.{Sense, a_type, an_instance, Called, is_called, instance_named, instance_of_name, sense_of}
 use Rattle.grammar_commands.proofs.Members.{position-in}
-
--- a type by its number, or an instance by its place, that is there
-abbrev pub IsThere : TypeTable → List PlacedTree → Sense → Type 0
-IsThere types instances (a_type t) = t < completed_count types
-IsThere types instances (an_instance k) = k < length instances
 
 either : {A : Type 0} (o p : Option A) (x : A) → option_or o p ≡ Some x → (o ≡ Some x) ⊎ (p ≡ Some x)
 either None p x e = inr e
 either (Some y) p x e = inl e
-
-of-map : {A B : Type 0} (f : A → B) (o : Option A) (y : B) → option_map f o ≡ Some y → (x : A) × (o ≡ Some x) × (f x ≡ y)
-of-map f None y e = cc
-of-map f (Some x) y e = (x, refl, let same : f x ≡ y = cc in same)
 
 pub type-there : (types : TypeTable) (name : Name) (t : ℕ) → type_named types name ≡ Some t → t < completed_count types
 type-there types name t e =
     let r = position-Some (bytes_eq name) (take (completed_count types) types.names) t [] e in
     omega (arith, r.0, length-take (completed_count types) types.names)
 
-named-there : (instances : List PlacedTree) (name : Name) (status : Status) (k : ℕ) → instance_named instances name status ≡ Some k → k < length instances
+named-there : (instances : List Called) (name : Name) (status : Status) (k : ℕ) → instance_named instances name status ≡ Some k → k < length instances
 named-there instances name status k e = let r = position-in (is_called name status) 0 k instances e in omega (arith, r.1)
 
-pub instance-there : (instances : List PlacedTree) (name : Name) (k : ℕ) → instance_of_name instances name ≡ Some k → k < length instances
+pub instance-there : (instances : List Called) (name : Name) (k : ℕ) → instance_of_name instances name ≡ Some k → k < length instances
 instance-there instances name k e = first (either (instance_named instances name Entry) _ k e)
   where
     third : (instance_named instances name Rule ≡ Some k) ⊎ (instance_named instances name Root ≡ Some k) → k < length instances
@@ -47,10 +37,3 @@ instance-there instances name k e = first (either (instance_named instances name
     first : (instance_named instances name Entry ≡ Some k) ⊎ (option_or (instance_named instances name LexRule) (option_or (instance_named instances name Rule) (instance_named instances name Root)) ≡ Some k) → k < length instances
     first (inl f) = named-there instances name Entry k f
     first (inr f) = second (either (instance_named instances name LexRule) (option_or (instance_named instances name Rule) (instance_named instances name Root)) k f)
-
-pub meaning-there : (types : TypeTable) (instances : List PlacedTree) (name : Name) (m : Sense) → sense_of types instances name ≡ Some m → IsThere types instances m
-meaning-there types instances name m e = by_cases (either (option_map a_type (type_named types name)) (option_map an_instance (instance_of_name instances name)) m e)
-  where
-    by_cases : (option_map a_type (type_named types name) ≡ Some m) ⊎ (option_map an_instance (instance_of_name instances name) ≡ Some m) → IsThere types instances m
-    by_cases (inl f) = let r = of-map a_type (type_named types name) m f in subst (IsThere types instances) r.2 (type-there types name r.0 r.1)
-    by_cases (inr f) = let r = of-map an_instance (instance_of_name instances name) m f in subst (IsThere types instances) r.2 (instance-there instances name r.0 r.1)

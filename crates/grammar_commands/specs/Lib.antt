@@ -1,5 +1,5 @@
-pub mod Grammars
 pub mod Books
-pub mod Expansions
 pub mod TypeReports
+pub mod Expansions
+pub mod Checks
 pub mod Commands

@@ -1,17 +1,19 @@
 //! The commands, as what makes a report of its files.
-ghost use Rattle.std.specs.Prelude.{◌≡◌, option_map};
+ghost use Rattle.std.specs.Prelude.{◌≡◌, option_map, IfOk, map};
 ghost use Rattle.endings.specs.Meanings.{shelves};
 ghost use Rattle.endings.specs.Endings.{Made};
-ghost use Rattle.grammar_commands.specs.Commands.{types_meaning, expand_meaning, IsToldAs};
+ghost use Rattle.grammar_load.specs.Conditions.{IsLoaded};
+ghost use Rattle.grammar_load.specs.Views.{grammar_of};
+ghost use Rattle.grammar_commands.specs.Books.{IsSomeBook};
+ghost use Rattle.grammar_commands.specs.Commands.{types_meaning, check_meaning, expand_meaning};
 
+use crate::counting::check_lines;
 use crate::expansion::report_on;
-use crate::loading::{grammar_book, grammar_types};
 use crate::types::type_lines;
+use command_grammars::load_grammar;
 use endings::commands::Whole;
 use endings::pieces::Report;
 use endings::{Fault, Stop};
-use fault_texts::found_line;
-use grammar_model::LoadFault;
 use lkb_io::Shelf;
 use std::alloc::Global;
 use std::sync::Wait;
@@ -25,25 +27,19 @@ pub struct Types<'a> {
     pub settings: Option<&'a str>,
 }
 
+/// `check`: the counts of the grammar of this name, under the settings of the file of that name.
+#[derive(Clone, Copy, Debug)]
+pub struct Check<'a> {
+    pub grammar: &'a str,
+    pub settings: Option<&'a str>,
+}
+
 /// `expand`: the structure of the type or the instance of the second name, in the grammar of the first.
 #[derive(Clone, Copy, Debug)]
 pub struct Expand<'a> {
     pub grammar: &'a str,
     pub entry: &'a str,
     pub settings: Option<&'a str>,
-}
-
-// What a fault of the files is to the run.
-fn fault_of(alloc: Global, fault: &LoadFault) -> Fault
-    ensures { IsToldAs fault.now result }
-{
-    match fault {
-        LoadFault::NoMemory => Fault::Stopped(Stop::NoMemory),
-        LoadFault::Found { file, at, why } => match found_line(alloc, file.as_str(), *at, why) {
-            Ok(text) => Fault::Files(text),
-            Err(_) => Fault::Stopped(Stop::NoMemory),
-        },
-    }
 }
 
 // The report of `types`.
@@ -55,15 +51,32 @@ fn types_report<S: Shelf>(
 ) -> Result<Report, Fault>
     ensures { Made (types_meaning name.now (option_map (λ s. s.now) settings.entry)) (shelves S.files S.faults S.asked shelf.old shelf.new) result }
 {
-    match grammar_types(alloc, shelf, name, settings) {
-        Err(fault) => Err(fault_of(alloc, &fault)),
-        Ok(table) => match type_lines(alloc, &table) {
-            Err(_) => Err(Fault::Stopped(Stop::NoMemory)),
-            Ok(lines) => Ok(Report {
-                lines,
-                refused: false,
-            }),
-        },
+    let grammar = load_grammar(alloc, shelf, name, settings)?;
+    match type_lines(alloc, grammar.book.system.types()) {
+        Err(_) => Err(Fault::Stopped(Stop::NoMemory)),
+        Ok(lines) => Ok(Report {
+            lines,
+            refused: false,
+        }),
+    }
+}
+
+// The report of `check`.
+fn check_report<S: Shelf>(
+    alloc: Global,
+    shelf: &mut S,
+    name: &str,
+    settings: Option<&str>,
+) -> Result<Report, Fault>
+    ensures { Made (check_meaning name.now (option_map (λ s. s.now) settings.entry)) (shelves S.files S.faults S.asked shelf.old shelf.new) result }
+{
+    let grammar = load_grammar(alloc, shelf, name, settings)?;
+    match check_lines(alloc, &grammar.book) {
+        Err(_) => Err(Fault::Stopped(Stop::NoMemory)),
+        Ok(lines) => Ok(Report {
+            lines,
+            refused: false,
+        }),
     }
 }
 
@@ -77,12 +90,10 @@ fn expand_report<S: Shelf>(
 ) -> Result<Report, Fault>
     ensures { Made (expand_meaning name.now entry.now (option_map (λ s. s.now) settings.entry)) (shelves S.files S.faults S.asked shelf.old shelf.new) result }
 {
-    match grammar_book(alloc, shelf, name, settings) {
-        Err(fault) => Err(fault_of(alloc, &fault)),
-        Ok(expanded) => match report_on(alloc, &expanded, entry) {
-            Err(_) => Err(Fault::Stopped(Stop::NoMemory)),
-            Ok(report) => Ok(report),
-        },
+    let grammar = load_grammar(alloc, shelf, name, settings)?;
+    match report_on(alloc, &grammar, entry) {
+        Err(_) => Err(Fault::Stopped(Stop::NoMemory)),
+        Ok(report) => Ok(report),
     }
 }
 
@@ -100,6 +111,23 @@ impl Whole for Types<'_> {
         _gate: &dyn Gate,
     ) -> Result<Report, Fault> {
         types_report(alloc, shelf, self.grammar, self.settings)
+    }
+}
+
+impl Whole for Check<'_> {
+    ghost use Rattle.std.specs.Prelude.{option_map};
+    ghost use Rattle.grammar_commands.specs.Commands.{check_meaning};
+
+    ghost meaning = { λ t. check_meaning t.grammar.now (option_map (λ s. s.now) t.settings) };
+
+    fn report<S: Shelf, Rt: Threads + Wait + Sync>(
+        &self,
+        _rt: &Rt,
+        alloc: Global,
+        shelf: &mut S,
+        _gate: &dyn Gate,
+    ) -> Result<Report, Fault> {
+        check_report(alloc, shelf, self.grammar, self.settings)
     }
 }
 

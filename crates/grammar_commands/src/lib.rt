@@ -1,4 +1,4 @@
-//! The commands that answer from a grammar's files alone: `types` and `expand`.
+//! The commands that answer from a grammar's files alone: `types`, `expand` and `check`.
 #![tactic(auto)]
 
 ghost use Rattle.std.specs.Prelude.{◌≡◌, ◌↔◌};
@@ -6,12 +6,12 @@ ghost use Rattle.std.specs.Prelude.{◌≡◌, ◌↔◌};
 use std::alloc::{AllocError, AllocFailed};
 
 pub mod commands;
+pub mod counting;
 pub mod expansion;
 pub mod laws;
-pub mod loading;
 pub mod types;
 
-pub use commands::{Expand, Types};
+pub use commands::{Check, Expand, Types};
 
 /// Memory was wanting.
 #[derive(Clone, Copy, Debug, PartialEq, Eq)]

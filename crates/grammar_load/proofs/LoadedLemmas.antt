@@ -6,6 +6,13 @@ use Rattle.std.proofs.lemmas.List.Sorted.{All-permutation}
 use Rattle.std.proofs.lemmas.Slice.Zip.{AllZip-long}
 use Rattle.tdl_reader.specs.declared.Status.TheVariants.{LexRule}
 use Rattle.type_hierarchy.specs.Decls.{Name, texts}
+use Rattle.fs_model.specs.Claims.{Claim, System}
+use Rattle.fs_model.specs.Closure.{Closure}
+use Rattle.fs_model.specs.Sources.{Reader, Told, Tells, tells_exists, tells_same, tells_below, IsGraphOf}
+use Rattle.fs_model.proofs.ClosureLemmas.{consistency_falls}
+use Rattle.fs_graph.specs.GraphMap.{reader_of}
+use Rattle.fs_unify.specs.Rules.{system_of}
+use Rattle.fs_unify.specs.Given.{facts_source}
 use Rattle.placed_statements.specs.Placings.{PlacedTree}
 use Rattle.placed_statements.specs.Statements.{is_status, defines_instance, instances_in, name_of}
 use Rattle.constraint_expand.specs.declared.books.Book.{Book}
@@ -23,8 +30,16 @@ use Rattle.grammar_load.specs.Conditions.{IsClosedIn, AreNumbered, IsLoaded}
 use Rattle.grammar_load.proofs.ListLemmas.{all_each, each_all, each_beside, filter_both, count_beside}
 use Rattle.grammar_load.proofs.NumberLemmas.{numbers_are}
 
+-- what a structure says follows from what it is the structure of
+told_within : (s : System) (given : Claim → Type 0) (r : Reader) → IsGraphOf s given r → (c : Claim) → Tells r c → Closure s given c
+told_within s given r h c (tells_exists p n e) = (h.paths p).1 (n, e)
+told_within s given r h c (tells_same p q n e f) = (h.equalities p q).1 (n, e, f)
+told_within s given r h c (tells_below p n e) = h.types_there p n e
+
 closed_each : (s : Settled) (ps : List PlacedTree) (b : Book) (feats : List Name) → ((p : PlacedTree) (i : InstanceMap) → IsInstanceOf b.system s feats p i → IsClosedIn b.system i.structure)
-closed_each s ps b feats p i h = record { claims = instance_claims (words_of b.system.types s.lists feats) p; structure = h.structure; answer = h.answer }
+closed_each s ps b feats p i h =
+    let given = Told (facts_source (instance_claims (words_of b.system.types s.lists feats) p)) in
+    record { consistent = consistency_falls (system_of b.system) (Tells (reader_of i.structure)) given (told_within (system_of b.system) given (reader_of i.structure) h.structure.1) h.structure.0; answer = h.answer }
 
 entries_numbered : (b : Book) (orth : List _) (given lexicon : List EntryTree) → AreEntriesOf b orth (instances_of b) given → IsLexiconOf given lexicon → AreNumbered (length (entries_in (instances_of b))) lexicon
 entries_numbered b orth given lexicon h l =

@@ -1,12 +1,12 @@
 -- What holds of every grammar that is loaded, and what calls ask of a grammar.
-use Rattle.std.specs.Prelude.{ℕ, ◌≡◌, ◌<◌, List, map, filter, length, Some}
+use Rattle.std.specs.Prelude.{ℕ, ◌≡◌, ◌<◌, List, map, filter, length}
 use Rattle.std.specs.List.{range_with_len}
 use Rattle.tdl_reader.specs.declared.Status.TheVariants.{LexRule}
-use Rattle.fs_model.specs.Claims.{Claim, IsBare}
-use Rattle.fs_model.specs.Sources.{IsUnified}
+use Rattle.fs_model.specs.Claims.{IsBare}
+use Rattle.fs_model.specs.Closure.{IsConsistent}
+use Rattle.fs_model.specs.Sources.{Tells}
 use Rattle.fs_graph.specs.GraphMap.{GraphMap, reader_of}
 use Rattle.fs_unify.specs.Rules.{Grammar, IsGrammar, system_of}
-use Rattle.fs_unify.specs.Given.{facts_source}
 use Rattle.fs_unify.specs.Placing.{IsAnswerIn}
 use Rattle.placed_statements.specs.Statements.{is_status}
 use Rattle.constraint_expand.specs.Books.{InstanceMap}
@@ -16,10 +16,9 @@ use Rattle.spelling_rules.specs.Trees.{AreBound}
 use Rattle.book_shapes.specs.Shapes.{instances_of, entries_in, HasItsDaughters}
 use Rattle.grammar_load.specs.Loaded.{GrammarTree}
 
--- a structure of a closure under a type system: what it says is consistent, and closing it adds nothing
+-- a structure under a type system: what it says is consistent, and closing it adds nothing
 pub record IsClosedIn (g : Grammar) (graph : GraphMap) : Type 0 where
-  pub claims : List Claim
-  pub structure : IsUnified (system_of g) (facts_source claims) (Some (reader_of graph))
+  pub consistent : IsConsistent (system_of g) (Tells (reader_of graph))
   pub answer : IsAnswerIn g graph
 
 -- the lexical rules in order of place

@@ -1,10 +1,10 @@
 -- What the program does. A command is one case of `meaning_of`, and one of `is_built`.
 use Rattle.std.specs.Prelude.{◌≡◌, ◌++◌, ◌∷◌, [], ◌==◌, ◌&&◌, ℕ, List, Bool, true, false, not, is_some, codes}
-use Rattle.command_line.specs.Words.{Form, help, version, run, parse, types, expand, Options, IsForm}
+use Rattle.command_line.specs.Words.{Form, help, version, run, parse, types, expand, check, Options, IsForm}
 use Rattle.endings.specs.Meanings.{Meaning}
 use Rattle.endings.specs.Endings.{usage_line}
 use Rattle.endings.specs.PlainTexts.{plain_meaning}
-use Rattle.grammar_commands.specs.Commands.{types_meaning, expand_meaning}
+use Rattle.grammar_commands.specs.Commands.{types_meaning, expand_meaning, check_meaning}
 use Rattle.line_commands.specs.Parsing.{parse_meaning}
 
 abbrev pub version_line : List ℕ
@@ -21,6 +21,7 @@ meaning_of version = plain_meaning version_line
 meaning_of (run (parse grammar) options) = parse_meaning grammar
 meaning_of (run (types grammar) options) = types_meaning grammar options.settings
 meaning_of (run (expand grammar entry) options) = expand_meaning grammar entry options.settings
+meaning_of (run (check grammar) options) = check_meaning grammar options.settings
 meaning_of (run task options) = not_built
 
 -- the options are their defaults, but for the number of workers, which changes no report
@@ -34,6 +35,7 @@ is_built version = true
 is_built (run (parse grammar) options) = are_defaults options
 is_built (run (types grammar) options) = true
 is_built (run (expand grammar entry) options) = true
+is_built (run (check grammar) options) = true
 is_built (run task options) = false
 
 -- The words are of this form, and the program does what it asks for. Every other command is outside the form until it is there.

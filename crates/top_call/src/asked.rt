@@ -17,7 +17,7 @@ use command_line::{Command, Options, Task, WordsFault, command_of};
 use endings::commands::{answer_lines, write_whole};
 use endings::plain::Plain;
 use endings::{Fault, Stop, usage_text};
-use grammar_commands::{Expand, Types};
+use grammar_commands::{Check, Expand, Types};
 use line_commands::Parse;
 use lkb_io::{Shelf, Sink, Source};
 use std::alloc::Global;
@@ -105,6 +105,10 @@ fn do_task<S: Shelf, I: Source, O: Sink, Rt: Threads + Wait + Sync>(
             };
             write_whole(rt, alloc, &command, shelf, input, out, gate)
         }
+        Task::Check(grammar) => {
+            let command = Check { grammar, settings };
+            write_whole(rt, alloc, &command, shelf, input, out, gate)
+        }
         // No words ask for these: they are outside the form until they are built.
         _ => Err(Fault::Stopped(Stop::NoMemory)),
     }
@@ -131,7 +135,9 @@ fn is_built(command: &Command) -> bool
     match command {
         Command::Help | Command::Version => true,
         Command::Run(Task::Parse(_), options) => are_defaults(options),
-        Command::Run(Task::Types(_), _) | Command::Run(Task::Expand(_, _), _) => true,
+        Command::Run(Task::Types(_), _)
+        | Command::Run(Task::Expand(_, _), _)
+        | Command::Run(Task::Check(_), _) => true,
         Command::Run(_, _) => false,
     }
 }

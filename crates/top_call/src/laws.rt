@@ -3,7 +3,7 @@ ghost use Rattle.command_line.specs.Words.{Form};
 ghost use Rattle.endings.specs.Meanings.{Lawful};
 ghost use Rattle.top_call.specs.Commands.{meaning_of};
 
-use grammar_commands::laws::{expand_lawful, types_lawful};
+use grammar_commands::laws::{check_lawful, expand_lawful, types_lawful};
 use line_commands::laws::parse_lawful;
 
 /// What holds of every command. It calls the law of each.
@@ -13,4 +13,5 @@ pub fn built_lawful()
     parse_lawful();
     types_lawful();
     expand_lawful();
+    check_lawful();
 }

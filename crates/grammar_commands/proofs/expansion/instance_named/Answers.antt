@@ -1,29 +1,27 @@
-use Rattle.std.proofs.Common.{◌≡◌, ◌∙◌, suc, sym, ap, arith, drop, map, add-one}
+use Rattle.std.proofs.Common.{◌≡◌, ◌∙◌, ◌+◌, ap, sym, drop, add-one}
 use Rattle.std.specs.List.{position_from}
-use Rattle.constraint_expand.specs.Placings.{placed_of}
-use Rattle.constraint_expand.specs.Statements.{defines_instance, instances_in}
 use Rattle.grammar_commands.specs.Expansions.{is_called}
-use Rattle.grammar_commands.proofs.InstanceLemmas.{found-on, found-here, found-nowhere, place-bound}
+use Rattle.grammar_commands.proofs.InstanceLemmas.{all_of, called, found-here, found-on, found-nowhere}
 use Rattle.grammar_commands.proofs.expansion.instance_named.Goals as goal
 
-pub returns-then-is_found : goal.returns-then-is_found
-returns-then-is_found c =
-    let here = found-here placed_of (is_called c.args.name.now c.args.status) c.args.statements.now c.loop-placed.placed-index c.loop-placed.place c.placed-item.result c.loop-placed-test.true (sym c.placed-item.is)
-    (sym c.is_found.ensures ∙ c.if-is_found.true) in
-    sym (c.loop-placed.invariant.found ∙ here)
-
-pub loop-placed-preserved : goal.loop-placed-preserved
-loop-placed-preserved c =
-    let i = c.loop-placed.placed-index in
-    let n = c.place_after-place.result in
+pub returns-then-is_called : goal.returns-then-is_called
+returns-then-is_called c =
     let f = is_called c.args.name.now c.args.status in
-    let all = map placed_of c.args.statements.now in
-    let on = found-on placed_of f c.args.statements.now i c.loop-placed.place c.placed-item.result c.loop-placed-test.true (sym c.placed-item.is) (sym c.is_found.ensures ∙ c.if-is_found.false) in
-    record {
-      found = c.loop-placed.invariant.found ∙ on ∙ ap (λ m. position_from f m (instances_in (drop (suc i) all))) (sym c.place_after-place.ensures) ∙ ap (λ k. position_from f n (instances_in (drop k all))) (sym (add-one i));
-      few = place-bound (defines_instance (placed_of c.placed-item.result)) c.loop-placed.place i n c.loop-placed.invariant.few c.place_after-place.ensures;
-    }
+    let is = c.args.instances.now in
+    let ns = c.args.names.now in
+    let asked = ap (λ n. is_called c.args.name.now c.args.status (record { status = c.index-instances-place.result.status; name = n })) (sym c.deref.ensures) ∙ sym c.is_called.ensures ∙ c.if-is_called.true in
+    sym (c.loop-place.invariant ∙ found-here f is ns c.loop-place.place c.index-instances-place.result c.index-names-place.result c.requires c.loop-place-test.true (sym c.index-instances-place.is) (sym c.index-names-place.is) asked)
+
+pub loop-place-preserved : goal.loop-place-preserved
+loop-place-preserved c =
+    let f = is_called c.args.name.now c.args.status in
+    let is = c.args.instances.now in
+    let ns = c.args.names.now in
+    let asked = ap (λ n. is_called c.args.name.now c.args.status (record { status = c.index-instances-place.result.status; name = n })) (sym c.deref.ensures) ∙ sym c.is_called.ensures ∙ c.if-is_called.false in
+    c.loop-place.invariant ∙ found-on f is ns c.loop-place.place c.index-instances-place.result c.index-names-place.result c.requires c.loop-place-test.true (sym c.index-instances-place.is) (sym c.index-names-place.is) asked
+    ∙ ap (λ k. position_from f (c.loop-place.place + 1) (drop k (all_of is ns))) (sym (add-one c.loop-place.place))
 
 pub returns : goal.returns
 returns c =
-    sym (c.loop-placed.invariant.found ∙ found-nowhere placed_of (is_called c.args.name.now c.args.status) c.args.statements.now c.loop-placed.placed-index c.loop-placed.place c.loop-placed-test.false)
+    let f = is_called c.args.name.now c.args.status in
+    sym (c.loop-place.invariant ∙ found-nowhere f c.args.instances.now c.args.names.now c.loop-place.place c.loop-place-test.false)

@@ -1,8 +1,9 @@
-use Rattle.grammar_commands.proofs.OutcomeLemmas.{OneSettling}
-use Rattle.grammar_commands.proofs.CommandLaws.{expand-laws}
+use Rattle.grammar_commands.specs.Commands.{ExpandReport}
+use Rattle.grammar_commands.proofs.CommandLemmas.{lawful}
+use Rattle.grammar_commands.proofs.SameReports.{one-expansion}
 use Rattle.grammar_commands.proofs.laws.expand_lawful.Goals as goal
 
 pub returns : goal.returns
 returns c =
-    let settling : OneSettling = record { one_table = c.one_settling.ensures.tables; one_fault = c.one_settling.ensures.faults; not_both = c.one_settling.ensures.not_both } in
-    λ name entry settings. expand-laws c.one_walk.ensures settling c.walk_without_faults.ensures.fault c.walk_without_faults.ensures.shelf c.closure_laws.ensures.one c.path_laws.ensures name entry settings
+    let laws = c.grammar_laws.ensures in
+    λ name entry settings. lawful laws.one_grammar laws.one_fault laws.not_both laws.calm (ExpandReport entry) (λ g h same pieces others refused may p q. one-expansion c.path_laws.ensures g h same entry pieces others refused may p q) name settings
