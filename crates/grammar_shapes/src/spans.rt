@@ -1,0 +1,115 @@
+//! The shapes of a chart over spans.
+
+use crate::place::Place;
+use crate::shapes::GrammarShapes;
+use cover::{NoMemory, Shapes, Span, Tuple};
+use fs_unify::Scratch;
+use std::alloc::Global;
+use std::sync::Arc;
+
+impl<'a> Shapes for GrammarShapes<'a> {
+    ghost use Rattle.std.specs.Prelude.{ℕ, ◌≡◌, refl};
+    ghost use Rattle.fs_trim.specs.Cutting.{cut_of};
+    ghost use Rattle.rule_model.specs.Structures.{Structure};
+    ghost use Rattle.rule_model.specs.Mothers.{Agrees};
+    ghost use Rattle.rule_model.specs.Laws.{rules_full};
+    ghost use Rattle.rule_model.proofs.AllLaws.{rules_agree};
+    ghost use Rattle.grammar_shapes.specs.Spanned.{span_calculus};
+    ghost use Rattle.grammar_shapes.specs.SpanLaws.{rule_laws};
+    ghost use Rattle.grammar_shapes.specs.Systems.{rules_of, grammar_of, list_of, meaning_of, Belongs};
+
+    type Shape = Arc<Place>;
+
+    type Cover = Span;
+
+    type Work = Scratch;
+
+    ghost Meaning = { Structure };
+
+    ghost meaning = { λ s shape. meaning_of s shape };
+
+    ghost belongs = { λ s shape. Belongs s shape };
+
+    ghost calculus = { λ s. span_calculus (rules_of s) };
+
+    ghost bound_of = { λ _. tt };
+
+    ghost Full = { Structure };
+
+    ghost full = { λ s. rules_full (rules_of s) };
+
+    ghost agrees = { λ s. Agrees (rules_of s) };
+
+    fn rules(&self) -> u32 {
+        self.rules.count() as u32
+    }
+
+    fn arity(&self, rule: u32) -> u32 {
+        self.rules.get(rule).places.len() as u32
+    }
+
+    fn work(&self, alloc: Global) -> Result<Scratch, NoMemory> {
+        Ok(Scratch::new(alloc))
+    }
+
+    fn bound(&self) -> &() {
+        &self.unit
+    }
+
+    fn share(&self, _alloc: Global, shape: &Arc<Place>) -> Result<Arc<Place>, NoMemory> {
+        let copy = Arc::try_clone(shape)?;
+        Ok(copy)
+    }
+
+    fn may(&self, _work: &mut Scratch, rule: u32, parts: &Tuple<Arc<Place>, Span>) -> bool {
+        GrammarShapes::may(self, rule, parts)
+    }
+
+    fn fits(
+        &self,
+        alloc: Global,
+        work: &mut Scratch,
+        rule: u32,
+        parts: &Tuple<Arc<Place>, Span>,
+    ) -> Result<bool, NoMemory> {
+        GrammarShapes::fits(self, alloc, work, rule, parts)
+    }
+
+    fn apply(
+        &self,
+        alloc: Global,
+        work: &mut Scratch,
+        rule: u32,
+        parts: &Tuple<Arc<Place>, Span>,
+    ) -> Result<Option<Arc<Place>>, NoMemory> {
+        GrammarShapes::apply(self, alloc, work, rule, parts)
+    }
+
+    fn covers(
+        &self,
+        _alloc: Global,
+        _rule: u32,
+        parts: &Tuple<Arc<Place>, Span>,
+    ) -> Result<Option<Span>, NoMemory> {
+        Ok(Span::over(parts))
+    }
+
+    fn subsumes(
+        &self,
+        work: &mut Scratch,
+        general: &Arc<Place>,
+        special: &Arc<Place>,
+    ) -> Result<bool, NoMemory> {
+        GrammarShapes::subsumes(self, work, general, special)
+    }
+
+    ghost laws = { λ s. rule_laws (grammar_of s) (cut_of s.daughters) (cut_of s.restrictors) (list_of s) s.rules_in s.order };
+
+    ghost agreement = { λ s. rules_agree (rules_of s) };
+
+    ghost joins = { λ s c d. refl };
+
+    ghost sames = { λ s c d. refl };
+
+    ghost sizes = { λ s c. refl };
+}
