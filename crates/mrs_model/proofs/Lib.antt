@@ -1,0 +1,16 @@
+pub mod Slots
+pub mod Searching
+pub mod Rows
+pub mod Joining
+pub mod Going
+pub mod Rolling
+pub mod Ends
+pub mod Bags
+pub mod Rising
+pub mod Names
+pub mod Finishing
+pub mod Equal
+pub mod Found
+pub mod KeyLaws
+pub mod Listing
+pub mod Moving

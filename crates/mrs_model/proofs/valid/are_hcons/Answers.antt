@@ -1,0 +1,11 @@
+use Rattle.std.proofs.Common.{◌↔◌, IsTrue, rules}
+use Rattle.std.specs.List.{All}
+use Rattle.mrs_model.specs.Views.{hcon_of}
+use Rattle.mrs_model.specs.Valid.{IsConstraint}
+use Rattle.mrs_model.proofs.Rows.{all_rows, rows_all}
+use Rattle.mrs_model.proofs.valid.are_hcons.Goals as goal
+
+pub returns : goal.returns
+returns c =
+    let same : IsTrue c.all.result ↔ All (λ x. (IsConstraint c.args.vars) (hcon_of x)) c.args.hcons.now = search rules in
+    (λ t. all_rows hcon_of (IsConstraint c.args.vars) _ (same.0 t), λ h. same.1 (rows_all hcon_of (IsConstraint c.args.vars) _ h))

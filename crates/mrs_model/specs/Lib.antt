@@ -1,0 +1,6 @@
+pub mod Meanings
+pub mod Views
+pub mod Texts
+pub mod Valid
+pub mod Renaming
+pub mod Inner
