@@ -1,0 +1,4 @@
+pub mod KindLemmas
+pub mod PlaceLemmas
+pub mod SignLemmas
+pub mod LawLemmas

@@ -1,0 +1,4 @@
+pub mod Signed
+pub mod Trees
+pub mod Conditions
+pub mod Inner
