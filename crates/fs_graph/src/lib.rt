@@ -7,8 +7,6 @@ mod graph;
 mod laws;
 mod lines;
 mod order;
-#[cfg(test)]
-mod tests;
 mod visit;
 
 pub use builder::Builder;

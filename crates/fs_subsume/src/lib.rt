@@ -11,8 +11,6 @@ ghost use Rattle.fs_subsume.specs.Matching.{HasOrder};
 
 mod arcs;
 mod nodes;
-#[cfg(test)]
-mod tests;
 
 use crate::nodes::nodes_match;
 use fs_graph::Graph;

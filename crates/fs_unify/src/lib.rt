@@ -4,12 +4,8 @@
 pub mod draw;
 pub mod entering;
 pub mod parts;
-#[cfg(test)]
-mod sample;
 pub mod scratch;
 pub mod structure;
-#[cfg(test)]
-mod tests;
 pub mod unifier;
 
 pub use fs_closing::{NoMemory, TypeFacts, TypeSystem};
