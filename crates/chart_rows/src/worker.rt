@@ -72,32 +72,6 @@ pub fn advance_after<S: Shapes>(
     Ok(core.enter_tested(alloc, shapes, work, task, outcome, by, &tested))
 }
 
-/// Whether these tasks, worked out and entered in turn, are there and answer what is said; nothing may be said of an answer.
-pub fn answers<S: Shapes>(
-    core: &mut Core<S>,
-    alloc: Global,
-    shapes: &S,
-    work: &mut S::Work,
-    steps: &[(u64, Option<Entered>)],
-) -> Result<bool, NoMemory>
-    requires core { IsCore (grammar_of S.Shapes S.Cover.Cover.own shapes.now) core.old }
-    ensures core { IsCore (grammar_of S.Shapes S.Cover.Cover.own shapes.now) core.new }
-{
-    for step in steps {
-        let (task, gives) = *step;
-        if core.tasks() <= task {
-            return Ok(false);
-        }
-        let entered = advance(core, alloc, shapes, work, TaskId(task))?;
-        if let Some(expected) = gives {
-            if entered != expected {
-                return Ok(false);
-            }
-        }
-    }
-    Ok(true)
-}
-
 /// Works out and enters the tasks below a bound, in order, as they are made.
 pub fn saturate<S: Shapes>(
     core: &mut Core<S>,

@@ -15,8 +15,6 @@ pub mod counts;
 pub mod span;
 pub mod table;
 pub mod table_rule;
-#[cfg(test)]
-mod tests;
 
 pub use counts::{Counts, Numbers};
 pub use span::Span;

@@ -1,6 +1,0 @@
-use Rattle.chart_core.specs.Grammar.{grammar_of}
-use Rattle.chart_core.specs.Kept.{IsCore}
-use Rattle.chart_rows.proofs.worker.answers.Given as goal
-
-abbrev pub invariant-loop-step : goal.invariant-loop-step
-invariant-loop-step g l = IsCore (grammar_of g.S.Shapes g.S.Cover.Cover l.shapes) l.core
