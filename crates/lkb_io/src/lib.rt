@@ -14,8 +14,6 @@ pub mod lines;
 pub mod memory;
 pub mod pieces;
 pub mod shelves;
-#[cfg(test)]
-mod tests;
 pub mod whole;
 
 pub use edge::{FileShelf, StdSink, StdSource};
