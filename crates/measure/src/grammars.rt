@@ -1,7 +1,5 @@
 //! Grammars to measure with.
 
-ghost use Rattle.std.specs.Prelude.{◌<◌};
-
 use lkb_io::{MemShelf, ShelfFile};
 use std::alloc::{AllocError, Global};
 
@@ -33,20 +31,32 @@ n_sg := sign & [ SYNSEM #s & [ LOCAL.CONT.HOOK.INDEX.NUM sg ], ARGS < lexeme & [
 /// Each type whose number this divides has a feature of its own.
 const PER_FEATURE: u32 = 100;
 
-/// A shelf with the grammar `g`. So many further types stand in a tree below its lexeme, and its instances are so many
-/// entries of these types, and then a lexical rule.
-pub fn grammar(alloc: Global, types: u32, entries: u32) -> Result<MemShelf, AllocError>
-    requires { 0 < types }
-{
+/// How large a grammar is: its further types and its entries, how many words an entry has, and the type of its number, which
+/// unifies with the lexical rule where it is `num` or `sg`.
+#[derive(Clone, Copy, Debug)]
+pub struct Size<'a> {
+    pub types: u32,
+    pub entries: u32,
+    pub words: u32,
+    pub number: &'a str,
+}
+
+/// A shelf with the grammar `g`. Its further types stand in a tree below its lexeme, and its instances are its entries, which
+/// are of these types, and then a lexical rule.
+pub fn grammar(alloc: Global, size: Size<'_>) -> Result<MemShelf, AllocError> {
+    shelf(alloc, text(alloc, size)?.as_str())
+}
+
+fn text(alloc: Global, size: Size<'_>) -> Result<String, AllocError> {
     let mut text = String::from_str(alloc, LISTS)?;
     text.push_str(MEANINGS)?;
     text.push_str(SIGNS)?;
-    add_types(alloc, &mut text, types)?;
+    add_types(alloc, &mut text, size.types)?;
     text.push_str(":begin :instance :status lex-entry.\n")?;
-    add_entries(alloc, &mut text, types, entries)?;
+    add_entries(alloc, &mut text, size)?;
     text.push_str(":end :instance.\n")?;
     text.push_str(RULE)?;
-    shelf(alloc, text.as_str())
+    Ok(text)
 }
 
 // Adds the further types. Each has at most three right below it.
@@ -54,34 +64,38 @@ fn add_types(alloc: Global, text: &mut String, count: u32) -> Result<(), AllocEr
     text.push_str("type0 := lexeme & [ F0 num ].\n")?;
     for number in 1..count {
         let above = (number - 1) / 3;
-        let own = own_feature(alloc, number)?;
-        let definition = format!(in alloc;
-            "type{number} := type{above} & [ {own}SYNSEM.LOCAL.CONT [ HOOK.INDEX #x, RELS <! [ ARG0 #x ] !> ] ].\n"
-        )?;
-        text.push_str(definition.as_str())?;
+        let begin = format!(in alloc; "type{number} := type{above} & [ ")?;
+        text.push_str(begin.as_str())?;
+        if number % PER_FEATURE == 0 {
+            let own = format!(in alloc; "F{number} num, ")?;
+            text.push_str(own.as_str())?;
+        }
+        text.push_str("SYNSEM.LOCAL.CONT [ HOOK.INDEX #x, RELS <! [ ARG0 #x ] !> ] ].\n")?;
     }
     Ok(())
 }
 
-// What a type says of the feature of its own, if it has one.
-fn own_feature(alloc: Global, number: u32) -> Result<String, AllocError> {
-    if number % PER_FEATURE == 0 {
-        format!(in alloc; "F{number} num, ")
-    } else {
-        Ok(String::new(alloc))
+// Adds the entries, each with words and a predicate of its own. They take the types in turn.
+fn add_entries(alloc: Global, text: &mut String, size: Size<'_>) -> Result<(), AllocError> {
+    for number in 0..size.entries {
+        let above = number % size.types.max(1);
+        let begin = format!(in alloc; "entry{number} := type{above} & [ STEM < \"w{number}\"")?;
+        text.push_str(begin.as_str())?;
+        add_words(alloc, text, number, size.words)?;
+        let end = format!(in alloc;
+            " >, SYNSEM.LOCAL.CONT [ HOOK.INDEX.NUM {}, RELS <! [ PRED \"_w{number}_n\" ] !> ] ].\n",
+            size.number
+        )?;
+        text.push_str(end.as_str())?;
     }
+    Ok(())
 }
 
-// Adds the entries, each with a spelling and a predicate of its own. They take the types in turn.
-fn add_entries(alloc: Global, text: &mut String, types: u32, entries: u32) -> Result<(), AllocError>
-    requires { 0 < types }
-{
-    for number in 0..entries {
-        let above = number % types;
-        let definition = format!(in alloc;
-            "entry{number} := type{above} & [ STEM < \"w{number}\" >, SYNSEM.LOCAL.CONT.RELS <! [ PRED \"_w{number}_n\" ] !> ].\n"
-        )?;
-        text.push_str(definition.as_str())?;
+// Adds the words of an entry after the first.
+fn add_words(alloc: Global, text: &mut String, entry: u32, words: u32) -> Result<(), AllocError> {
+    for number in 1..words {
+        let word = format!(in alloc; ", \"w{entry}.{number}\"")?;
+        text.push_str(word.as_str())?;
     }
     Ok(())
 }

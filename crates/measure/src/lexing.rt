@@ -1,20 +1,17 @@
-//! Measures the reading of grammar texts: how many megabytes a second are cut into tokens, and read to statements.
+//! Measures the reading of grammar texts: how long it takes to cut one into tokens, and to read these to statements.
 
 ghost use Rattle.std.specs.Prelude.{◌<◌, ◌^◌, length};
 
+use crate::report::Report;
 use std::alloc::{AllocError, Global};
-use std::io;
 use std::rt::Clock;
-use std::time::Instant;
 
 /// Measures a text of 100 definitions, and where times are asked for one of 40,000, which has some seven megabytes.
-pub fn measure<R: Print + Clock>(rt: &R, alloc: Global, timed: bool) -> io::Result<()> {
-    let count = if timed { 40_000 } else { 100 };
-    let text = definitions(alloc, count)?;
-    if text.len() < 1_000_000_000 {
-        one(rt, alloc, timed, count, text.as_str())
-    } else {
-        Ok(())
+pub fn measure<R: Print + Clock>(report: &mut Report<R>, alloc: Global) {
+    let count = if report.timed() { 40_000 } else { 100 };
+    match definitions(alloc, count) {
+        Ok(text) if text.len() < 1_000_000_000 => cut(report, alloc, count, text.as_str()),
+        _ => report.tell("text", count, "no memory", 0),
     }
 }
 
@@ -34,43 +31,17 @@ fn definitions(alloc: Global, count: u32) -> Result<String, AllocError> {
     Ok(text)
 }
 
-// Measures one text.
-fn one<R: Print + Clock>(
-    rt: &R,
-    alloc: Global,
-    timed: bool,
-    count: u32,
-    text: &str,
-) -> io::Result<()>
+// Cuts a text into tokens and reads these.
+fn cut<R: Print + Clock>(report: &mut Report<R>, alloc: Global, count: u32, text: &str)
     requires { length text.now < 2 ^ 32 }
 {
-    let start = Instant::now(rt)?;
+    report.tell("text", count, "bytes", text.len() as u64);
     let Ok(tokens) = tdl_lexer::tokens(alloc, text.as_bytes()) else {
-        return println!(rt; "text {count} no tokens");
+        return report.tell("text", count, "no tokens", 0);
     };
-    let found = format!(in alloc; "text {count} tokens {}", tokens.len())?;
-    rate(rt, timed, start, text.len(), found.as_str())?;
-    let start = Instant::now(rt)?;
-    let Ok(statements) = tdl_reader::read(alloc, text, &tokens) else {
-        return println!(rt; "text {count} no statements");
-    };
-    let found = format!(in alloc; "text {count} statements {}", statements.len())?;
-    rate(rt, timed, start, text.len(), found.as_str())
-}
-
-// Prints a line of counts, and after it, where times are asked for, the megabytes a second since `start`.
-fn rate<R: Print + Clock>(
-    rt: &R,
-    timed: bool,
-    start: Instant,
-    bytes: usize,
-    counts: &str,
-) -> io::Result<()> {
-    if timed {
-        let micros = start.elapsed(rt)?.as_micros().max(1);
-        let rate = bytes as u128 / micros;
-        println!(rt; "{counts} bytes {bytes} MB/s {rate}")
-    } else {
-        println!(rt; "{counts}")
+    report.tell("text", count, "tokens", tokens.len() as u64);
+    match tdl_reader::read(alloc, text, &tokens) {
+        Ok(statements) => report.tell("text", count, "statements", statements.len() as u64),
+        Err(_) => report.tell("text", count, "no statements", 0),
     }
 }

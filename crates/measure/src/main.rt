@@ -1,6 +1,6 @@
 //! Measures the layers of the LKB. Without a word of the command line it prints counts alone, which never
-//! differ. With the word `times` it prints the time of each piece of work too, in milliseconds, and with the name
-//! of a subject the same of that subject alone.
+//! differ. With the word `times` it measures larger pieces of work too and prints the time of each, and with the name of a
+//! subject the same of that subject alone.
 #![tactic(auto)]
 
 mod charts;
@@ -12,28 +12,38 @@ mod structures;
 mod types;
 mod unifying;
 
-use std::{env, io};
+use report::Report;
+use std::env;
+use std::process::ExitCode;
 
-fn main(rt: HostRuntime) -> io::Result<()> {
-    let word = env::args(&rt)?.nth(1);
-    let timed = word.is_some();
-    let asked = word.unwrap_or(String::new(rt.alloc()));
-    if is_asked(asked.as_str(), "types") {
-        types::measure(&rt, rt.alloc(), timed)?;
+// The word of the command line: without one it is empty.
+fn asked(rt: &HostRuntime) -> String {
+    let empty = String::new(rt.alloc());
+    match env::args(rt) {
+        Ok(mut words) => words.nth(1).unwrap_or(empty),
+        Err(_) => empty,
     }
-    if is_asked(asked.as_str(), "lexing") {
-        lexing::measure(&rt, rt.alloc(), timed)?;
-    }
-    if is_asked(asked.as_str(), "charts") {
-        charts::measure(&rt, rt.alloc(), timed)?;
-    }
-    if is_asked(asked.as_str(), "structures") {
-        structures::measure(&rt, rt.alloc(), timed)?;
-    }
-    Ok(())
 }
 
 // Whether a subject is measured: without a word and with `times` all are.
 fn is_asked(word: &str, subject: &str) -> bool {
     word.is_empty() || word == "times" || word == subject
+}
+
+fn main(rt: HostRuntime) -> ExitCode {
+    let word = asked(&rt);
+    let mut report = Report::new(&rt, !word.is_empty());
+    if is_asked(word.as_str(), "types") {
+        types::measure(&mut report, rt.alloc());
+    }
+    if is_asked(word.as_str(), "lexing") {
+        lexing::measure(&mut report, rt.alloc());
+    }
+    if is_asked(word.as_str(), "charts") {
+        charts::measure(&mut report, rt.alloc());
+    }
+    if is_asked(word.as_str(), "structures") {
+        structures::measure(&mut report, rt.alloc());
+    }
+    ExitCode::from(u8::from(report.failed()))
 }

@@ -1,100 +1,158 @@
 //! Measures the structures of grammars: how long it takes to read one, to complete its types, to make the constraint of
 //! each type and the structure of each instance, and to unify a rule with each entry.
 
-ghost use Rattle.std.specs.Prelude.{◌<◌};
+ghost use Rattle.grammar_files.specs.WalkViews.{CanSettle};
 ghost use Rattle.grammar_model.specs.Typings.{AreTypesOf};
 ghost use Rattle.grammar_model.specs.WalkViews.{walked_of};
 
-use crate::grammars::grammar;
-use crate::report::line;
+use crate::grammars::{Size, grammar};
+use crate::report::Report;
 use crate::unifying::unify_each;
-use constraint_expand::Instance;
-use fs_graph::Graph;
+use constraint_expand::Book;
 use grammar_model::{Walked, expand_types, settle_types, walk};
+use lkb_io::MemShelf;
 use std::alloc::Global;
-use std::io;
 use std::rt::Clock;
-use std::time::Instant;
 use type_hierarchy::Types;
 
-/// Measures a grammar with 10 further types and 10 entries, and where times are asked for those with 1,000 and 10,000
-/// types and five times as many entries besides.
-pub fn measure<R: Print + Clock>(rt: &R, alloc: Global, timed: bool) -> io::Result<()> {
-    one(rt, alloc, timed, 10, 10)?;
-    if timed {
-        one(rt, alloc, timed, 1_000, 5_000)?;
-        one(rt, alloc, timed, 10_000, 50_000)?;
+/// Measures a grammar with 10 further types and 10 entries, one whose entries don't unify with the rule, and one whose entries
+/// have some 200 nodes each; and where times are asked for, larger ones too.
+pub fn measure<R: Print + Clock>(report: &mut Report<R>, alloc: Global) {
+    let small = Size {
+        types: 10,
+        entries: 10,
+        words: 1,
+        number: "num",
+    };
+    one(report, alloc, "grammar", small);
+    one(
+        report,
+        alloc,
+        "clashing",
+        Size {
+            number: "pl",
+            ..small
+        },
+    );
+    one(
+        report,
+        alloc,
+        "long",
+        Size {
+            words: 100,
+            ..small
+        },
+    );
+    if report.timed() {
+        larger(report, alloc, small);
     }
-    Ok(())
+}
+
+// Measures larger grammars.
+fn larger<R: Print + Clock>(report: &mut Report<R>, alloc: Global, small: Size<'_>) {
+    let middle = Size {
+        types: 1_000,
+        entries: 5_000,
+        ..small
+    };
+    let large = Size {
+        types: 10_000,
+        entries: 50_000,
+        ..small
+    };
+    one(report, alloc, "grammar", middle);
+    one(
+        report,
+        alloc,
+        "clashing",
+        Size {
+            number: "pl",
+            ..middle
+        },
+    );
+    one(
+        report,
+        alloc,
+        "long",
+        Size {
+            words: 100,
+            ..middle
+        },
+    );
+    one(report, alloc, "grammar", large);
 }
 
 // Measures one grammar.
-fn one<R: Print + Clock>(
-    rt: &R,
-    alloc: Global,
-    timed: bool,
-    count: u32,
-    entries: u32,
-) -> io::Result<()>
-    requires { 0 < count }
-{
-    let mut shelf = grammar(alloc, count, entries)?;
-    let start = Instant::now(rt)?;
-    let Ok(walked) = walk(alloc, &mut shelf, "g", None) else {
-        return println!(rt; "grammar {count} has a fault of reading");
-    };
-    let found = format!(in alloc; "grammar {count} statements {}", walked.statements.len())?;
-    line(rt, timed, start, found.as_str())?;
-    let start = Instant::now(rt)?;
-    let Ok(types) = settle_types(alloc, &walked) else {
-        return println!(rt; "grammar {count} has a fault of types");
-    };
-    let found = format!(in alloc; "grammar {count} types {}", types.counts().completed)?;
-    line(rt, timed, start, found.as_str())?;
-    expansion(rt, alloc, timed, count, &walked, types)
+fn one<R: Print + Clock>(report: &mut Report<R>, alloc: Global, name: &str, size: Size<'_>) {
+    match grammar(alloc, size) {
+        Ok(mut shelf) => loading(report, alloc, name, size.entries, &mut shelf),
+        Err(_) => report.tell(name, size.entries, "no memory", 0),
+    }
 }
 
-// Measures the expansion of a grammar's statements over its types, and then unifications of its structures.
-fn expansion<R: Print + Clock>(
-    rt: &R,
+// Reads a grammar.
+fn loading<R: Print + Clock>(
+    report: &mut Report<R>,
     alloc: Global,
-    timed: bool,
-    count: u32,
+    name: &str,
+    size: u32,
+    shelf: &mut MemShelf,
+) {
+    report.begin();
+    match walk(alloc, shelf, "g", None) {
+        Ok(walked) => settling(report, alloc, name, size, &walked),
+        Err(_) => report.tell(name, size, "fault of reading", 0),
+    }
+}
+
+// Completes its types.
+fn settling<R: Print + Clock>(
+    report: &mut Report<R>,
+    alloc: Global,
+    name: &str,
+    size: u32,
+    walked: &Walked,
+)
+    requires { CanSettle (walked_of walked.now) }
+{
+    report.tell(name, size, "statements", walked.statements.len() as u64);
+    match settle_types(alloc, walked) {
+        Ok(types) => expansion(report, alloc, name, size, walked, types),
+        Err(_) => report.tell(name, size, "fault of types", 0),
+    }
+}
+
+// Expands its statements over its types, and unifies its structures.
+fn expansion<R: Print + Clock>(
+    report: &mut Report<R>,
+    alloc: Global,
+    name: &str,
+    size: u32,
     walked: &Walked,
     types: Types,
-) -> io::Result<()>
+)
     requires { AreTypesOf (walked_of walked.now) types }
 {
-    let start = Instant::now(rt)?;
-    let Ok(book) = expand_types(alloc, walked, types) else {
-        return println!(rt; "grammar {count} has a fault of expansion");
-    };
-    let found = format!(in alloc;
-        "grammar {count} features {} constraints {} nodes {} instances {} nodes {}",
-        book.feats.len(),
-        book.constraints.len(),
-        nodes(&book.constraints),
-        book.instances.len(),
-        instance_nodes(&book.instances)
-    )?;
-    line(rt, timed, start, found.as_str())?;
-    unify_each(rt, alloc, timed, count, walked, &book)
-}
-
-// The count of the nodes of all constraints.
-fn nodes(graphs: &[Graph]) -> u64 {
-    let mut count: u64 = 0;
-    for graph in graphs {
-        count = count.saturating_add(u64::from(graph.nodes()));
+    report.tell(name, size, "types", u64::from(types.counts().completed));
+    match expand_types(alloc, walked, types) {
+        Ok(book) => {
+            told(report, name, size, &book);
+            unify_each(report, alloc, name, size, walked, &book);
+        }
+        Err(_) => report.tell(name, size, "fault of expansion", 0),
     }
-    count
 }
 
-// The count of the nodes of all instances.
-fn instance_nodes(instances: &[Instance]) -> u64 {
+// The count of the nodes of all instances and of all constraints.
+fn told<R: Print + Clock>(report: &mut Report<R>, name: &str, size: u32, book: &Book) {
     let mut count: u64 = 0;
-    for instance in instances {
+    for instance in &book.instances {
         count = count.saturating_add(u64::from(instance.structure.nodes()));
     }
-    count
+    report.tell(name, size, "nodes of instances", count);
+    count = 0;
+    for graph in &book.constraints {
+        count = count.saturating_add(u64::from(graph.nodes()));
+    }
+    report.tell(name, size, "nodes of types", count);
 }

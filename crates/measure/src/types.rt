@@ -5,12 +5,10 @@ ghost use Rattle.type_hierarchy.specs.Table.{count_of};
 ghost use Rattle.std.specs.Prelude.{◌≡◌, ◌<◌};
 
 use crate::hierarchies::{crossed, side_by_side, tree};
-use crate::report::line;
+use crate::report::Report;
 use glb_completion::{CompleteFault, complete};
-use std::alloc::Global;
-use std::io;
+use std::alloc::{AllocError, Global};
 use std::rt::Clock;
-use std::time::Instant;
 use type_hierarchy::{Decl, Hierarchy, Ty, Types};
 
 /// So many meets are taken of one hierarchy.
@@ -19,90 +17,65 @@ const MEETS: u32 = 1_000_000;
 /// Without times, the supertypes of at most so many types are listed.
 const FEW: u32 = 12_000;
 
-/// Measures trees of 10,000 and of 16,384 types, families of 4,096, 32,768 and 65,536 intersections, and the
-/// greatest family that there may be, with one that is greater by one.
-pub fn measure<R: Print + Clock>(rt: &R, alloc: Global, timed: bool) -> io::Result<()> {
-    one(rt, alloc, timed, "tree 10000", &tree(alloc, 10_000, 20)?)?;
-    one(rt, alloc, timed, "tree 16384", &tree(alloc, 16_384, 7)?)?;
-    one(rt, alloc, timed, "crossed 12", &crossed(alloc, 12)?)?;
-    one(rt, alloc, timed, "crossed 15", &crossed(alloc, 15)?)?;
-    one(rt, alloc, timed, "crossed 16", &crossed(alloc, 16)?)?;
-    one(rt, alloc, timed, "full", &side_by_side(alloc, 31)?)?;
-    one(rt, alloc, timed, "one more", &side_by_side(alloc, 32)?)
+/// Measures trees of 10,000 and of 16,384 types, families of 4,096 and 32,768 intersections, and the greatest family that there
+/// may be, with one that is greater by one.
+pub fn measure<R: Print + Clock>(report: &mut Report<R>, alloc: Global) {
+    one(report, alloc, "tree", 10_000, tree(alloc, 10_000, 20));
+    one(report, alloc, "tree", 16_384, tree(alloc, 16_384, 7));
+    one(report, alloc, "crossed", 12, crossed(alloc, 12));
+    one(report, alloc, "crossed", 15, crossed(alloc, 15));
+    one(report, alloc, "beside", 31, side_by_side(alloc, 31));
+    one(report, alloc, "beside", 32, side_by_side(alloc, 32));
 }
 
 // Measures one hierarchy.
 fn one<R: Print + Clock>(
-    rt: &R,
+    report: &mut Report<R>,
     alloc: Global,
-    timed: bool,
     name: &str,
-    decls: &[Decl],
-) -> io::Result<()> {
-    let start = Instant::now(rt)?;
-    let Ok(hierarchy) = Hierarchy::build(alloc, decls, "*top*", "string") else {
-        return line(rt, timed, start, &format!(in alloc; "{name} refused")?);
+    size: u32,
+    decls: Result<Vec<Decl>, AllocError>,
+) {
+    let Ok(decls) = decls else {
+        return report.tell(name, size, "no memory", 0);
     };
-    let written = hierarchy.count();
-    line(
-        rt,
-        timed,
-        start,
-        &format!(in alloc; "{name} written {written}")?,
-    )?;
-    let start = Instant::now(rt)?;
+    report.begin();
+    match Hierarchy::build(alloc, &decls, "*top*", "string") {
+        Ok(hierarchy) => completed(report, alloc, name, size, hierarchy),
+        Err(_) => report.tell(name, size, "refused", 0),
+    }
+}
+
+// Completes it.
+fn completed<R: Print + Clock>(
+    report: &mut Report<R>,
+    alloc: Global,
+    name: &str,
+    size: u32,
+    hierarchy: Hierarchy,
+) {
+    report.tell(name, size, "written", u64::from(hierarchy.count()));
     match complete(alloc, hierarchy, &[]) {
-        Ok(types) => {
-            let added = types.counts().completed.saturating_sub(written);
-            line(
-                rt,
-                timed,
-                start,
-                &format!(in alloc; "{name} added {added}")?,
-            )?;
-            questions(rt, alloc, timed, name, &types)
-        }
-        Err(CompleteFault::TooManyTypes) => {
-            line(
-                rt,
-                timed,
-                start,
-                &format!(in alloc; "{name} too many types")?,
-            )
-        }
-        Err(CompleteFault::NoMemory) => {
-            line(rt, timed, start, &format!(in alloc; "{name} no memory")?)
-        }
+        Ok(types) => questions(report, alloc, name, size, &types),
+        Err(CompleteFault::TooManyTypes) => report.tell(name, size, "too many", 0),
+        Err(CompleteFault::NoMemory) => report.tell(name, size, "no memory", 0),
     }
 }
 
 // Measures what is asked of completed types.
 fn questions<R: Print + Clock>(
-    rt: &R,
+    report: &mut Report<R>,
     alloc: Global,
-    timed: bool,
     name: &str,
+    size: u32,
     types: &Types,
-) -> io::Result<()> {
-    let start = Instant::now(rt)?;
-    let met = meets(types);
-    line(
-        rt,
-        timed,
-        start,
-        &format!(in alloc; "{name} meets {MEETS} met {met}")?,
-    )?;
-    if !timed && types.counts().completed > FEW {
-        return Ok(());
+) {
+    let counts = types.counts();
+    report.tell(name, size, "completed", u64::from(counts.completed));
+    report.tell(name, size, "met", u64::from(meets(types)));
+    if report.timed() || counts.completed <= FEW {
+        report.tell(name, size, "supertypes", all_supertypes(alloc, types));
     }
-    let start = Instant::now(rt)?;
-    let supertypes = all_supertypes(alloc, types);
-    line(
-        rt,
-        timed,
-        start,
-        &format!(in alloc; "{name} supertypes {supertypes}")?,
-    )
 }
 
 // Takes the meets of pairs that lie all over the types, and counts those that there are.
@@ -123,11 +96,11 @@ fn meets(types: &Types) -> u32 {
 }
 
 // How many immediate supertypes all types have together, as far as memory suffices.
-fn all_supertypes(alloc: Global, types: &Types) -> usize {
-    let mut count = 0usize;
+fn all_supertypes(alloc: Global, types: &Types) -> u64 {
+    let mut count = 0u64;
     for t in 0..types.counts().all {
         if let Ok(above) = types.supertypes(alloc, Ty(t)) {
-            count = count.saturating_add(above.len());
+            count = count.saturating_add(above.len() as u64);
         }
     }
     count

@@ -8,15 +8,14 @@ ghost use Rattle.fs_unify.specs.Rules.{system_of};
 ghost use Rattle.grammar_model.specs.Expanding.{IsBook};
 ghost use Rattle.grammar_model.specs.WalkViews.{walked_of};
 
+use crate::report::Report;
 use constraint_expand::{Book, Instance};
 use fs_graph::Graph;
 use fs_paths::Feat;
 use fs_unify::{NoMemory, Parts, Scratch, TypeSystem, unify};
 use grammar_model::Walked;
 use std::alloc::Global;
-use std::io;
 use std::rt::Clock;
-use std::time::Instant;
 use tdl_reader::Status;
 
 /// What came of unifications.
@@ -30,58 +29,40 @@ struct Tally {
     nodes: u64,
 }
 
-/// Unifies the last instance of a book with each of its entries, each as the first daughter, and prints what came of it. Where
-/// times are asked for, it prints the nanoseconds of one unification too.
+/// Unifies the last instance of a book with each of its entries, each as the first daughter, and tells what came of it.
 pub fn unify_each<R: Print + Clock>(
-    rt: &R,
+    report: &mut Report<R>,
     alloc: Global,
-    timed: bool,
-    count: u32,
+    name: &str,
+    size: u32,
     walked: &Walked,
     book: &Book,
-) -> io::Result<()>
+)
     requires { IsBook (walked_of walked.now) book.now }
 {
     let Some(args) = feature(&book.feats, "args") else {
-        return println!(rt; "grammar {count} has no daughters");
+        return report.tell(name, size, "no daughters", 0);
     };
     let Some(first) = feature(&book.feats, "first") else {
-        return println!(rt; "grammar {count} has no lists");
+        return report.tell(name, size, "no lists", 0);
     };
     let number = book.instances.len();
     if number == 0 {
-        return println!(rt; "grammar {count} has no rule");
+        return report.tell(name, size, "no rule", 0);
     }
     let rule = &book.instances[number - 1].structure;
-    let start = Instant::now(rt)?;
-    let Ok(tally) = unify_all(alloc, &book.system, &book.instances, rule, [args, first]) else {
-        return println!(rt; "grammar {count} no memory");
-    };
-    tell(rt, timed, start, count, tally)
+    report.begin();
+    match unify_all(alloc, &book.system, &book.instances, rule, [args, first]) {
+        Ok(tally) => tell(report, name, size, tally),
+        Err(_) => report.tell(name, size, "no memory", 0),
+    }
 }
 
 // Prints what came of unifications.
-fn tell<R: Print + Clock>(
-    rt: &R,
-    timed: bool,
-    start: Instant,
-    count: u32,
-    tally: Tally,
-) -> io::Result<()> {
-    let nanos = start.elapsed(rt)?.as_nanos();
-    let Tally {
-        all,
-        unified,
-        nodes,
-    } = tally;
-    if timed {
-        let each = nanos / u128::from(all.max(1));
-        println!(rt;
-            "grammar {count} unifications {all} unified {unified} nodes {nodes} ns each {each}"
-        )
-    } else {
-        println!(rt; "grammar {count} unifications {all} unified {unified} nodes {nodes}")
-    }
+fn tell<R: Print + Clock>(report: &mut Report<R>, name: &str, size: u32, tally: Tally) {
+    report.tell(name, size, "unifications", u64::from(tally.all));
+    report.tell(name, size, "unified", u64::from(tally.unified));
+    report.tell(name, size, "nodes of unifiers", tally.nodes);
 }
 
 // The number of the feature of this name.

@@ -1,4 +1,4 @@
-use Rattle.std.proofs.Common.{◌<◌, ◌≡◌, length, List, All, sym, subst}
+use Rattle.std.proofs.Common.{◌<◌, length, List, All, sym, subst}
 use Rattle.fs_paths.specs.declared.facts.Feat.{Feat}
 use Rattle.fs_paths.specs.Facts.{path_of}
 use Rattle.measure.proofs.UnifyLemmas.{empty_path, no_parts, more_placed}

@@ -1,4 +1,3 @@
-use Rattle.std.proofs.Common.{◌<◌}
 use Rattle.measure.proofs.UnifyLemmas.{instance_known}
 use Rattle.measure.proofs.unifying.unify_all.Goals as goal
 

@@ -1,4 +1,4 @@
-use Rattle.std.proofs.Common.{◌<◌, ◌-◌, ◌≡◌, List, All, length, sym, subst, ap, ◌∙◌, arith}
+use Rattle.std.proofs.Common.{◌-◌, List, All, sym, subst, arith}
 use Rattle.fs_unify.specs.Placing.{IsAnswerIn}
 use Rattle.constraint_expand.specs.declared.books.Instance.{Instance}
 use Rattle.grammar_model.specs.WalkViews.{walked_of}
