@@ -1,7 +1,7 @@
 -- Graphs that are drawn have no arcs at first.
 use Rattle.std.proofs.Common.{ℕ, zero, suc, ◌≡◌, None, List, [], ◌∷◌, ◌++◌, slice_index_or, refl, sym, subst}
 use Rattle.fs_graph.specs.declared.graph.GraphArc.{GraphArc}
-use Rattle.fs_graph.specs.GraphMap.{GraphMap, arcs_at, arc_to}
+use Rattle.fs_graph.specs.GraphMap.{GraphMap, arc_to}
 use Rattle.fs_graph.specs.Drawn.{with_node}
 use Rattle.structure_rows.specs.Free.{IsEmpty}
 

@@ -1,4 +1,4 @@
-use Rattle.std.proofs.Common.{◌<◌, arith}
+use Rattle.std.proofs.Common.{arith}
 use Rattle.structure_rows.proofs.AnswerLemmas.{answer_at}
 use Rattle.structure_rows.proofs.structures.unification.Goals as goal
 
