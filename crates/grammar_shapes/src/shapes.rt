@@ -32,6 +32,7 @@ pub struct GrammarShapes<'a> {
     restrictors: Cut,
     // whether what a mother loses an abstract structure lacks anyway
     one_cut: bool,
+    // what spans stay within, which is nothing
     pub(crate) unit: (),
     ghost bare: { IsBare (system_of rules.grammar) },
     ghost order: { IsPartialOrder (system_of rules.grammar) },

@@ -8,15 +8,17 @@ use std::alloc::Global;
 use std::sync::Arc;
 
 impl<'a> Shapes for GrammarShapes<'a> {
-    ghost use Rattle.std.specs.Prelude.{ℕ, ◌≡◌, refl};
+    ghost use Rattle.std.specs.Prelude.{ℕ, ◌≡◌, ◌↔◌, false, map, IfOk, IsOk, IsTrue, refl};
+    ghost use Rattle.cover.specs.Calculus.{NoneApplies};
+    ghost use Rattle.cover.specs.Tuples.{shapes_of, covers_of, IsFor};
     ghost use Rattle.fs_trim.specs.Cutting.{cut_of};
     ghost use Rattle.rule_model.specs.Structures.{Structure};
     ghost use Rattle.rule_model.specs.Mothers.{Agrees};
-    ghost use Rattle.rule_model.specs.Laws.{rules_full};
+    ghost use Rattle.rule_model.specs.Laws.{rules_full, rules_applies};
     ghost use Rattle.rule_model.proofs.AllLaws.{rules_agree};
     ghost use Rattle.grammar_shapes.specs.Spanned.{span_calculus};
     ghost use Rattle.grammar_shapes.specs.SpanLaws.{rule_laws};
-    ghost use Rattle.grammar_shapes.specs.Systems.{rules_of, grammar_of, list_of, meaning_of, Belongs};
+    ghost use Rattle.grammar_shapes.specs.Systems.{rules_of, grammar_of, list_of, meaning_of, Belongs, IsMet};
 
     type Shape = Arc<Place>;
 
@@ -61,7 +63,11 @@ impl<'a> Shapes for GrammarShapes<'a> {
         Ok(copy)
     }
 
-    fn may(&self, _work: &mut Scratch, rule: u32, parts: &Tuple<Arc<Place>, Span>) -> bool {
+    fn may(&self, _work: &mut Scratch, rule: u32, parts: &Tuple<Arc<Place>, Span>) -> bool
+        requires { IsFor (span_calculus (rules_of self.now)) (Belongs self.now) rule parts.now }
+        ensures none { result ≡ false → NoneApplies (span_calculus (rules_of self.now)) rule (map (meaning_of self.now) (shapes_of parts.now)) }
+        ensures exact { IsMet self.now rule parts.now result }
+    {
         GrammarShapes::may(self, rule, parts)
     }
 
@@ -71,7 +77,11 @@ impl<'a> Shapes for GrammarShapes<'a> {
         work: &mut Scratch,
         rule: u32,
         parts: &Tuple<Arc<Place>, Span>,
-    ) -> Result<bool, NoMemory> {
+    ) -> Result<bool, NoMemory>
+        requires { IsFor (span_calculus (rules_of self.now)) (Belongs self.now) rule parts.now }
+        ensures none { IfOk result (λ yes. yes ≡ false → NoneApplies (span_calculus (rules_of self.now)) rule (map (meaning_of self.now) (shapes_of parts.now))) }
+        ensures exact { IfOk result (λ yes. IsTrue yes ↔ rules_applies (rules_of self.now) rule (map (meaning_of self.now) (shapes_of parts.now))) }
+    {
         GrammarShapes::fits(self, alloc, work, rule, parts)
     }
 
@@ -90,7 +100,11 @@ impl<'a> Shapes for GrammarShapes<'a> {
         _alloc: Global,
         _rule: u32,
         parts: &Tuple<Arc<Place>, Span>,
-    ) -> Result<Option<Span>, NoMemory> {
+    ) -> Result<Option<Span>, NoMemory>
+        requires { IsFor (span_calculus (rules_of self.now)) (Belongs self.now) _rule parts.now }
+        ensures always { IsOk result }
+        ensures covers { IfOk result (λ o. o ≡ (span_calculus (rules_of self.now)).covers _rule (covers_of parts.now)) }
+    {
         Ok(Span::over(parts))
     }
 
