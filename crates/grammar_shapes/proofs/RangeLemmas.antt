@@ -2,15 +2,17 @@
 use Rattle.std.specs.Prelude.{ℕ, ◌≡◌, ◌<◌, ◌==◌, Bool, true, false, Option, Some, None, List, [], ◌∷◌, All, length}
 use Rattle.std.proofs.Common.{refl, sym, ◌∙◌, subst, zero, suc, arith, eqb-true}
 use Rattle.type_hierarchy.specs.Table.{count_of}
-use Rattle.fs_model.specs.Claims.{Path, Has, here, there}
+use Rattle.fs_model.specs.Claims.{Path, exists_at, Has, here, there}
 use Rattle.fs_model.specs.Closure.{IsConsistent, given_claim}
-use Rattle.fs_model.specs.Sources.{Tells, tells_exists}
+use Rattle.fs_model.specs.Sources.{Told, tells_exists}
 use Rattle.fs_model.specs.Table.{walk}
 use Rattle.fs_graph.specs.declared.graph.GraphArc.{GraphArc}
 use Rattle.fs_graph.specs.GraphMap.{GraphMap, IsGraph, table_of, arcs_at, arc_to, reader_of}
 use Rattle.fs_closing.specs.Rules.{Grammar, system_of}
 use Rattle.fs_unify.specs.Entering.{IsGraphIn}
 use Rattle.fs_trim.specs.Cutting.{IsShort}
+use Rattle.rule_model.specs.Views.{source_alone}
+use Rattle.rule_model.proofs.ViewLemmas.{alone_back}
 
 found : (arcs : List GraphArc) (f m : ℕ) → arc_to arcs f ≡ Some m → (a : GraphArc) × Has a arcs × (a.feat.0 ≡ f)
 found [] f m e = absurd (cc)
@@ -37,9 +39,9 @@ module _ (types feats : ℕ) (g : GraphMap) (is : IsGraph g) (in_range : IsGraph
           let rest = go m (is.numbered.table.arc_in k f m h q) (let y : walk (table_of g) k (f ∷ p) ≡ walk (table_of g) m p = rw (walk, q) refl in sym y ∙ e) in
           all_more feats f p (subst (λ x. x < feats) z.2 (in_range.feats_in k z.0 h z.1)) rest
 
-pub short_where : (g : Grammar) (graph : GraphMap) → IsGraph graph → IsGraphIn (count_of g.types) (length g.introducers) graph → IsConsistent (system_of g) (Tells (reader_of graph)) → IsShort g graph
+pub short_where : (g : Grammar) (graph : GraphMap) → IsGraph graph → IsGraphIn (count_of g.types) (length g.introducers) graph → IsConsistent (system_of g) (Told (source_alone (reader_of graph))) → IsShort g graph
 short_where g graph is in_range consistent = record {
   graph_in = in_range;
-  short = λ p n e. consistent.bounded p (given_claim _ (tells_exists p n e));
+  short = λ p n e. consistent.bounded p (given_claim _ (alone_back (reader_of graph) (exists_at p) (tells_exists p n e)));
   feats_in = λ p n e. features_in (count_of g.types) (length g.introducers) graph is in_range p 0 n is.numbered.filled e;
 }

@@ -54,7 +54,7 @@ impl<'a> GrammarShapes<'a> {
     ghost use Rattle.std.specs.Prelude.{◌≡◌, ◌<◌, ◌↔◌, ◌∷◌, [], ℕ, true, false, IfOk, IfSome, IsTrue, MatchOption, Some, All, length, option_map, slice_get};
     ghost use Rattle.fs_model.specs.Claims.{IsBare, Has};
     ghost use Rattle.fs_model.specs.Closure.{IsConsistent};
-    ghost use Rattle.fs_model.specs.Sources.{Tells};
+    ghost use Rattle.fs_model.specs.Sources.{Told};
     ghost use Rattle.fs_graph.specs.GraphMap.{reader_of};
     ghost use Rattle.fs_closing.specs.Rules.{system_of};
     ghost use Rattle.type_hierarchy.specs.Table.{count_of};
@@ -63,7 +63,7 @@ impl<'a> GrammarShapes<'a> {
     ghost use Rattle.fs_trim.specs.Cutting.{cut_of, IsShort};
     ghost use Rattle.rule_model.specs.Laws.{rules_over, rules_applies, rules_mother};
     ghost use Rattle.rule_model.specs.Mothers.{IsAbstract, Meant};
-    ghost use Rattle.rule_model.specs.Views.{view, IsTrimmed};
+    ghost use Rattle.rule_model.specs.Views.{view, source_alone, IsTrimmed};
     ghost use Rattle.grammar_shapes.specs.Sketches.{paths_of};
     ghost use Rattle.grammar_shapes.specs.Ruled.{IsRuleIn, AreClosed, paths_in, system_in};
     ghost use Rattle.grammar_shapes.specs.Shaped.{graph_of};
@@ -129,7 +129,7 @@ impl<'a> GrammarShapes<'a> {
         full: &Graph,
     ) -> Result<Arc<Place>, NoMemory>
         requires in_range { IsGraphIn (count_of (grammar_of self.now).types) (length (grammar_of self.now).introducers) full.now }
-        requires consistent { IsConsistent (system_of (grammar_of self.now)) (Tells (reader_of full.now)) }
+        requires consistent { IsConsistent (system_of (grammar_of self.now)) (Told (source_alone (reader_of full.now))) }
         ensures belongs { IfOk result (Belongs self.now) }
         ensures shape { IfOk result (λ s. IsAbstract (rules_of self.now) (Meant (rules_of self.now) (view (paths_in (grammar_of self.now)) (reader_of full.now))) (meaning_of self.now s)) }
     {

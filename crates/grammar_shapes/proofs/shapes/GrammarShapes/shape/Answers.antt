@@ -1,7 +1,7 @@
 use Rattle.std.proofs.Common.{sym, subst, []}
 use Rattle.std.specs.Prelude.{IfSome, Some, option_map}
 use Rattle.fs_model.specs.Claims.{IsBare, Has}
-use Rattle.fs_model.specs.Closure.{IsConsistent, given_claim}
+use Rattle.fs_model.specs.Closure.{IsConsistent}
 use Rattle.fs_model.specs.Sources.{Told}
 use Rattle.fs_graph.specs.GraphMap.{reader_of}
 use Rattle.fs_closing.specs.Rules.{system_of}
@@ -11,8 +11,6 @@ use Rattle.fs_trim.proofs.TrimLemmas.{alone_in}
 use Rattle.rule_model.specs.Mothers.{IsAbstract, Meant}
 use Rattle.rule_model.specs.Views.{view, IsTrimmed, source_alone}
 use Rattle.rule_model.proofs.AllLaws.{leaves_are_made}
-use Rattle.rule_model.proofs.Closures.{grows, falls}
-use Rattle.rule_model.proofs.ViewLemmas.{alone_to}
 use Rattle.grammar_shapes.specs.Ruled.{paths_in}
 use Rattle.grammar_shapes.specs.Systems.{rules_of}
 use Rattle.grammar_shapes.proofs.RangeLemmas.{short_where}
@@ -46,4 +44,4 @@ unreachable-requires c =
     let none = subst (λ o. IsTrimmed (system_of c.system-system.result.now) (source_of c.in-Ok.alone) [] cut (option_map reader_of o)) c.in-Ok-None.field-0-is c.in-Ok-None.ensures.answer in
     none (subst (λ g. IsConsistent (system_of g) (Told (source_of c.in-Ok.alone))) (sym c.system-system.ensures)
     (subst (λ ps. IsConsistent (system_of g) (Told (source_of ps))) (sym c.in-Ok.ensures)
-    (falls (system_of g) (λ _ a. grows (system_of g) (λ d t. given_claim d (alone_to (reader_of c.args.full.now) d t)) a) c.requires.consistent)))
+    c.requires.consistent))
