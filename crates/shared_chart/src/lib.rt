@@ -1,0 +1,16 @@
+//! A chart that many workers share: the core of a chart behind a turn lock, with one history of all calls.
+#![tactic(auto)]
+
+pub use chart::{Call, Chart};
+pub use seat::ChartSeat;
+pub use shared::SharedChart;
+pub use unready::Unready;
+
+mod calls;
+mod chart;
+mod ends;
+mod entering;
+mod seat;
+mod shared;
+mod stopping;
+mod unready;
