@@ -1,0 +1,4 @@
+pub mod Balance
+pub mod Seats
+pub mod Whole
+pub mod Making
