@@ -1,0 +1,5 @@
+pub mod Leafed
+pub mod Found
+pub mod Consistent
+pub mod Wholes
+pub mod Lined

@@ -1,0 +1,39 @@
+-- The full structures over a line's lexical trees, as its item has them.
+use Rattle.std.specs.Prelude.{ℕ, ◌≡◌, Option, Some, None, List, [], ◌∷◌, slice_get}
+use Rattle.std.proofs.Common.{refl, zero, suc}
+use Rattle.cover.specs.declared.span.Span.{Span}
+use Rattle.cover.specs.Calculus.{Along, along_none, along_more}
+use Rattle.rule_model.specs.Structures.{Structure}
+use Rattle.rule_model.specs.Laws.{rules_full}
+use Rattle.item_model.specs.Signs.{Signs, rule_system, placed_rules, place_at}
+use Rattle.item_model.specs.Lexical.{Words}
+use Rattle.item_model.specs.Trees.{IsRooted}
+use Rattle.item_model.specs.Items.{LeafTree, Limits}
+use Rattle.item_model.specs.Forests.{wholes, leaf_at, full_at}
+use Rattle.parse_items.specs.Lattices.{Lattice}
+use Rattle.parse_items.specs.Licensed.{parse_item}
+use Rattle.lexical_items.specs.Listed.{Lexeme}
+use Rattle.grammar_rules.specs.Wholes.{wholes_of, full_named, tree_named}
+use Rattle.grammar_rules.specs.Leafed.{leaf_of, leaf_trees, AreShapes}
+
+module _ (g : Signs) where
+  full_same : {xs : List Lexeme} {ms : List Structure} → AreShapes g xs ms → (n : ℕ) → full_at (slice_get (leaf_trees xs ms) n) ≡ full_named (slice_get xs n)
+  full_same along_none n = refl
+  full_same (along_more s more) zero = refl
+  full_same (along_more s more) (suc n) = full_same more n
+
+  tree_same : {xs : List Lexeme} {ms : List Structure} → AreShapes g xs ms → (n : ℕ) → leaf_at (slice_get (leaf_trees xs ms) n) ≡ tree_named (slice_get xs n)
+  tree_same along_none n = refl
+  tree_same (along_more s more) zero = refl
+  tree_same (along_more s more) (suc n) = tree_same more n
+
+  pub wholes_same : (words : Words) (lattice : Lattice) (most : ℕ) (limits : Limits) {xs : List Lexeme} {ms : List Structure} → AreShapes g xs ms → wholes g (parse_item g words lattice most) limits (leaf_trees xs ms) ≡ wholes_of g xs lattice.end
+  wholes_same words lattice most limits {xs} {ms} shaped =
+      λ i.
+      record {
+        leaf_full = λ n. full_same shaped n i;
+        leaf_tree = λ n. tree_same shaped n i;
+        full = rules_full (rule_system g);
+        place = λ rule. place_at (slice_get (placed_rules g) rule);
+        accepted = λ f c. (c.from ≡ 0) × (c.to ≡ lattice.end) × IsRooted g f;
+      }

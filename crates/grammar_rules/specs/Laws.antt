@@ -1,0 +1,62 @@
+-- What a line's lexical trees, and what is found over them, have to do with the answer to the line.
+use Rattle.std.specs.Prelude.{ℕ, ◌≡◌, ◌<◌, List, length, slice_get}
+use Rattle.fs_model.specs.Claims.{IsOrder}
+use Rattle.cover.specs.Calculus.{Calculus}
+use Rattle.cover.specs.Spans.{span_join, span_size, join_all, same_span, is_span}
+use Rattle.cover.specs.declared.span.Span.{Span}
+use Rattle.chart_core.specs.declared.Limits.{Limits}
+use Rattle.rule_model.specs.Structures.{Structure}
+use Rattle.rule_model.specs.Mothers.{Agrees, arity_at}
+use Rattle.rule_model.specs.Laws.{rules_calculus, rules_full}
+use Rattle.item_model.specs.Signs.{Signs, rule_system}
+use Rattle.item_model.specs.Lexical.{Words}
+use Rattle.item_model.specs.Items.{LeafTree, AreLeaves, leaves_from, Answer, LexicalDepth}
+use Rattle.item_model.specs.Forests.{wholes}
+use Rattle.parse_items.specs.Lattices.{Lattice}
+use Rattle.parse_items.specs.Licensed.{IsTooDeep, parse_item}
+use Rattle.parse_items.specs.Answers.{IsParseAnswer}
+use Rattle.packed_items.specs.Packed.{Fit, IsFound}
+use Rattle.packed_items.specs.Answers.{limits_in, answer_of}
+use Rattle.packed_items.specs.declared.Found.{Found}
+use Rattle.lexical_items.specs.Listed.{Lexeme, AreLexemes, Lexical, TooDeep, Trees, IsLexicalAnswer}
+use Rattle.grammar_rules.specs.Leafed.{leaf_trees, AreShapes}
+
+-- the phrase rules over spans, by number
+abbrev pub span_rules : Signs → Calculus Structure Span
+span_rules g = rules_calculus (rule_system g) (λ _ cs. join_all cs) same_span span_join span_size is_span
+
+-- a leaf of a line by its number, and a phrase rule by its number with the number of its daughters
+abbrev pub IsNamed : List (LeafTree Span) → ℕ → Type 0
+IsNamed ls n = n < length ls
+
+abbrev pub IsRuled : Signs → ℕ → ℕ → Type 0
+IsRuled g rule count = (rule < length (rule_system g).rules) × (count ≡ arity_at (rule_system g) (slice_get (rule_system g).rules rule))
+
+-- All lexical trees of a line, each with its shape, are its leaves.
+abbrev pub LexemesAreLeaves : Type 0
+LexemesAreLeaves = (g : Signs) (words : Words) (lattice : Lattice) (most : ℕ) (xs : List Lexeme) (shapes : List Structure) →
+    AreLexemes g words lattice most xs → AreShapes g xs shapes → AreLeaves g (parse_item g words lattice most) (leaf_trees xs shapes)
+
+-- The full structures of a line's trees fit its grammar and leaves.
+abbrev pub FullsFit : Type 0
+FullsFit = (g : Signs) (words : Words) (lattice : Lattice) (most : ℕ) (limits : Limits) (ls : List (LeafTree Span)) → IsOrder g.system → AreLeaves g (parse_item g words lattice most) ls →
+    Fit (span_rules g) (rules_full (rule_system g)) (Agrees (rule_system g)) (wholes g (parse_item g words lattice most) (limits_in limits) ls) (IsNamed ls) (IsRuled g) (leaves_from 0 ls)
+
+-- Where no lexical tree is too deep, what is found over the leaves is the answer to the line.
+abbrev pub FoundIsAnswer : Type 0
+FoundIsAnswer = (g : Signs) (words : Words) (lattice : Lattice) (most : ℕ) (limits : Limits) (ls : List (LeafTree Span)) → IsOrder g.system → (IsTooDeep g words lattice most → ⊥) → AreLeaves g (parse_item g words lattice most) ls → (found : Found) →
+    IsFound (span_rules g) (rules_full (rule_system g)) (Agrees (rule_system g)) (wholes g (parse_item g words lattice most) (limits_in limits) ls) limits (leaves_from 0 ls) found →
+    IsParseAnswer g words lattice most (limits_in limits) (answer_of found)
+
+-- So a line is answered by its lexical trees: one is too deep; or chart and unpacking find the answer over all of them, with the
+-- abstractions of their full structures.
+abbrev pub IsAnswerOver : Signs → Words → Lattice → Limits → List Structure → Found → Lexical → Answer → Type 0
+IsAnswerOver g words lattice limits shapes found TooDeep a = a ≡ LexicalDepth
+IsAnswerOver g words lattice limits shapes found (Trees xs) a =
+    AreShapes g xs shapes
+    × IsFound (span_rules g) (rules_full (rule_system g)) (Agrees (rule_system g)) (wholes g (parse_item g words lattice limits.lexical) (limits_in limits) (leaf_trees xs shapes)) limits (leaves_from 0 (leaf_trees xs shapes)) found
+    × (a ≡ answer_of found)
+
+abbrev pub LinesAreAnswered : Type 0
+LinesAreAnswered = (g : Signs) (words : Words) (lattice : Lattice) (limits : Limits) (lexical : Lexical) (shapes : List Structure) (found : Found) (a : Answer) → IsOrder g.system → IsLexicalAnswer g words lattice limits.lexical lexical →
+    IsAnswerOver g words lattice limits shapes found lexical a → IsParseAnswer g words lattice limits.lexical (limits_in limits) a

@@ -1,0 +1,25 @@
+-- Lexical trees with the abstractions of their full structures, as the leaves of a line.
+use Rattle.std.specs.Prelude.{ℕ, List, [], ◌∷◌}
+use Rattle.cover.specs.Calculus.{Along}
+use Rattle.cover.specs.declared.span.Span.{Span}
+use Rattle.rule_model.specs.Structures.{Structure}
+use Rattle.rule_model.specs.Mothers.{IsAbstract, Meant}
+use Rattle.item_model.specs.Signs.{Signs, rule_system}
+use Rattle.item_model.specs.Items.{LeafTree}
+use Rattle.lexical_items.specs.Listed.{Lexeme}
+
+-- a lexical tree covers what lies between its nodes
+abbrev pub leaf_of : Lexeme → Structure → LeafTree Span
+leaf_of x shape = record { tree = x.tree; cover = record { from = x.from; to = x.to }; full = x.full; shape = shape }
+
+abbrev pub leaf_trees : List Lexeme → List Structure → List (LeafTree Span)
+leaf_trees [] shapes = []
+leaf_trees (x ∷ xs) [] = []
+leaf_trees (x ∷ xs) (m ∷ ms) = leaf_of x m ∷ leaf_trees xs ms
+
+-- the shape of a lexical tree is the abstraction of its full structure
+abbrev pub IsShapeOf : Signs → Lexeme → Structure → Type 0
+IsShapeOf g x shape = IsAbstract (rule_system g) (Meant (rule_system g) x.full) shape
+
+abbrev pub AreShapes : Signs → List Lexeme → List Structure → Type 0
+AreShapes g xs shapes = Along (IsShapeOf g) xs shapes

@@ -1,0 +1,94 @@
+//! The lexical trees of a lattice: chains of lexical rules that have a full structure.
+//!
+//! Lexical rules with orthography: Copestake 2002.
+#![tactic(auto)]
+
+ghost use Rattle.std.specs.Prelude.{◌≡◌, ◌<◌, ◌^◌, ◌+◌, IfOk};
+ghost use Rattle.morph_analysis.specs.Lattices.{IsValid};
+ghost use Rattle.morph_analysis.specs.LatticeViews.{lattice_of};
+ghost use Rattle.lexical_items.specs.Said.{AreNumbered, words_said};
+ghost use Rattle.lexical_items.specs.Seen.{lattice_seen, ForbidsNone};
+ghost use Rattle.lexical_items.specs.Listed.{IsLexicalAnswer};
+ghost use Rattle.lexical_items.specs.Views.{lexical_seen};
+
+mod fulls;
+mod trees;
+
+use derivation::Tree;
+pub use fulls::LexicalFulls;
+use lexicon::Lexicon;
+use morph_analysis::{Feeds, Lattice, chains};
+use spelling_rules::Spelling;
+use std::alloc::{AllocError, AllocFailed, Global};
+use trees::trees_of;
+
+/// Memory ran out.
+#[derive(Debug, Drop, Clone, Copy, PartialEq, Eq)]
+pub struct NoMemory;
+
+impl From<AllocError> for NoMemory {
+    fn from(_error: AllocError) -> NoMemory {
+        NoMemory
+    }
+}
+
+impl<T: Drop> From<AllocFailed<T>> for NoMemory {
+    fn from(_error: AllocFailed<T>) -> NoMemory {
+        NoMemory
+    }
+}
+
+impl From<derivation::NoMemory> for NoMemory {
+    fn from(_error: derivation::NoMemory) -> NoMemory {
+        NoMemory
+    }
+}
+
+impl From<word_lists::NoMemory> for NoMemory {
+    fn from(_error: word_lists::NoMemory) -> NoMemory {
+        NoMemory
+    }
+}
+
+/// A lexical tree between two nodes of a lattice, with its full structure.
+#[derive(Drop)]
+pub struct LexTree<T> {
+    pub from: u32,
+    pub to: u32,
+    pub tree: Tree,
+    pub full: T,
+}
+
+/// What is found of the lexical trees of a lattice.
+#[derive(Drop)]
+pub enum LexTrees<T> {
+    /// one has exactly one rule more than the limit
+    TooDeep,
+    /// none has, and these are all with no more rules than the limit
+    Trees(Vec<LexTree<T>>),
+}
+
+/// The lexical trees of at most `most` rules that lie in a lattice, each once; or that one of exactly `most + 1` rules does.
+///
+/// The lexicon and the spelling are those of the grammar, with its entries and lexical rules by number. `feeds` forbids no
+/// lexical tree; it only spares work.
+pub fn lexical_trees<F: LexicalFulls>(
+    alloc: Global,
+    fulls: &F,
+    work: &mut F::Work,
+    lexicon: &Lexicon,
+    spelling: &Spelling,
+    feeds: &Feeds,
+    lattice: &Lattice,
+    most: u32,
+) -> Result<LexTrees<F::Full>, NoMemory>
+    requires numbered { AreNumbered (F.entries_of fulls.now) (F.rules_of fulls.now) lexicon.now spelling.now }
+    requires valid { IsValid (lattice_of lattice.now) }
+    requires feeds { ForbidsNone (F.signs fulls.now) (F.entries_of fulls.now) (F.rules_of fulls.now) feeds.now }
+    requires most { most + 1 < 2 ^ 32 }
+    ensures { IfOk result (λ trees. IsLexicalAnswer (F.signs fulls.now) (words_said (F.entries_of fulls.now) (F.rules_of fulls.now) lexicon.now spelling.now) (lattice_seen (lattice_of lattice.now)) most (lexical_seen (F.value fulls.now) trees)) }
+{
+    fulls.laws();
+    let chains = chains(alloc, lexicon, spelling, feeds, lattice, most + 1)?;
+    trees_of(alloc, fulls, work, &chains, most)
+}
