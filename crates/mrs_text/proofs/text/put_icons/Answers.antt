@@ -1,0 +1,15 @@
+use Rattle.std.proofs.Common.{◌∙◌, sym, [], ◌∷◌, ◌++◌, map, codes}
+use Rattle.std.specs.List.{flat_map}
+use Rattle.mrs_model.specs.Views.{variable_of, icon_of}
+use Rattle.mrs_text.specs.Written.{bytes, constraint_parts}
+use Rattle.mrs_text.proofs.Writing.{written_on, written_bytes, written_icons}
+use Rattle.mrs_text.proofs.text.put_icons.Goals as goal
+
+pub returns-clause-written : goal.returns-clause-written
+returns-clause-written c =
+    let vars = map variable_of c.args.vars.now in
+    let inner = flat_map constraint_parts (map icon_of c.args.icons.now) in
+    written_icons vars c.args.icons.now _ _ _ _ (sym c.is_empty.ensures ∙ c.if-is_empty.false)
+    (written_on vars (bytes (codes " ICONS: <") ∷ []) (inner ++ bytes (codes " >") ∷ []) _ _ _ _ _ _
+    (written_bytes vars _ _ _ (codes " ICONS: <") c.in_ok-extend_from_slice.ensures.items)
+    (written_on vars inner (bytes (codes " >") ∷ []) _ _ _ _ _ _ c.in_ok-put_all_icons.ensures.written (written_bytes vars _ _ _ (codes " >") c.in_ok-extend_from_slice-2.ensures.items)))

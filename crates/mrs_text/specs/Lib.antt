@@ -1,0 +1,3 @@
+pub mod Signs
+pub mod Written
+pub mod Inner
