@@ -14,3 +14,4 @@ pub mod Found
 pub mod KeyLaws
 pub mod Listing
 pub mod Moving
+pub mod Sums

@@ -3,4 +3,5 @@ pub mod Views
 pub mod Texts
 pub mod Valid
 pub mod Renaming
+pub mod Digest
 pub mod Inner

@@ -1,15 +1,16 @@
 //! Keys of elements: numbers that no renaming changes.
 
 ghost use Rattle.std.specs.Prelude.{◌≡◌, map};
-ghost use Rattle.mrs_model.specs.Views.{argument_of, filler_of};
-ghost use Rattle.mrs_model.specs.Inner.Elements.{key_step, text_key, filler_key, argument_key, arguments_key, key_of};
+ghost use Rattle.mrs_model.specs.Views.{property_of, variable_of, argument_of, filler_of, predication_of, hcon_of, icon_of};
+ghost use Rattle.mrs_model.specs.Digest.{key_step, text_key, filler_key, argument_key, arguments_key, ep_key, hcon_key, icon_key, props_key, variable_key};
+ghost use Rattle.mrs_model.specs.Inner.Elements.{key_of};
 ghost use Rattle.mrs_model.specs.Inner.Items.{of_item};
 
 use crate::items::Item;
-use crate::{Role, Value};
+use crate::{Ep, Hcon, Icon, Prop, Role, Value, Var};
 
 // One number more in a key.
-#[tactic(auto, unfolding(crate::specs::Inner::Elements::key_step))]
+#[tactic(auto, unfolding(crate::specs::Digest::key_step))]
 fn key_step(key: u64, more: u64) -> u64
     ensures { result ≡ key_step key more }
 {
@@ -51,13 +52,51 @@ fn roles_key(key: u64, roles: &[Role]) -> u64
     sum
 }
 
+/// The key of an elementary predication: of its predicate, its roles' names and its texts.
+pub(crate) fn ep_key(ep: &Ep) -> u64
+    ensures { result ≡ ep_key (predication_of ep.now) }
+{
+    roles_key(text_key(1, &ep.pred), &ep.roles)
+}
+
+/// The key of a handle constraint: of its relation.
+pub(crate) fn hcon_key(hcon: &Hcon) -> u64
+    ensures { result ≡ hcon_key (hcon_of hcon.now) }
+{
+    text_key(2, &hcon.rel)
+}
+
+/// The key of an individual constraint: of its relation.
+pub(crate) fn icon_key(icon: &Icon) -> u64
+    ensures { result ≡ icon_key (icon_of icon.now) }
+{
+    text_key(3, &icon.rel)
+}
+
+fn props_key(key: u64, props: &[Prop]) -> u64
+    ensures { result ≡ props_key key (map property_of props.now) }
+{
+    let mut sum = key;
+    for prop in props {
+        sum = text_key(text_key(sum, &prop.name), &prop.value);
+    }
+    sum
+}
+
+/// The key of a variable: of its sort and its properties.
+pub(crate) fn variable_key(var: &Var) -> u64
+    ensures { result ≡ variable_key (variable_of var.now) }
+{
+    props_key(text_key(4, &var.sort), &var.props)
+}
+
 /// The key of an element.
 pub(crate) fn key_of(item: Item<'_>) -> u64
     ensures { result ≡ key_of (of_item item.entry) }
 {
     match item {
-        Item::Ep(ep) => roles_key(text_key(1, &ep.pred), &ep.roles),
-        Item::Hcon(hcon) => text_key(2, &hcon.rel),
-        Item::Icon(icon) => text_key(3, &icon.rel),
+        Item::Ep(ep) => ep_key(ep),
+        Item::Hcon(hcon) => hcon_key(hcon),
+        Item::Icon(icon) => icon_key(icon),
     }
 }

@@ -2,6 +2,7 @@
 #![tactic(auto)]
 
 mod bindings;
+mod digest;
 mod elements;
 mod equality;
 mod items;
@@ -14,6 +15,7 @@ mod valid;
 
 ghost use Rattle.std.specs.Prelude.{◌≡◌};
 
+pub use digest::digests_agree;
 pub use equality::{Renaming, equality_is_an_equivalence, matching};
 use std::alloc::{AllocError, AllocFailed};
 pub use texts::{ends_name, first};

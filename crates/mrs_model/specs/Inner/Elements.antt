@@ -1,7 +1,8 @@
 -- The elements of an MRS, of three kinds, and their keys.
-use Rattle.std.specs.Prelude.{ℕ, ◌+◌, ◌*◌, ◌%◌, ◌^◌, List, [], ◌∷◌, ◌++◌, map}
-use Rattle.mrs_model.specs.Meanings.{Filler, of_var, of_text, Argument, Predication, Constraint, Meaning}
+use Rattle.std.specs.Prelude.{ℕ, List, ◌++◌, map}
+use Rattle.mrs_model.specs.Meanings.{Predication, Constraint, Meaning}
 use Rattle.mrs_model.specs.Valid.{StandsIn, IsEnd}
+use Rattle.mrs_model.specs.Digest.{ep_key, hcon_key, icon_key}
 use Rattle.mrs_model.specs.Renaming.{renamed_ep, unspanned, renamed_constraint}
 
 -- an elementary predication without its span, or a constraint of either kind
@@ -25,25 +26,7 @@ IsIn v (an_hcon c) = IsEnd v c
 IsIn v (an_icon c) = IsEnd v c
 
 -- A key is a number that no renaming changes: elements with different keys differ.
-unfoldable pub key_step : ℕ → ℕ → ℕ
-key_step key byte = ((key * 1099511628211) % 2 ^ 64 + byte) % 2 ^ 64
-
-abbrev pub text_key : ℕ → List ℕ → ℕ
-text_key key [] = key
-text_key key (b ∷ bs) = text_key (key_step key b) bs
-
-abbrev pub filler_key : ℕ → Filler → ℕ
-filler_key key (of_var v) = key_step key 256
-filler_key key (of_text t) = text_key (key_step key 257) t
-
-abbrev pub argument_key : ℕ → Argument → ℕ
-argument_key key a = filler_key (text_key key a.role) a.filler
-
-abbrev pub arguments_key : ℕ → List Argument → ℕ
-arguments_key key [] = key
-arguments_key key (a ∷ rest) = arguments_key (argument_key key a) rest
-
 abbrev pub key_of : Element → ℕ
-key_of (an_ep e) = arguments_key (text_key 1 e.pred) e.args
-key_of (an_hcon c) = text_key 2 c.rel
-key_of (an_icon c) = text_key 3 c.rel
+key_of (an_ep e) = ep_key e
+key_of (an_hcon c) = hcon_key c
+key_of (an_icon c) = icon_key c

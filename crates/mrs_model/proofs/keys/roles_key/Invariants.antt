@@ -1,6 +1,6 @@
 use Rattle.std.proofs.Common.{◌≡◌, drop, map}
 use Rattle.mrs_model.specs.Views.{argument_of}
-use Rattle.mrs_model.specs.Inner.Elements.{arguments_key}
+use Rattle.mrs_model.specs.Digest.{arguments_key}
 use Rattle.mrs_model.proofs.keys.roles_key.Given as goal
 
 abbrev pub invariant-loop-role : goal.invariant-loop-role

@@ -1,5 +1,5 @@
 use Rattle.std.proofs.Common.{◌≡◌, drop}
-use Rattle.mrs_model.specs.Inner.Elements.{text_key}
+use Rattle.mrs_model.specs.Digest.{text_key}
 use Rattle.mrs_model.proofs.keys.text_key.Given as goal
 
 abbrev pub invariant-loop-byte : goal.invariant-loop-byte
