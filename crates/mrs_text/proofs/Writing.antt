@@ -3,7 +3,6 @@ use Rattle.std.proofs.Common.{◌≡◌, ℕ, zero, suc, ◌+◌, ◌<◌, ◌�
 use Rattle.std.specs.List.{flat_map, All}
 use Rattle.std.proofs.lemmas.List.Elements.{All-head, All-tail}
 use Rattle.std.proofs.lemmas.List.{take_more}
-use Rattle.std.proofs.lemmas.List.Concat.{flat_map-append}
 use Rattle.mrs_model.specs.declared.Icon.{Icon}
 use Rattle.mrs_model.specs.Views.{icon_of}
 use Rattle.mrs_model.specs.Meanings.{Variable, Meaning}

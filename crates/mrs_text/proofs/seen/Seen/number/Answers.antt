@@ -1,4 +1,4 @@
-use Rattle.std.proofs.Common.{◌≡◌, ◌<◌, ◌≤◌, length, vec_len, arith, rules}
+use Rattle.std.proofs.Common.{◌≡◌, length, vec_len, arith, rules}
 use Rattle.mrs_text.proofs.Placing.{seen_at, other_at, past_at}
 use Rattle.mrs_text.proofs.seen.Seen.number.Goals as goal
 
