@@ -1,0 +1,25 @@
+use Rattle.std.proofs.Common.{sym, subst, [], ◌∷◌}
+use Rattle.book_signs.specs.Trees.{signs_of, lexical_rules_of}
+use Rattle.rule_trees.specs.Mothers.{view_in, IsMother}
+use Rattle.rule_trees.proofs.PlaceLemmas.{has_at, one_daughter}
+use Rattle.rule_trees.proofs.LexicalLemmas.{under_full, under_back}
+use Rattle.rule_trees.proofs.WithinLemmas.{mother_told, no_mother}
+use Rattle.rule_trees.proofs.lexical.SignFullsLexicalFulls.under.Goals as goal
+
+pub made-requires-clause-rule : goal.made-requires-clause-rule
+made-requires-clause-rule c =
+    let g = signs_of c.args.self.now.signs.now in
+    one_daughter g c.args.place c.laws.ensures.arities (has_at (lexical_rules_of g) c.requires.0 c.args.place c.requires.1)
+
+pub returns-in-Ok-Some : goal.returns-in-Ok-Some
+returns-in-Ok-Some c =
+    let t = c.args.self.now.signs.now in
+    let g = signs_of t in
+    under_full t c.args.place (view_in t c.args.full.now.graph) (view_in t c.of.result.graph) c.laws.ensures.arities (has_at (lexical_rules_of g) c.requires.0 c.args.place c.requires.1)
+    (subst (λ x. IsMother g c.args.place (view_in t c.args.full.now.graph ∷ []) (view_in t x)) (sym c.of.ensures)
+    (mother_told t c.args.place (c.args.full.now.graph ∷ []) c.in-Ok-Some.field-0 c.in-Ok-Some.graph c.in-Ok-Some.field-0-is c.in-Ok-Some.ensures))
+
+pub returns-in-Ok-None : goal.returns-in-Ok-None
+returns-in-Ok-None c f u =
+    let t = c.args.self.now.signs.now in
+    no_mother t c.args.place (c.args.full.now.graph ∷ []) c.in-Ok-None.field-0 c.in-Ok-None.field-0-is c.in-Ok-None.ensures f (under_back t c.args.place (view_in t c.args.full.now.graph) f u)

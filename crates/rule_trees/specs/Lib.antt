@@ -1,0 +1,4 @@
+pub mod Mothers
+pub mod Bounded
+pub mod Wholes
+pub mod Inner

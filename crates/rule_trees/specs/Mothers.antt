@@ -1,0 +1,32 @@
+-- Full structures as graphs: what rules make of them, and which are rooted.
+use Rattle.std.specs.Prelude.{ℕ, ◌≡◌, Option, Some, None, List, map, length, slice_get}
+use Rattle.fs_graph.specs.GraphMap.{GraphMap, reader_of}
+use Rattle.fs_trim.specs.Cutting.{IsShort}
+use Rattle.rule_model.specs.Structures.{Structure}
+use Rattle.rule_model.specs.Mothers.{IsFullAt}
+use Rattle.rule_model.specs.Views.{view}
+use Rattle.item_model.specs.Signs.{Instance, Signs, rule_system}
+use Rattle.book_signs.specs.Trees.{SignTree, signs_of, rule_at}
+
+-- the structure that a graph is, on the paths that may be
+abbrev pub view_in : SignTree → GraphMap → Structure
+view_in t graph = view (signs_of t).paths (reader_of graph)
+
+-- the rule at a place makes this full structure of its daughters'
+abbrev pub IsMother : Signs → ℕ → List Structure → Structure → Type 0
+IsMother g place fs f = IsFullAt (rule_system g) (rule_at g place) fs f
+
+-- no type and no feature of a graph is out of range, and no path is too long
+abbrev pub IsShortIn : SignTree → GraphMap → Type 0
+IsShortIn t graph = IsShort t.book.system graph
+
+-- the full structure that the rule at a place makes of its daughters', or that there is none
+abbrev pub IsMotherOf : SignTree → ℕ → List GraphMap → Option GraphMap → Type 0
+IsMotherOf t place daughters None = (f : Structure) → IsMother (signs_of t) place (map (view_in t) daughters) f → ⊥
+IsMotherOf t place daughters (Some graph) = IsMother (signs_of t) place (map (view_in t) daughters) (view_in t graph) × IsShortIn t graph
+
+-- at a place stands an instance with so many daughters
+pub record HasDaughters (g : Signs) (place count : ℕ) : Type 0 where
+  pub instance : Instance
+  pub at : slice_get g.instances place ≡ Some instance
+  pub arity : length instance.rule.places ≡ count

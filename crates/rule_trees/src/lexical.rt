@@ -1,0 +1,77 @@
+//! The full structures of entries and lexical rules.
+
+ghost use Rattle.std.specs.Prelude.{◌≡◌};
+
+use crate::copies::copied;
+use crate::full::FullStructure;
+use crate::making::made;
+use book_signs::SignBook;
+use fs_unify::Scratch;
+use lexical_items::{LexicalFulls, NoMemory};
+use std::alloc::Global;
+
+/// The full structures of entries and lexical rules of a grammar.
+#[derive(Clone, Copy)]
+pub struct SignFulls<'a> {
+    pub signs: &'a SignBook<'a>,
+}
+
+impl<'a> LexicalFulls for SignFulls<'a> {
+    ghost use Rattle.rule_trees.specs.Mothers.{view_in};
+    ghost use Rattle.book_signs.specs.Trees.{signs_of, entries_of, lexical_rules_of};
+
+    type Full = FullStructure;
+
+    type Work = Scratch;
+
+    ghost value = { λ s full. view_in s.signs.now full.graph };
+
+    ghost signs = { λ s. signs_of s.signs.now };
+
+    ghost entries_of = { λ s. entries_of (signs_of s.signs.now) };
+
+    ghost rules_of = { λ s. lexical_rules_of (signs_of s.signs.now) };
+
+    fn entries(&self) -> &[u32] {
+        self.signs.entries()
+    }
+
+    fn rules(&self) -> &[u32] {
+        self.signs.lexical_rules()
+    }
+
+    fn entry(
+        &self,
+        alloc: Global,
+        _work: &mut Scratch,
+        place: u32,
+    ) -> Result<Option<FullStructure>, NoMemory> {
+        self.signs.laws();
+        let Ok(graph) = copied(alloc, self.signs, self.signs.structure(place)) else {
+            return Err(NoMemory);
+        };
+        Ok(Some(FullStructure::of(self.signs, graph)))
+    }
+
+    fn under(
+        &self,
+        alloc: Global,
+        work: &mut Scratch,
+        place: u32,
+        full: &FullStructure,
+    ) -> Result<Option<FullStructure>, NoMemory> {
+        self.signs.laws();
+        if !full.is_within(self.signs) {
+            return Err(NoMemory);
+        }
+        match made(alloc, work, self.signs, place, &[&full.graph]) {
+            Ok(Some(graph)) => Ok(Some(FullStructure::of(self.signs, graph))),
+            Ok(None) => Ok(None),
+            Err(_) => Err(NoMemory),
+        }
+    }
+
+    fn laws(&self) {
+        self.signs.laws();
+    }
+}

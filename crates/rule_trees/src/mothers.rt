@@ -1,0 +1,76 @@
+//! Mothers over daughters' full structures.
+
+ghost use Rattle.std.specs.Prelude.{◌≡◌, ◌++◌, map, All, IfOk, OnOk, MatchOption};
+ghost use Rattle.rule_model.specs.Structures.{Structure};
+ghost use Rattle.forest_unpack.specs.Parts.{AreParts, parts_of};
+ghost use Rattle.book_signs.specs.Trees.{signs_of};
+ghost use Rattle.rule_trees.specs.Mothers.{IsShortIn, IsMother, view_in, HasDaughters};
+ghost use Rattle.rule_trees.specs.Inner.Placed.{full_in};
+
+use crate::NoMemory;
+use crate::full::FullStructure;
+use crate::making::made;
+use book_signs::SignBook;
+use forest_unpack::FullParts;
+use fs_graph::Graph;
+use fs_unify::Scratch;
+use std::alloc::Global;
+use std::sync::Arc;
+
+// Adds a daughter's structure, if there is one; it is one of this grammar.
+fn add<'x>(
+    daughters: &mut Vec<&'x Graph>,
+    signs: &SignBook<'_>,
+    part: &'x Option<Arc<FullStructure>>,
+) -> Result<(), NoMemory>
+    ensures all { OnOk result (map (λ d. d.now) daughters.new.items ≡ map (λ d. d.now) daughters.old.items ++ map (λ f. f.graph) (full_in part.now)) }
+    ensures short { OnOk result (All (λ f. IsShortIn signs.now f.graph) (full_in part.now)) }
+{
+    if let Some(full) = part {
+        if !full.is_within(signs) {
+            return Err(NoMemory);
+        }
+        daughters.push(&full.graph)?;
+    }
+    Ok(())
+}
+
+// The daughters' structures, from the left.
+fn in_order<'x>(
+    alloc: Global,
+    signs: &SignBook<'_>,
+    parts: &'x FullParts<FullStructure>,
+) -> Result<Vec<&'x Graph>, NoMemory>
+    ensures all { IfOk result (λ v. map (λ d. d.now) v.items ≡ map (λ f. f.graph) (parts_of parts.now)) }
+    ensures short { IfOk result (λ v. All (IsShortIn signs.now) (map (λ d. d.now) v.items)) }
+{
+    let mut daughters = Vec::new(alloc);
+    add(&mut daughters, signs, &parts.a)?;
+    add(&mut daughters, signs, &parts.b)?;
+    add(&mut daughters, signs, &parts.c)?;
+    add(&mut daughters, signs, &parts.d)?;
+    Ok(daughters)
+}
+
+/// The full structure under the rule at a place, lexical or phrase, over its daughters' full structures, by the part of it that isn't a
+/// daughter's; none exactly where there is none (Copestake 2002: a mother loses her daughters). There is a structure for each of the
+/// rule's daughters. Whatever the scratch holds, the answer is the same.
+pub fn mother_of(
+    alloc: Global,
+    work: &mut Scratch,
+    signs: &SignBook<'_>,
+    place: u32,
+    parts: &FullParts<FullStructure>,
+) -> Result<Option<FullStructure>, NoMemory>
+    requires parts { AreParts parts.now }
+    requires rule { HasDaughters (signs_of signs.now) place parts.now.count }
+    ensures { IfOk result (λ o. MatchOption o
+        ((v : Structure) → IsMother (signs_of signs.now) place (map (λ f. view_in signs.now f.graph) (parts_of parts.now)) v → ⊥)
+        (λ full. IsMother (signs_of signs.now) place (map (λ f. view_in signs.now f.graph) (parts_of parts.now)) (view_in signs.now full.graph))) }
+{
+    let daughters = in_order(alloc, signs, parts)?;
+    match made(alloc, work, signs, place, &daughters)? {
+        Some(graph) => Ok(Some(FullStructure::of(signs, graph))),
+        None => Ok(None),
+    }
+}
