@@ -1,16 +1,16 @@
 -- A pool as it is made.
-use Rattle.std.proofs.Common.{◌≡◌, ◌≢◌, ◌∙◌, ℕ, zero, suc, ◌+◌, ◌-◌, ◌<◌, ◌≤◌, ◌==◌, if◌then◌else◌, List, [], ◌∷◌, ◌++◌, length, length-append, map, set, All, slice_index_or, refl, sym, ap, subst, ◌⊎◌, inl, inr, ⊎_elim, eq-eqb, ne_eqb, arith}
+use Rattle.std.proofs.Common.{◌≡◌, ◌≢◌, ◌∙◌, ℕ, zero, suc, ◌+◌, ◌-◌, ◌<◌, ◌≤◌, if◌then◌else◌, List, [], ◌∷◌, ◌++◌, length, length-append, map, set, All, slice_index_or, refl, sym, ap, subst, ◌⊎◌, inl, inr, ⊎_elim, eq-eqb, ne_eqb, arith}
 use Rattle.std.proofs.lemmas.List.{append-nil, length-map}
 use mathlib.Core.Option.{some, some-injective, some-ne-none}
 use mathlib.Core.Logic.{dite}
 use native.Mathlib.Decide.{ℕ_discrete}
 use lib.ListN.{get_elem?}
-use Rattle.atomic_table.proofs.Lists.{at_set, at_map, at_longer, at_last, at_snoc}
+use Rattle.atomic_table.proofs.Lists.{at_set, at_longer, at_last, at_snoc}
 use Rattle.crossbeam_deque.specs.Handles.{worker_deque, worker_flavor, worker_view, stealer_deque}
 use Rattle.task_pool.specs.declared.seat.Door.{Door}
 use Rattle.task_pool.specs.Balance.{hand}
 use Rattle.task_pool.specs.Whole.{ArePlaced}
-use Rattle.task_pool.specs.Making.{others, Deque, IsRow, Lost, IsCut}
+use Rattle.task_pool.specs.Making.{others, Deque, IsRow, Lost}
 
 pub others_past : (j n : ℕ) → n ≢ j → others j (suc n) ≡ others j n ++ n ∷ []
 others_past j n ne = λ i. others j n ++ (if ne_eqb n j ne i then [] else n ∷ [])

@@ -1,7 +1,5 @@
-use Rattle.std.proofs.Common.{◌≡◌, ◌∙◌, ◌+◌, ◌≤◌, ◌<◌, ◌∷◌, ◌++◌, [], List, length, length-append, map, set, ap, sym, subst, refl, arith}
+use Rattle.std.proofs.Common.{◌≡◌, ◌∙◌, ◌+◌, ◌<◌, ◌∷◌, ◌++◌, [], length, map, set, ap, sym, subst, refl, arith}
 use Rattle.std.proofs.lemmas.List.{length-map, length-set}
-use mathlib.Core.Option.{some}
-use lib.ListN.{get_elem?}
 use Rattle.atomic_table.proofs.Lists.{at_index, at_map}
 use Rattle.crossbeam_deque.specs.Handles.{worker_deque, worker_flavor, worker_view}
 use Rattle.task_pool.specs.Making.{Deque}

@@ -1,20 +1,18 @@
-use Rattle.std.proofs.Common.{rules, ◌≡◌, ◌∙◌, is_some, ◌<◌, ℕ, ◌+◌, ◌≤◌, length, map, ap, sym, refl, subst, arith, length-append, Bool, true, false, List, [], ◌∷◌, ◌++◌}
-use Rattle.std.proofs.lemmas.List.{append-nil}
-use mathlib.Core.Option.{some}
+use Rattle.std.proofs.Common.{◌≡◌, ◌∙◌, is_some, length, ap, sym, refl, subst, arith, length-append, [], ◌∷◌, ◌++◌}
 use lib.ListN.{get_elem?}
 use Rattle.turn_lock.specs.Seats.{own_calls}
 use Rattle.turn_lock.proofs.Knowing.{knows_of, sole_is, present_same}
 use Rattle.shared_chart.proofs.Counts.{calls_bound, nothing_added, one_added}
 use Rattle.chart_core.specs.Grammar.{grammar_of}
-use Rattle.chart_core.specs.Kept.{IsCore, tasks_of}
+use Rattle.chart_core.specs.Kept.{IsCore}
 use Rattle.cover.specs.Tuples.{on_list}
 use Rattle.chart_core.specs.Later.{IsLater}
 use Rattle.chart_core.specs.Calls.{IsAnswer, Changes}
 use Rattle.chart_core.proofs.Later.{tasks_later}
 use Rattle.shared_chart.specs.Calls.{call, calls_of}
 use Rattle.shared_chart.specs.Seats.{shapes_of, state_of, made_by}
-use Rattle.shared_chart.specs.Told.{Sees, call_added, caller_by, caller_now, Enters}
-use Rattle.shared_chart.specs.Times.{ComesAfter, after_itself}
+use Rattle.shared_chart.specs.Told.{call_added, caller_by, caller_now}
+use Rattle.shared_chart.specs.Times.{ComesAfter}
 use Rattle.shared_chart.proofs.Seen.{stands_there, later_there, back_there}
 use Rattle.shared_chart.proofs.Grown.{calls_grow, entered_later}
 use Rattle.shared_chart.proofs.shared.SharedChart.enter_tested.Goals as goal

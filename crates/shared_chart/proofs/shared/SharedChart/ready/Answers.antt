@@ -1,13 +1,12 @@
-use Rattle.std.proofs.Common.{ℕ, OnOk, Some, slice_get, ◌∙◌, IfOk, IfErr, ◌≡◌, ap, sym, refl, subst}
+use Rattle.std.proofs.Common.{ℕ, OnOk, Some, slice_get, ◌∙◌, IfErr, ◌≡◌, ap, sym, refl, subst}
 use Rattle.chart_core.specs.CoreView.{chart_of, history_of}
 use Rattle.chart_core.specs.Steps.{IsDoneAt}
 use Rattle.chart_core.specs.Grammar.{grammar_of}
-use Rattle.chart_core.specs.Kept.{IsCore, places_of}
-use Rattle.chart_core.specs.Calls.{ArePeers}
+use Rattle.chart_core.specs.Kept.{IsCore}
 use Rattle.turn_lock.specs.Seats.{own_calls}
 use Rattle.turn_lock.proofs.Knowing.{knows_of, sole_is, present_same}
-use Rattle.shared_chart.specs.Seats.{shapes_of, state_of}
-use Rattle.shared_chart.specs.Told.{Sees, IsUnmade, IsUnready}
+use Rattle.shared_chart.specs.Seats.{state_of}
+use Rattle.shared_chart.specs.Told.{Sees, IsUnready}
 use Rattle.shared_chart.specs.Times.{after_itself}
 use Rattle.shared_chart.proofs.Seen.{stands_there, later_there, back_there}
 use Rattle.shared_chart.proofs.shared.SharedChart.ready.Goals as goal

@@ -1,0 +1,6 @@
+pub mod Turning
+pub mod Faults
+pub mod Firsts
+pub mod Seated
+pub mod Posted
+pub mod Ran

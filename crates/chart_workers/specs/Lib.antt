@@ -1,0 +1,4 @@
+pub mod Turns
+pub mod Lending
+pub mod Endings
+pub mod Posts

@@ -1,0 +1,192 @@
+//! What a worker does from its first task to its end.
+ghost use Rattle.std.specs.Prelude.{◌≡◌, true, IfNone, IfOk, IfErr};
+ghost use Rattle.chart_core.specs.Grammar.{grammar_of};
+ghost use Rattle.chart_core.specs.Kept.{IsCore};
+ghost use Rattle.shared_chart.specs.Seats.{shapes_of, state_of, seat_id, chart_id};
+ghost use Rattle.chart_workers.specs.Turns.{GoesOn};
+ghost use Rattle.chart_workers.specs.Endings.{is_over, EntersOn, TurnsTo, GivesUp, EndsAs};
+
+use crate::Ended;
+use crate::gate::Gate;
+use crate::over::{ChartOver, look};
+use crate::priority::Rank;
+use crate::pushing::{push_all, ranked};
+use crate::turns::turn;
+use chart_core::{Entered, TaskId};
+use cover::Shapes;
+use shared_chart::{ChartSeat, SharedChart, Unready};
+use std::alloc::Global;
+use std::sync::Wait;
+use task_pool::PoolSeat;
+
+/// What came of one task.
+pub(crate) enum Turned {
+    Goes,
+    Over,
+    Full { made: u64 },
+    NoMemory,
+}
+
+// The next task: one that was kept, or else one of the pool; none where the work is over.
+fn take<R: Wait, S: Shapes>(
+    rt: &R,
+    chart: &SharedChart<S>,
+    seat: &mut ChartSeat<S>,
+    pool: &mut PoolSeat,
+    kept: &mut Vec<TaskId>,
+) -> Option<TaskId>
+    requires seat { seat_id seat.old ≡ chart_id chart.now }
+    requires core { IsCore (grammar_of S.Shapes S.Cover.Cover.own (shapes_of seat.old)) (state_of seat.old) }
+    ensures seat { GoesOn (grammar_of S.Shapes S.Cover.Cover.own (shapes_of seat.old)) seat.old seat.new }
+    ensures over { IfNone result (is_over seat.new ≡ true) }
+{
+    if let Some(task) = kept.pop() {
+        return Some(task);
+    }
+    let mut over = ChartOver::new(rt, chart, seat);
+    pool.next(rt, &mut over)
+}
+
+// How a worker ends for whose seat the work is over.
+fn last<R: Wait, S: Shapes>(rt: &R, chart: &SharedChart<S>, seat: &mut ChartSeat<S>) -> Ended
+    requires seat { seat_id seat.old ≡ chart_id chart.now }
+    requires core { IsCore (grammar_of S.Shapes S.Cover.Cover.own (shapes_of seat.old)) (state_of seat.old) }
+    requires over { is_over seat.old ≡ true }
+    ensures { EndsAs (grammar_of S.Shapes S.Cover.Cover.own (shapes_of seat.old)) seat.old result seat.new }
+{
+    if chart.pending(rt, seat) == 0 {
+        Ended::AllDone
+    } else {
+        Ended::Stopped
+    }
+}
+
+// A worker that has met want of memory stops all.
+fn give_up<R: Wait, S: Shapes>(
+    rt: &R,
+    chart: &SharedChart<S>,
+    seat: &mut ChartSeat<S>,
+    ended: Ended,
+) -> Ended
+    requires seat { seat_id seat.old ≡ chart_id chart.now }
+    requires core { IsCore (grammar_of S.Shapes S.Cover.Cover.own (shapes_of seat.old)) (state_of seat.old) }
+    requires why { GivesUp (grammar_of S.Shapes S.Cover.Cover.own (shapes_of seat.old)) seat.old ended }
+    ensures { EndsAs (grammar_of S.Shapes S.Cover.Cover.own (shapes_of seat.old)) seat.old result seat.new }
+{
+    chart.stop(rt, seat);
+    ended
+}
+
+// One task, once it is made: its outcome is entered.
+fn enter_one<R: Wait, S: Shapes>(
+    rt: &R,
+    alloc: Global,
+    chart: &SharedChart<S>,
+    seat: &mut ChartSeat<S>,
+    shapes: &S,
+    work: &mut S::Work,
+    task: TaskId,
+) -> Result<Entered, Turned>
+    requires seat { seat_id seat.old ≡ chart_id chart.now }
+    requires shapes { shapes.now ≡ shapes_of seat.old }
+    requires core { IsCore (grammar_of S.Shapes S.Cover.Cover.own shapes.now) (state_of seat.old) }
+    ensures seat { GoesOn (grammar_of S.Shapes S.Cover.Cover.own shapes.now) seat.old seat.new }
+    ensures entered { IfOk result (EntersOn (grammar_of S.Shapes S.Cover.Cover.own shapes.now) seat.new) }
+    ensures turned { IfErr result (TurnsTo (grammar_of S.Shapes S.Cover.Cover.own shapes.now) seat.new) }
+{
+    for _ in rt.forever() {
+        match turn(rt, alloc, chart, seat, shapes, work, task) {
+            Ok(entered) => return Ok(entered),
+            Err(Unready::NoMemory) => return Err(Turned::NoMemory),
+            Err(Unready::Unmade { tasks: _ }) => {
+                if look(rt, chart, seat) {
+                    return Err(Turned::Over);
+                }
+            }
+        }
+    }
+    unreachable!()
+}
+
+// One task, and the tasks that it makes are pushed.
+fn one_task<R: Wait, S: Shapes, P: Rank>(
+    rt: &R,
+    alloc: Global,
+    chart: &SharedChart<S>,
+    seat: &mut ChartSeat<S>,
+    pool: &mut PoolSeat,
+    kept: &mut Vec<TaskId>,
+    shapes: &S,
+    work: &mut S::Work,
+    priority: &P,
+    task: TaskId,
+) -> Turned
+    requires seat { seat_id seat.old ≡ chart_id chart.now }
+    requires shapes { shapes.now ≡ shapes_of seat.old }
+    requires core { IsCore (grammar_of S.Shapes S.Cover.Cover.own shapes.now) (state_of seat.old) }
+    ensures seat { GoesOn (grammar_of S.Shapes S.Cover.Cover.own shapes.now) seat.old seat.new }
+    ensures turned { TurnsTo (grammar_of S.Shapes S.Cover.Cover.own shapes.now) seat.new result }
+{
+    match enter_one(rt, alloc, chart, seat, shapes, work, task) {
+        Err(turned) => turned,
+        Ok(Entered::Full { made }) => Turned::Full { made },
+        Ok(Entered::NoMemory) => Turned::NoMemory,
+        Ok(
+            Entered::Placed {
+                first_task,
+                end_task,
+                ..
+            },
+        ) => match ranked(rt, alloc, chart, seat, priority, first_task, end_task) {
+            Ok(tasks) => match push_all(pool, kept, &tasks) {
+                Ok(()) => Turned::Goes,
+                Err(_) => Turned::NoMemory,
+            },
+            Err(_) => Turned::NoMemory,
+        },
+        Ok(Entered::Stale { .. } | Entered::Skipped { .. } | Entered::Noted { .. }) => Turned::Goes,
+    }
+}
+
+/// A worker of this number: it takes tasks and enters their outcomes until the work is over, room is wanting, or memory is.
+///
+/// It takes what is in `kept` first, and then asks its seat of the pool. It tells the gate of each task, asks how the task
+/// stands, finds its outcome without the lock, enters it, and pushes the new tasks in the order of their ranks. A task that
+/// isn't made yet is asked for again. It calls `stop` where it ends with `Full` or `NoMemory`, and nowhere else.
+pub fn work<R: Wait, S: Shapes, P: Rank, G: Gate>(
+    rt: &R,
+    alloc: Global,
+    number: u32,
+    chart: &SharedChart<S>,
+    seat: &mut ChartSeat<S>,
+    pool: &mut PoolSeat,
+    kept: Vec<TaskId>,
+    shapes: &S,
+    priority: &P,
+    gate: &G,
+) -> Ended
+    requires seat { seat_id seat.old ≡ chart_id chart.now }
+    requires shapes { shapes.now ≡ shapes_of seat.old }
+    requires core { IsCore (grammar_of S.Shapes S.Cover.Cover.own shapes.now) (state_of seat.old) }
+    ensures { EndsAs (grammar_of S.Shapes S.Cover.Cover.own shapes.now) seat.old result seat.new }
+{
+    let mut kept = kept;
+    let Ok(mut work) = shapes.work(alloc) else {
+        return give_up(rt, chart, seat, Ended::NoMemory);
+    };
+    for _ in rt.forever() {
+        let Some(task) = take(rt, chart, seat, pool, &mut kept) else {
+            return last(rt, chart, seat);
+        };
+        gate.at(number, task.0);
+        match one_task(
+            rt, alloc, chart, seat, pool, &mut kept, shapes, &mut work, priority, task,
+        ) {
+            Turned::Goes => {}
+            Turned::Over => return last(rt, chart, seat),
+            Turned::Full { made } => return give_up(rt, chart, seat, Ended::Full { made }),
+            Turned::NoMemory => return give_up(rt, chart, seat, Ended::NoMemory),
+        }
+    }
+    unreachable!()
+}
