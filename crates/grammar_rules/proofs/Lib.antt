@@ -3,3 +3,4 @@ pub mod Found
 pub mod Consistent
 pub mod Wholes
 pub mod Lined
+pub mod Calls

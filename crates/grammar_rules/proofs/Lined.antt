@@ -22,9 +22,9 @@ use Rattle.packed_items.specs.Packed.{Fit, IsFound}
 use Rattle.packed_items.specs.Answers.{limits_in, answer_of}
 use Rattle.packed_items.specs.declared.Found.{Found}
 use Rattle.lexical_items.specs.Listed.{Lexeme, Trees, IsLexicalAnswer}
-use Rattle.grammar_rules.specs.Wholes.{wholes_of}
+use Rattle.rule_trees.specs.Wholes.{wholes_of, IsRuled}
 use Rattle.grammar_rules.specs.Leafed.{leaf_of, leaf_trees, IsShapeOf, AreShapes}
-use Rattle.grammar_rules.specs.Laws.{span_rules, IsRuled}
+use Rattle.grammar_rules.specs.Laws.{span_rules}
 use Rattle.grammar_rules.specs.Lined.{shapes_in, AreLined}
 use Rattle.grammar_rules.proofs.Leafed.{lexemes_are_leaves}
 use Rattle.grammar_rules.proofs.Found.{fulls_fit, lines_answered}
@@ -38,7 +38,7 @@ along_snoc : {A B : Type 0} {R : A → B → Type 0} {xs : List A} {ys : List B}
 along_snoc along_none r = along_more r along_none
 along_snoc (along_more s more) r = along_more s (along_snoc more r)
 
-map_length : {A B : Type 0} (f : A → B) (xs : List A) → length (map f xs) ≡ length xs
+pub map_length : {A B : Type 0} (f : A → B) (xs : List A) → length (map f xs) ≡ length xs
 map_length f [] = refl
 map_length f (x ∷ xs) = ap suc (map_length f xs)
 

@@ -13,7 +13,7 @@ use Rattle.item_model.specs.Forests.{wholes, leaf_at, full_at}
 use Rattle.parse_items.specs.Lattices.{Lattice}
 use Rattle.parse_items.specs.Licensed.{parse_item}
 use Rattle.lexical_items.specs.Listed.{Lexeme}
-use Rattle.grammar_rules.specs.Wholes.{wholes_of, full_named, tree_named}
+use Rattle.rule_trees.specs.Wholes.{wholes_of, full_named, tree_named}
 use Rattle.grammar_rules.specs.Leafed.{leaf_of, leaf_trees, AreShapes}
 
 module _ (g : Signs) where

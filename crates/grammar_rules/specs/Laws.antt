@@ -1,12 +1,12 @@
 -- What a line's lexical trees, and what is found over them, have to do with the answer to the line.
-use Rattle.std.specs.Prelude.{ℕ, ◌≡◌, ◌<◌, List, length, slice_get}
+use Rattle.std.specs.Prelude.{ℕ, ◌≡◌, ◌<◌, List, length}
 use Rattle.fs_model.specs.Claims.{IsOrder}
 use Rattle.cover.specs.Calculus.{Calculus}
 use Rattle.cover.specs.Spans.{span_join, span_size, join_all, same_span, is_span}
 use Rattle.cover.specs.declared.span.Span.{Span}
 use Rattle.chart_core.specs.declared.Limits.{Limits}
 use Rattle.rule_model.specs.Structures.{Structure}
-use Rattle.rule_model.specs.Mothers.{Agrees, arity_at}
+use Rattle.rule_model.specs.Mothers.{Agrees}
 use Rattle.rule_model.specs.Laws.{rules_calculus, rules_full}
 use Rattle.item_model.specs.Signs.{Signs, rule_system}
 use Rattle.item_model.specs.Lexical.{Words}
@@ -15,6 +15,7 @@ use Rattle.item_model.specs.Forests.{wholes}
 use Rattle.parse_items.specs.Lattices.{Lattice}
 use Rattle.parse_items.specs.Licensed.{IsTooDeep, parse_item}
 use Rattle.parse_items.specs.Answers.{IsParseAnswer}
+use Rattle.rule_trees.specs.Wholes.{IsRuled}
 use Rattle.packed_items.specs.Packed.{Fit, IsFound}
 use Rattle.packed_items.specs.Answers.{limits_in, answer_of}
 use Rattle.packed_items.specs.declared.Found.{Found}
@@ -25,12 +26,9 @@ use Rattle.grammar_rules.specs.Leafed.{leaf_trees, AreShapes}
 abbrev pub span_rules : Signs → Calculus Structure Span
 span_rules g = rules_calculus (rule_system g) (λ _ cs. join_all cs) same_span span_join span_size is_span
 
--- a leaf of a line by its number, and a phrase rule by its number with the number of its daughters
+-- a leaf of a line by its number
 abbrev pub IsNamed : List (LeafTree Span) → ℕ → Type 0
 IsNamed ls n = n < length ls
-
-abbrev pub IsRuled : Signs → ℕ → ℕ → Type 0
-IsRuled g rule count = (rule < length (rule_system g).rules) × (count ≡ arity_at (rule_system g) (slice_get (rule_system g).rules rule))
 
 -- All lexical trees of a line, each with its shape, are its leaves.
 abbrev pub LexemesAreLeaves : Type 0

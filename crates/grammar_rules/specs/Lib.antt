@@ -1,5 +1,5 @@
 pub mod Leafed
 pub mod Laws
 pub mod Views
-pub mod Wholes
 pub mod Lined
+pub mod Lines

@@ -5,8 +5,12 @@
 
 ghost use Rattle.grammar_rules.specs.Laws.{LexemesAreLeaves, FullsFit, FoundIsAnswer, LinesAreAnswered};
 
+mod parsing;
+
 use derivation::Tree;
 use packed_items::Found;
+pub use parsing::parse_words;
+use std::alloc::{AllocError, AllocFailed};
 
 /// The answer to a line.
 #[derive(Debug, Drop)]
@@ -26,6 +30,42 @@ pub enum ItemAnswer {
 /// Memory ran out.
 #[derive(Debug, Drop, Clone, Copy, PartialEq, Eq)]
 pub struct NoMemory;
+
+impl From<AllocError> for NoMemory {
+    fn from(_error: AllocError) -> NoMemory {
+        NoMemory
+    }
+}
+
+impl<T: Drop> From<AllocFailed<T>> for NoMemory {
+    fn from(_error: AllocFailed<T>) -> NoMemory {
+        NoMemory
+    }
+}
+
+impl From<cover::NoMemory> for NoMemory {
+    fn from(_error: cover::NoMemory) -> NoMemory {
+        NoMemory
+    }
+}
+
+impl From<lexical_items::NoMemory> for NoMemory {
+    fn from(_error: lexical_items::NoMemory) -> NoMemory {
+        NoMemory
+    }
+}
+
+impl From<packed_items::NoMemory> for NoMemory {
+    fn from(_error: packed_items::NoMemory) -> NoMemory {
+        NoMemory
+    }
+}
+
+impl From<word_lists::NoMemory> for NoMemory {
+    fn from(_error: word_lists::NoMemory) -> NoMemory {
+        NoMemory
+    }
+}
 
 impl ItemAnswer {
     ghost use Rattle.std.specs.Prelude.{◌≡◌};

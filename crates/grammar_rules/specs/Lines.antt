@@ -1,0 +1,29 @@
+-- The answer to a line by a grammar's signs, its lexicon and its spelling.
+use Rattle.std.specs.Prelude.{◌≡◌, List}
+use Rattle.chart_core.specs.declared.Limits.{Limits}
+use Rattle.lexicon.specs.Entries.{EntryTree}
+use Rattle.spelling_rules.specs.Trees.{SpellingTree}
+use Rattle.morph_analysis.specs.Lattices.{LatticeTree}
+use Rattle.item_model.specs.Signs.{rule_system}
+use Rattle.item_model.specs.Items.{Answer}
+use Rattle.parse_items.specs.Answers.{IsParseAnswer}
+use Rattle.packed_items.specs.Answers.{limits_in}
+use Rattle.lexical_items.specs.Said.{AreNumbered, words_said}
+use Rattle.lexical_items.specs.Seen.{lattice_seen}
+use Rattle.book_signs.specs.Trees.{SignTree, signs_of, entries_of, lexical_rules_of}
+use Rattle.grammar_shapes.specs.declared.shapes.GrammarShapes.{GrammarShapes}
+use Rattle.grammar_shapes.specs.Systems.{grammar_of, rules_of}
+
+-- the shapes are those of the phrase rules of these signs
+pub record AreShapesOf (t : SignTree) (s : GrammarShapes) : Type 0 where
+  pub grammar : grammar_of s ≡ t.book.system
+  pub rules : rules_of s ≡ rule_system (signs_of t)
+
+-- the lexicon has the entries and the spelling the lexical rules of these signs, each once; and each entry has a word
+abbrev pub HaveAll : SignTree → List EntryTree → SpellingTree → Type 0
+HaveAll t lexicon s = AreNumbered (entries_of (signs_of t)) (lexical_rules_of (signs_of t)) lexicon s
+
+-- The words of an entry are those that the lexicon gives, and the forms under a lexical rule those that the spelling gives.
+abbrev pub IsLineAnswer : SignTree → List EntryTree → SpellingTree → LatticeTree → Limits → Answer → Type 0
+IsLineAnswer t lexicon s lattice limits a =
+    IsParseAnswer (signs_of t) (words_said (entries_of (signs_of t)) (lexical_rules_of (signs_of t)) lexicon s) (lattice_seen lattice) limits.lexical (limits_in limits) a
