@@ -1,1 +1,9 @@
-pub mod ParseLemmas
+pub mod SameBooks
+pub mod Speeches
+pub mod OneReports
+pub mod ParseLaws
+pub mod NamedTrees
+pub mod CheckLemmas
+pub mod Answered
+pub mod Counts
+pub mod RuleLemmas

@@ -1,1 +1,5 @@
+pub mod Answers
 pub mod Parsing
+pub mod Views
+pub mod Checks
+pub mod Inner

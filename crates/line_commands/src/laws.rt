@@ -1,15 +1,23 @@
-//! What holds of the commands: a file that is told has one grammar and each line one answer, or a fault.
-ghost use Rattle.std.specs.Prelude.{ℕ, List};
+//! What holds of `parse`: told files have one grammar or one first fault, and never both, and lines have one report.
+
+ghost use Rattle.std.specs.Prelude.{ℕ, List, Option};
 ghost use Rattle.endings.specs.Meanings.{Lawful};
+ghost use Rattle.line_commands.specs.Answers.{Asked};
 ghost use Rattle.line_commands.specs.Parsing.{parse_meaning};
 
-use first_grammar::one_grammar;
-use first_parse::answer_is_one;
+use book_signs::laws::one_signs;
+use command_grammars::laws::grammar_laws;
+use morph_analysis::laws::one_line;
+use parse_items::parse_laws;
+use rule_model::said_laws;
 
 /// What holds of `parse`.
 pub fn parse_lawful()
-    ensures { (name : List ℕ) → Lawful (parse_meaning name) }
+    ensures { (name : List ℕ) (settings : Option (List ℕ)) (asked : Asked) → Lawful (parse_meaning name settings asked) }
 {
-    one_grammar();
-    answer_is_one();
+    grammar_laws();
+    one_signs();
+    said_laws();
+    one_line();
+    parse_laws();
 }

@@ -1,8 +1,48 @@
-//! The commands that answer each line of their input with a grammar: `parse`, over first grammars.
+//! The commands that answer each line of their input with a grammar: `parse`.
 #![tactic(auto)]
 
-pub mod grammars;
+mod answering;
+mod checks;
+mod lattices;
 pub mod laws;
-pub mod parsing;
+mod parsing;
+mod reports;
+mod rules;
 
-pub use parsing::Parse;
+pub use parsing::{Parse, parse_lines};
+pub use rules::shapes_of;
+use std::alloc::{AllocError, AllocFailed};
+
+/// Memory was wanting.
+#[derive(Clone, Copy, Debug, PartialEq, Eq)]
+pub struct NoMemory;
+
+impl From<AllocError> for NoMemory {
+    fn from(_: AllocError) -> NoMemory {
+        NoMemory
+    }
+}
+
+impl<T: Drop> From<AllocFailed<T>> for NoMemory {
+    fn from(_: AllocFailed<T>) -> NoMemory {
+        NoMemory
+    }
+}
+
+impl From<cover::NoMemory> for NoMemory {
+    fn from(_: cover::NoMemory) -> NoMemory {
+        NoMemory
+    }
+}
+
+impl From<word_lists::NoMemory> for NoMemory {
+    fn from(_: word_lists::NoMemory) -> NoMemory {
+        NoMemory
+    }
+}
+
+impl From<grammar_rules::NoMemory> for NoMemory {
+    fn from(_: grammar_rules::NoMemory) -> NoMemory {
+        NoMemory
+    }
+}

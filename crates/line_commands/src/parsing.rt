@@ -1,77 +1,144 @@
-//! The command `parse`: each line of the input is answered by its parses.
-ghost use Rattle.std.specs.Prelude.{◌≡◌};
-ghost use Rattle.first_parse.specs.Report.{IsAnswer};
-ghost use Rattle.endings.specs.Meanings.{shelves};
-ghost use Rattle.endings.specs.Endings.{Readied};
-ghost use Rattle.line_commands.specs.Parsing.{parse_meaning};
+//! The command `parse`: each line of the input is answered by the trees that a grammar licenses for it.
 
-use crate::grammars::{fault_of, grammar_of};
-use endings::commands::ByLines;
-use endings::lines::{Answers, NoMemory};
-use endings::pieces::Report;
+ghost use Rattle.std.specs.Prelude.{◌≡◌, option_map};
+ghost use Rattle.chart_core.specs.Kept.{InRange};
+ghost use Rattle.book_signs.specs.Conditions.{IsWhole};
+ghost use Rattle.grammar_rules.specs.Lines.{AreShapesOf};
+ghost use Rattle.grammar_load.specs.Conditions.{IsLoaded};
+ghost use Rattle.grammar_load.specs.Views.{grammar_of};
+ghost use Rattle.endings.specs.Meanings.{Shelves, shelves};
+ghost use Rattle.endings.specs.Reports.{streams};
+ghost use Rattle.endings.specs.Endings.{Ended};
+ghost use Rattle.command_grammars.specs.Grammars.{HasGrammar};
+ghost use Rattle.line_commands.specs.Parsing.{parse_meaning};
+ghost use Rattle.line_commands.specs.Views.{asked_with};
+
+use crate::answering::Parser;
+use crate::rules::shapes_of;
+use book_signs::SignBook;
+use book_signs::laws::whole_book;
+use chart_core::Limits;
+use command_grammars::load_grammar;
+use endings::lines::serve;
 use endings::{Fault, Stop};
-use first_grammar::FirstGrammar;
-use first_parse::LineAnswer;
-use grammar_files::file_names::with_ending;
-use lkb_io::Shelf;
+use grammar_load::Grammar;
+use grammar_shapes::GrammarShapes;
+use lkb_io::{Shelf, Sink, Source};
 use std::alloc::Global;
 use std::sync::Wait;
 use std::thread::Threads;
 use worker_gate::Gate;
 
-/// `parse`: the answers to lines with the grammar of this name.
-#[derive(Clone, Copy, Debug)]
+/// `parse`: the answers to lines, with the grammar of this name under the settings of the file of that name.
+#[derive(Clone, Copy)]
 pub struct Parse<'a> {
     pub grammar: &'a str,
+    pub settings: Option<&'a str>,
+    /// The limits, each in its range.
+    pub limits: Limits,
+    /// Whether each line writes a lattice of words.
+    pub lattice: bool,
 }
 
-/// What answers lines by their parses with a grammar.
-#[derive(Drop)]
-pub struct ParseLines {
-    pub grammar: FirstGrammar,
-}
-
-impl Answers for ParseLines {
-    ghost use Rattle.first_parse.specs.Report.{IsAnswer};
-
-    ghost IsAnswer = { λ p. IsAnswer p.grammar };
-
-    fn answer<Rt: Threads + Wait + Sync>(
-        &self,
-        _rt: &Rt,
-        alloc: Global,
-        number: u64,
-        line: &[u8],
-        _gate: &dyn Gate,
-    ) -> Result<Report, NoMemory> {
-        match first_parse::answer(alloc, &self.grammar, number, line) {
-            Ok(LineAnswer { lines, refused }) => Ok(Report { lines, refused }),
-            Err(_) => Err(NoMemory),
-        }
-    }
-}
-
-// What the file of this name gives, or why it gives nothing.
-fn load<S: Shelf>(alloc: Global, shelf: &mut S, name: &str) -> Result<ParseLines, Fault>
-    ensures { Readied (λ p. IsAnswer p.grammar) (parse_meaning name.now) (shelves S.files S.faults S.asked shelf.old shelf.new) result }
+// Answers all lines of the source with the signs of a grammar and its phrase rules.
+fn parse_with_shapes<I: Source, O: Sink, Rt: Threads + Wait + Sync>(
+    rt: &Rt,
+    alloc: Global,
+    command: &Parse<'_>,
+    grammar: &Grammar,
+    signs: &SignBook<'_>,
+    shapes: &GrammarShapes<'_>,
+    input: &mut I,
+    out: &mut O,
+    gate: &dyn Gate,
+) -> Result<bool, Fault>
+    requires limits { InRange command.now.limits }
+    requires loaded { IsLoaded (grammar_of grammar.now) }
+    requires book { signs.now.book ≡ grammar.now.book }
+    requires shapes { AreShapesOf signs.now shapes.now }
+    ensures { (h : Shelves) → HasGrammar h.files command.now.grammar.now (option_map (λ s. s.now) command.now.settings) (grammar_of grammar.now)
+        → Ended (parse_meaning command.now.grammar.now (option_map (λ s. s.now) command.now.settings) (asked_with command.now.limits command.now.lattice)) h
+        (streams I.left I.faults O.written O.flushed O.faults input.old input.new out.old out.new) (input.new ≡ input.old) ((input.new ≡ input.old) × (out.new ≡ out.old)) result }
 {
-    let Ok(file) = with_ending(alloc, name) else {
+    signs.laws();
+    let parser = Parser {
+        signs,
+        shapes,
+        lexicon: &grammar.lexicon,
+        spelling: &grammar.spelling,
+        names: &grammar.names,
+        limits: command.limits,
+        lattice: command.lattice,
+    };
+    let refused = serve(rt, alloc, &parser, input, out, gate)?;
+    Ok(refused)
+}
+
+// Answers all lines of the source with the signs of a grammar.
+fn parse_with_signs<I: Source, O: Sink, Rt: Threads + Wait + Sync>(
+    rt: &Rt,
+    alloc: Global,
+    command: &Parse<'_>,
+    grammar: &Grammar,
+    signs: &SignBook<'_>,
+    input: &mut I,
+    out: &mut O,
+    gate: &dyn Gate,
+) -> Result<bool, Fault>
+    requires limits { InRange command.now.limits }
+    requires loaded { IsLoaded (grammar_of grammar.now) }
+    requires book { signs.now.book ≡ grammar.now.book }
+    ensures { (h : Shelves) → HasGrammar h.files command.now.grammar.now (option_map (λ s. s.now) command.now.settings) (grammar_of grammar.now)
+        → Ended (parse_meaning command.now.grammar.now (option_map (λ s. s.now) command.now.settings) (asked_with command.now.limits command.now.lattice)) h
+        (streams I.left I.faults O.written O.flushed O.faults input.old input.new out.old out.new) (input.new ≡ input.old) ((input.new ≡ input.old) × (out.new ≡ out.old)) result }
+{
+    let Ok(shapes) = shapes_of(alloc, signs) else {
         return Err(Fault::Stopped(Stop::NoMemory));
     };
-    match grammar_of(alloc, shelf, &file) {
-        Ok(grammar) => Ok(ParseLines { grammar }),
-        Err(fault) => Err(fault_of(alloc, &file, fault)),
-    }
+    parse_with_shapes(
+        rt, alloc, command, grammar, signs, &shapes, input, out, gate,
+    )
 }
 
-impl ByLines for Parse<'_> {
-    ghost use Rattle.line_commands.specs.Parsing.{parse_meaning};
+// Answers all lines of the source with a grammar.
+fn parse_with<I: Source, O: Sink, Rt: Threads + Wait + Sync>(
+    rt: &Rt,
+    alloc: Global,
+    command: &Parse<'_>,
+    grammar: &Grammar,
+    input: &mut I,
+    out: &mut O,
+    gate: &dyn Gate,
+) -> Result<bool, Fault>
+    requires limits { InRange command.now.limits }
+    requires loaded { IsLoaded (grammar_of grammar.now) }
+    requires whole { IsWhole grammar.now.book }
+    ensures { (h : Shelves) → HasGrammar h.files command.now.grammar.now (option_map (λ s. s.now) command.now.settings) (grammar_of grammar.now)
+        → Ended (parse_meaning command.now.grammar.now (option_map (λ s. s.now) command.now.settings) (asked_with command.now.limits command.now.lattice)) h
+        (streams I.left I.faults O.written O.flushed O.faults input.old input.new out.old out.new) (input.new ≡ input.old) ((input.new ≡ input.old) × (out.new ≡ out.old)) result }
+{
+    let Ok(signs) = SignBook::make(alloc, &grammar.book) else {
+        return Err(Fault::Stopped(Stop::NoMemory));
+    };
+    parse_with_signs(rt, alloc, command, grammar, &signs, input, out, gate)
+}
 
-    type Loaded = ParseLines;
-
-    ghost meaning = { λ p. parse_meaning p.grammar.now };
-
-    fn load<S: Shelf>(&self, alloc: Global, shelf: &mut S) -> Result<ParseLines, Fault> {
-        load(alloc, shelf, self.grammar)
-    }
+/// `parse`: loads the grammar, and answers all lines of the source. `Ok` tells whether a line was refused. The order is: the
+/// grammar, then line by line: read, answer, write.
+pub fn parse_lines<S: Shelf, I: Source, O: Sink, Rt: Threads + Wait + Sync>(
+    rt: &Rt,
+    alloc: Global,
+    command: &Parse<'_>,
+    shelf: &mut S,
+    input: &mut I,
+    out: &mut O,
+    gate: &dyn Gate,
+) -> Result<bool, Fault>
+    requires { InRange command.now.limits }
+    ensures { Ended (parse_meaning command.now.grammar.now (option_map (λ s. s.now) command.now.settings) (asked_with command.now.limits command.now.lattice)) (shelves S.files S.faults S.asked shelf.old shelf.new)
+        (streams I.left I.faults O.written O.flushed O.faults input.old input.new out.old out.new) (input.new ≡ input.old) ((input.new ≡ input.old) × (out.new ≡ out.old)) result }
+{
+    whole_book();
+    let grammar = load_grammar(alloc, shelf, command.grammar, command.settings)?;
+    parse_with(rt, alloc, command, &grammar, input, out, gate)
 }

@@ -1,10 +1,11 @@
 -- What the program does. A command is one case of `meaning_of`, and one of `is_built`.
-use Rattle.std.specs.Prelude.{◌≡◌, ◌++◌, ◌∷◌, [], ◌==◌, ◌&&◌, ℕ, List, Bool, true, false, not, is_some, codes}
-use Rattle.command_line.specs.Words.{Form, help, version, run, parse, types, expand, check, Options, IsForm}
+use Rattle.std.specs.Prelude.{◌≡◌, ◌++◌, ◌∷◌, [], ℕ, List, Bool, true, false, not, codes}
+use Rattle.command_line.specs.Words.{Form, help, version, run, parse, types, expand, check, Task, Options, IsForm, AreWithin}
 use Rattle.endings.specs.Meanings.{Meaning}
 use Rattle.endings.specs.Endings.{usage_line}
 use Rattle.endings.specs.PlainTexts.{plain_meaning}
 use Rattle.grammar_commands.specs.Commands.{types_meaning, expand_meaning, check_meaning}
+use Rattle.line_commands.specs.Answers.{Asked}
 use Rattle.line_commands.specs.Parsing.{parse_meaning}
 
 abbrev pub version_line : List ℕ
@@ -14,25 +15,25 @@ version_line = codes "lkb 0.1.0" ++ 10 ∷ []
 abbrev pub not_built : Meaning
 not_built = record { opens = false; reads = false; loadable = λ files. ⊥; first = λ files fails fault. ⊥; report = λ files lines pieces refused. ⊥ }
 
+-- what the options ask of a line that is parsed
+abbrev pub asked_of : Options → Asked
+asked_of o = record { limits = record { edges = o.edges; readings = o.readings; unary = o.unary }; lexical = o.lexical; lattice = o.lattice }
+
 -- what a form of the command line asks for
 abbrev pub meaning_of : Form → Meaning
 meaning_of help = plain_meaning usage_line
 meaning_of version = plain_meaning version_line
-meaning_of (run (parse grammar) options) = parse_meaning grammar
+meaning_of (run (parse grammar) options) = parse_meaning grammar options.settings (asked_of options)
 meaning_of (run (types grammar) options) = types_meaning grammar options.settings
 meaning_of (run (expand grammar entry) options) = expand_meaning grammar entry options.settings
 meaning_of (run (check grammar) options) = check_meaning grammar options.settings
 meaning_of (run task options) = not_built
 
--- the options are their defaults, but for the number of workers, which changes no report
-abbrev pub are_defaults : Options → Bool
-are_defaults o = (o.edges == 5000) && ((o.readings == 10000) && ((o.lexical == 7) && ((o.unary == 8) && ((o.empty == 4) && (not (is_some o.settings) && (not o.mrs && not o.lattice))))))
-
--- whether the program does this yet; `parse` heeds no option yet
+-- whether the program does this yet; `parse` writes no MRS yet
 abbrev pub is_built : Form → Bool
 is_built help = true
 is_built version = true
-is_built (run (parse grammar) options) = are_defaults options
+is_built (run (parse grammar) options) = not options.mrs
 is_built (run (types grammar) options) = true
 is_built (run (expand grammar entry) options) = true
 is_built (run (check grammar) options) = true
@@ -41,3 +42,7 @@ is_built (run task options) = false
 -- The words are of this form, and the program does what it asks for. Every other command is outside the form until it is there.
 abbrev pub HasForm : List (List ℕ) → Form → Type 0
 HasForm words form = IsForm words form × (is_built form ≡ true)
+
+-- the numbers that a form's options give are in their ranges
+abbrev pub IsInRange : Form → Type 0
+IsInRange form = (task : Task) (options : Options) → form ≡ run task options → AreWithin options

@@ -1,6 +1,8 @@
 //! What the words of the command line ask for, as a command. A command is one arm of `do_task`, and one of `is_built`.
 ghost use Rattle.std.specs.Prelude.{◌≡◌, IfOk, IfErr, map, string_bytes, true, false};
+ghost use Rattle.chart_core.specs.Kept.{InRange};
 ghost use Rattle.command_line.specs.Commands.{form, options_in};
+ghost use Rattle.command_line.specs.Words.{AreWithin};
 ghost use Rattle.command_line.specs.declared.reading.WordsFault.{WordsFault};
 ghost use Rattle.command_line.specs.declared.tasks.Command.{Command};
 ghost use Rattle.endings.specs.Meanings.{shelves};
@@ -8,17 +10,19 @@ ghost use Rattle.endings.specs.Reports.{streams};
 ghost use Rattle.endings.specs.Endings.{Ended};
 ghost use Rattle.endings.specs.declared.Fault.{Fault};
 ghost use Rattle.endings.specs.declared.Stop.{Stop};
-ghost use Rattle.top_call.specs.Commands.{HasForm, meaning_of, is_built, are_defaults, version_line};
+ghost use Rattle.line_commands.specs.Views.{asked_with};
+ghost use Rattle.top_call.specs.Commands.{HasForm, IsInRange, meaning_of, asked_of, is_built, version_line};
 ghost use Rattle.top_call.specs.Runs.{IsFormless};
 
 use crate::laws::built_lawful;
-use command_line::laws::one_form;
+use chart_core::Limits;
+use command_line::laws::{numbers_are_within, one_form};
 use command_line::{Command, Options, Task, WordsFault, command_of};
-use endings::commands::{answer_lines, write_whole};
+use endings::commands::write_whole;
 use endings::plain::Plain;
 use endings::{Fault, Stop, usage_text};
 use grammar_commands::{Check, Expand, Types};
-use line_commands::Parse;
+use line_commands::{Parse, parse_lines};
 use lkb_io::{Shelf, Sink, Source};
 use std::alloc::Global;
 use std::sync::Wait;
@@ -32,10 +36,11 @@ pub fn version_text() -> &'static [u8]
     b"lkb 0.1.0\n"
 }
 
-/// What the words ask for, as a command.
+/// What the words ask for, as a command. Its numbers are in their ranges.
 #[derive(Clone, Copy, Debug)]
 pub struct Asked<'a> {
     pub command: Command<'a>,
+    ghost within: { IsInRange (form command) },
 }
 
 impl endings::Command for Asked<'_> {
@@ -73,6 +78,21 @@ impl endings::Command for Asked<'_> {
     }
 }
 
+// The limits that the options set.
+fn limits_of(options: &Options) -> Limits
+    requires { AreWithin (options_in options.now) }
+    ensures range { InRange result }
+    ensures asked { asked_with result options.now.lattice ≡ asked_of (options_in options.now) }
+{
+    Limits {
+        edges: options.edges as u32,
+        readings: options.readings as u32,
+        lexical: options.lexical as u32,
+        unary: options.unary as u32,
+        empty: options.empty as u32,
+    }
+}
+
 // Does a task under these options. A command is one arm.
 fn do_task<S: Shelf, I: Source, O: Sink, Rt: Threads + Wait + Sync>(
     rt: &Rt,
@@ -84,6 +104,7 @@ fn do_task<S: Shelf, I: Source, O: Sink, Rt: Threads + Wait + Sync>(
     out: &mut O,
     gate: &dyn Gate,
 ) -> Result<bool, Fault>
+    requires { AreWithin (options_in options) }
     ensures ended { Ended (meaning_of (form (Command.Run task.entry options.entry))) (shelves S.files S.faults S.asked shelf.old shelf.new) (streams I.left I.faults O.written O.flushed O.faults input.old input.new out.old out.new)
         (input.new ≡ input.old) ((input.new ≡ input.old) × (out.new ≡ out.old)) result }
     ensures unopened { (meaning_of (form (Command.Run task.entry options.entry))).opens ≡ false → shelf.new ≡ shelf.old }
@@ -91,7 +112,13 @@ fn do_task<S: Shelf, I: Source, O: Sink, Rt: Threads + Wait + Sync>(
     let settings = options.settings;
     match task {
         Task::Parse(grammar) => {
-            answer_lines(rt, alloc, &Parse { grammar }, shelf, input, out, gate)
+            let command = Parse {
+                grammar,
+                settings,
+                limits: limits_of(&options),
+                lattice: options.lattice,
+            };
+            parse_lines(rt, alloc, &command, shelf, input, out, gate)
         }
         Task::Types(grammar) => {
             let command = Types { grammar, settings };
@@ -114,27 +141,13 @@ fn do_task<S: Shelf, I: Source, O: Sink, Rt: Threads + Wait + Sync>(
     }
 }
 
-// Whether the options are their defaults, but for the number of workers.
-fn are_defaults(options: &Options) -> bool
-    ensures { result ≡ are_defaults (options_in options.now) }
-{
-    options.edges == 5_000
-        && options.readings == 10_000
-        && options.lexical == 7
-        && options.unary == 8
-        && options.empty == 4
-        && options.settings.is_none()
-        && !options.mrs
-        && !options.lattice
-}
-
 // Whether the program does this yet.
 fn is_built(command: &Command) -> bool
     ensures { result ≡ is_built (form command.now) }
 {
     match command {
         Command::Help | Command::Version => true,
-        Command::Run(Task::Parse(_), options) => are_defaults(options),
+        Command::Run(Task::Parse(_), options) => !options.mrs,
         Command::Run(Task::Types(_), _)
         | Command::Run(Task::Expand(_, _), _)
         | Command::Run(Task::Check(_), _) => true,
@@ -148,6 +161,7 @@ pub fn asked_by(alloc: Global, words: &[String]) -> Result<Asked<'_>, WordsFault
     ensures usage { IfErr result (λ e. e ≡ WordsFault.Usage → IsFormless (map (λ w. string_bytes w) words.now)) }
 {
     one_form();
+    numbers_are_within();
     match command_of(alloc, words) {
         Err(fault) => Err(fault),
         Ok(command) => {

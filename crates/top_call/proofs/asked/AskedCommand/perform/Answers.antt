@@ -1,10 +1,14 @@
-use Rattle.std.proofs.Common.{◌≡◌}
+use Rattle.std.proofs.Common.{◌≡◌, ap}
+use Rattle.command_line.specs.Commands.{form, task, options_in}
 use Rattle.command_line.specs.declared.tasks.Command.{Command}
 use Rattle.command_line.specs.declared.tasks.Command.TheVariants.{Run}
 use Rattle.endings.specs.Meanings.{Shelves, shelves}
 use Rattle.endings.specs.Reports.{Streams, streams}
 use Rattle.top_call.proofs.Arms.{as-asked}
 use Rattle.top_call.proofs.asked.AskedCommand.perform.Goals as goal
+
+pub do_task-requires-after_bounds : goal.do_task-requires-after_bounds
+do_task-requires-after_bounds g c κs bound = c.args.self.now.within (task c.in-Run.task) (options_in c.in-Run.options) (ap form c.in-Run.is)
 
 pub returns-in-Run-clause-ended : goal.returns-in-Run-clause-ended
 returns-in-Run-clause-ended g c =

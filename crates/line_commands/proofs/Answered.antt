@@ -1,0 +1,33 @@
+-- The answer to a line, by its lines.
+use Rattle.std.proofs.Common.{◌≡◌, ℕ, List, [], ◌∷◌, Bool, true, Result, Ok, Err, IfOk, sym, subst}
+use Rattle.std.specs.Str.{chars, IsUtf8}
+use Rattle.item_model.specs.Items.{Answer}
+use Rattle.parse_items.specs.Answers.{IsParseAnswer}
+use Rattle.morph_analysis.specs.Lattices.{LatticeTree}
+use Rattle.morph_analysis.specs.LatticeLines.{IsFirstWrong}
+use Rattle.lexical_items.specs.Seen.{lattice_seen}
+use Rattle.item_reports.specs.Reports.{no_text_line, no_lattice_line, answer_lines, is_refused}
+use Rattle.line_commands.specs.Answers.{Speech, Asked, IsLatticeOf, IsAnswer, no_text, no_lattice, answered}
+
+pub if-ok : {T E : Type 0} (r : Result T E) (P Q : T → Type 0) → ((t : T) → P t → Q t) → IfOk r P → IfOk r Q
+if-ok (Ok t) P Q f p = f t p
+if-ok (Err e) P Q f p = tt
+
+pub if-both : {T E : Type 0} (r : Result T E) (P Q S : T → Type 0) → ((t : T) → P t → Q t → S t) → IfOk r P → IfOk r Q → IfOk r S
+if-both (Ok t) P Q S f p q = f t p q
+if-both (Err e) P Q S f p q = tt
+
+module _ (s : Speech) (asked : Asked) (number : ℕ) (line : List ℕ) where
+  moved : (own other : List (List ℕ)) (b c : Bool) → other ≡ own → c ≡ b → IsAnswer s asked number line own b → IsAnswer s asked number line other c
+  moved own other b c e f is = subst (λ d. IsAnswer s asked number line other d) (sym f) (subst (λ ls. IsAnswer s asked number line ls b) (sym e) is)
+
+  pub answered-with : (lattice : LatticeTree) (a : Answer) → IsUtf8 line → IsLatticeOf asked.lattice (chars line) lattice → IsParseAnswer s.signs s.words (lattice_seen lattice) asked.lexical asked.limits a
+      → (lines : List (List ℕ)) (refused : Bool) → lines ≡ answer_lines s.names asked.lattice number a → refused ≡ is_refused a → IsAnswer s asked number line lines refused
+  answered-with lattice a u k is lines refused e f = moved (answer_lines s.names asked.lattice number a) lines (is_refused a) refused e f (answered lattice a u k is)
+
+  pub wrong-with : (at : ℕ) → IsUtf8 line → asked.lattice ≡ true → IsFirstWrong (chars line) at
+      → (lines : List (List ℕ)) (refused : Bool) → lines ≡ no_lattice_line number at ∷ [] → refused ≡ true → IsAnswer s asked number line lines refused
+  wrong-with at u writes wrong lines refused e f = moved (no_lattice_line number at ∷ []) lines true refused e f (no_lattice at u writes wrong)
+
+  pub no-text-with : (IsUtf8 line → ⊥) → (lines : List (List ℕ)) (refused : Bool) → lines ≡ no_text_line number ∷ [] → refused ≡ true → IsAnswer s asked number line lines refused
+  no-text-with none lines refused e f = moved (no_text_line number ∷ []) lines true refused e f (no_text none)

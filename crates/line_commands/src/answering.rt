@@ -1,0 +1,118 @@
+//! The answers to lines.
+
+ghost use Rattle.std.specs.Prelude.{◌≡◌, length};
+ghost use Rattle.chart_core.specs.Kept.{InRange};
+ghost use Rattle.book_signs.specs.Trees.{signs_of};
+ghost use Rattle.line_commands.specs.Inner.Props.{list_props};
+ghost use Rattle.grammar_rules.specs.Lines.{AreShapesOf, HaveAll};
+
+use crate::NoMemory;
+use crate::lattices::lattice_of_line;
+use crate::reports::{report_of, report_of_no_lattice, report_of_no_text};
+use book_signs::SignBook;
+use chart_core::Limits;
+use endings::lines::Answers;
+use endings::pieces::Report;
+use fs_unify::Scratch;
+use grammar_rules::parse_words;
+use grammar_shapes::GrammarShapes;
+use lexicon::Lexicon;
+use morph_analysis::{Lattice, LatticeFault};
+use spelling_rules::Spelling;
+use std::alloc::Global;
+use std::sync::Wait;
+use std::thread::Threads;
+use worker_gate::Gate;
+
+/// What answers lines by the trees that a grammar licenses for them.
+#[derive(Drop)]
+pub(crate) struct Parser<'a> {
+    pub(crate) signs: &'a SignBook<'a>,
+    pub(crate) shapes: &'a GrammarShapes<'a>,
+    pub(crate) lexicon: &'a Lexicon,
+    pub(crate) spelling: &'a Spelling,
+    pub(crate) names: &'a [String],
+    pub(crate) limits: Limits,
+    // whether a line writes a lattice
+    pub(crate) lattice: bool,
+    ghost shapes_are: { AreShapesOf signs.now shapes.now },
+    ghost have: { HaveAll signs.now lexicon.now spelling.now } by { Prim.hlevel list_props },
+    ghost named: { length names.now ≡ length (signs_of signs.now).instances },
+    ghost in_range: { InRange limits },
+}
+
+impl Parser<'_> {
+    ghost use Rattle.std.specs.Prelude.{◌≡◌, ◌<◌, ◌^◌, length, map, IfOk};
+    ghost use Rattle.std.specs.Str.{chars, IsUtf8};
+    ghost use Rattle.morph_analysis.specs.Lattices.{IsValid};
+    ghost use Rattle.morph_analysis.specs.LatticeViews.{lattice_of};
+    ghost use Rattle.line_commands.specs.Answers.{IsAnswer};
+    ghost use Rattle.line_commands.specs.Inner.Parsers.{speech_of, asked_of, IsReportOf};
+
+    // The report on the lattice of the line of this number.
+    fn parsed(&self, alloc: Global, number: u64, lattice: &Lattice) -> Result<Report, NoMemory>
+        requires { IsValid (lattice_of lattice.now) }
+        ensures { IfOk result (λ r. IsReportOf self.now number (lattice_of lattice.now) (map (λ l. l.items) r.lines.items) r.refused) }
+    {
+        self.signs.laws();
+        let mut work = Scratch::new(alloc);
+        let answer = parse_words(
+            alloc,
+            &mut work,
+            self.signs,
+            self.shapes,
+            self.lexicon,
+            self.spelling,
+            lattice,
+            &self.limits,
+        )?;
+        report_of(alloc, number, &answer, self.names, self.lattice)
+    }
+
+    // The report on a line that is text.
+    fn text_report(&self, alloc: Global, number: u64, line: &str) -> Result<Report, NoMemory>
+        requires few { length line.now < 2 ^ 32 }
+        ensures { IfOk result (λ r. IsAnswer (speech_of self.now) (asked_of self.now) number line.now (map (λ l. l.items) r.lines.items) r.refused) }
+    {
+        match lattice_of_line(alloc, line, self.lattice) {
+            Ok(lattice) => self.parsed(alloc, number, &lattice),
+            Err(LatticeFault::At { at }) => report_of_no_lattice(alloc, number, at),
+            Err(LatticeFault::NoMemory) => Err(NoMemory),
+        }
+    }
+
+    /// The report on the line of this number. A line that is longer than a `u32` can say counts as want of memory; no line of the
+    /// program is.
+    pub(crate) fn report(&self, alloc: Global, number: u64, line: &[u8]) -> Result<Report, NoMemory>
+        ensures { IfOk result (λ r. IsAnswer (speech_of self.now) (asked_of self.now) number line.now (map (λ l. l.items) r.lines.items) r.refused) }
+    {
+        if line.len() > u32::MAX as usize {
+            return Err(NoMemory);
+        }
+        match str::from_utf8(line) {
+            Ok(text) => self.text_report(alloc, number, text),
+            Err(_) => report_of_no_text(alloc, number),
+        }
+    }
+}
+
+impl Answers for Parser<'_> {
+    ghost use Rattle.line_commands.specs.Answers.{IsAnswer};
+    ghost use Rattle.line_commands.specs.Inner.Parsers.{speech_of, asked_of};
+
+    ghost IsAnswer = { λ p. IsAnswer (speech_of p) (asked_of p) };
+
+    fn answer<Rt: Threads + Wait + Sync>(
+        &self,
+        _rt: &Rt,
+        alloc: Global,
+        number: u64,
+        line: &[u8],
+        _gate: &dyn Gate,
+    ) -> Result<Report, endings::lines::NoMemory> {
+        match self.report(alloc, number, line) {
+            Ok(report) => Ok(report),
+            Err(_) => Err(endings::lines::NoMemory),
+        }
+    }
+}

@@ -1,0 +1,84 @@
+//! The report lines of an answer.
+
+ghost use Rattle.std.specs.Prelude.{◌≡◌, ◌∷◌, [], true, length, map, IfOk, string_bytes};
+ghost use Rattle.grammar_rules.specs.Views.{item_answer};
+ghost use Rattle.item_reports.specs.Reports.{no_text_line, no_lattice_line, answer_lines, is_refused};
+ghost use Rattle.line_commands.specs.Inner.Named.{AreNamed};
+
+use crate::NoMemory;
+use endings::pieces::Report;
+use grammar_rules::ItemAnswer;
+use item_reports::{lines_of_no_lattice, lines_of_no_text, lines_of_refusal, lines_of_trees};
+use std::alloc::Global;
+
+// The lines of an answer.
+fn answer_lines(
+    alloc: Global,
+    number: u64,
+    answer: &ItemAnswer,
+    names: &[String],
+    nodes: bool,
+) -> Result<Vec<Vec<u8>>, word_lists::NoMemory>
+    requires { AreNamed (length names.now) (item_answer answer.now) }
+    ensures { IfOk result (λ lines. map (λ l. l.items) lines.items ≡ answer_lines (map string_bytes names.now) nodes number (item_answer answer.now)) }
+{
+    match answer {
+        ItemAnswer::LexicalDepth => lines_of_refusal(alloc, number, "lexical-depth"),
+        ItemAnswer::UnaryChain => lines_of_refusal(alloc, number, "unary-chain"),
+        ItemAnswer::Edges => lines_of_refusal(alloc, number, "edges"),
+        ItemAnswer::Readings => lines_of_refusal(alloc, number, "readings"),
+        ItemAnswer::Trees { classes, trees } => {
+            lines_of_trees(alloc, number, *classes, trees, names, nodes)
+        }
+    }
+}
+
+// Whether an answer is a limit that is broken.
+fn is_refused(answer: &ItemAnswer) -> bool
+    ensures { result ≡ is_refused (item_answer answer.now) }
+{
+    match answer {
+        ItemAnswer::Trees { .. } => false,
+        _ => true,
+    }
+}
+
+/// What is written of an answer to the line of this number, with the nodes of lexical trees where they are asked for.
+pub(crate) fn report_of(
+    alloc: Global,
+    number: u64,
+    answer: &ItemAnswer,
+    names: &[String],
+    nodes: bool,
+) -> Result<Report, NoMemory>
+    requires { AreNamed (length names.now) (item_answer answer.now) }
+    ensures lines { IfOk result (λ r. map (λ l. l.items) r.lines.items ≡ answer_lines (map string_bytes names.now) nodes number (item_answer answer.now)) }
+    ensures refused { IfOk result (λ r. r.refused ≡ is_refused (item_answer answer.now)) }
+{
+    Ok(Report {
+        lines: answer_lines(alloc, number, answer, names, nodes)?,
+        refused: is_refused(answer),
+    })
+}
+
+/// What is written of a line that isn't UTF-8.
+pub(crate) fn report_of_no_text(alloc: Global, number: u64) -> Result<Report, NoMemory>
+    ensures lines { IfOk result (λ r. map (λ l. l.items) r.lines.items ≡ no_text_line number ∷ []) }
+    ensures refused { IfOk result (λ r. r.refused ≡ true) }
+{
+    Ok(Report {
+        lines: lines_of_no_text(alloc, number)?,
+        refused: true,
+    })
+}
+
+/// What is written of a line whose first item that writes no step begins at this byte.
+pub(crate) fn report_of_no_lattice(alloc: Global, number: u64, at: u32) -> Result<Report, NoMemory>
+    ensures lines { IfOk result (λ r. map (λ l. l.items) r.lines.items ≡ no_lattice_line number at ∷ []) }
+    ensures refused { IfOk result (λ r. r.refused ≡ true) }
+{
+    Ok(Report {
+        lines: lines_of_no_lattice(alloc, number, at)?,
+        refused: true,
+    })
+}
