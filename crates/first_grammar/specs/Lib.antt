@@ -1,6 +1,0 @@
-pub mod Grammar
-pub mod File
-pub mod Reading
-pub mod Statements
-pub mod Resolving
-pub mod Kept
