@@ -1,13 +1,13 @@
 -- What calls add to lists.
-use Rattle.std.proofs.Common.{ℕ, ◌≡◌, inl, inr, List, [], ◌∷◌, ◌++◌, refl, sym, ◌∙◌, ap, subst}
+use Rattle.std.proofs.Common.{ℕ, ◌≡◌, ◌⊎◌, inl, inr, List, [], ◌∷◌, ◌++◌, refl, sym, ◌∙◌, ap, subst}
 use Rattle.word_lists.specs.Words.{Word, Has}
 use Rattle.morph_analysis.proofs.Lists.{Has-left, Has-right, Has-snoc}
-use Rattle.morph_analysis.specs.Allowed.{FeedsTree}
 use Rattle.morph_analysis.specs.Chains.{ChainTree}
+use Rattle.morph_analysis.specs.Made.{MadeTree}
 use Rattle.morph_analysis.specs.Lattices.{StepTree, AreFronts}
 use Rattle.morph_analysis.specs.Spelled.{NodeTree, IsSpelled}
 use Rattle.morph_analysis.specs.Inner.Adding.{AddsThose, OfSome, IsOf, OfGroup, OfWords}
-use Rattle.morph_analysis.specs.Inner.Routes.{AreRoutes, AreWithin, IsRouteOf}
+use Rattle.morph_analysis.specs.Inner.Routes.{AreWithin, IsEnded, IsRouteOf}
 use Rattle.spelling_rules.specs.Trees.{SpellingTree}
 use Rattle.lexicon.specs.Groups.{GroupTree}
 
@@ -26,6 +26,14 @@ adds_like P Q xs ys f g a = record {
   kept = a.kept;
   added = λ x q. a.added x (g x q);
   only = λ x h. elim (a.only x h) [ inl k ↦ inl k | inr p ↦ inr (f x p) ];
+}
+
+-- two calls add what the one and what the other adds
+pub adds_both : {X : Type 0} (P Q R : X → Type 0) (xs ys zs : List X) → ((x : X) → R x → P x ⊎ Q x) → ((x : X) → P x → R x) → ((x : X) → Q x → R x) → AddsThose P xs ys → AddsThose Q ys zs → AddsThose R xs zs
+adds_both P Q R xs ys zs split left right a b = record {
+  kept = λ x h. b.kept x (a.kept x h);
+  added = λ x r. elim (split x r) [ inl p ↦ b.kept x (a.added x p) | inr q ↦ b.added x q ];
+  only = λ x h. elim (b.only x h) [ inl k ↦ (elim (a.only x k) [ inl m ↦ inl m | inr p ↦ inr (left x p) ]) | inr q ↦ inr (right x q) ];
 }
 
 -- one more element of a list has added what it adds
@@ -52,38 +60,45 @@ chain_same c d f t e r w =
     ∙ ap (λ v. let k : ChainTree = record { entry = d.entry; rules = v; words = c.words; from = d.from; to = d.to } in k) r
     ∙ ap (λ v. let k : ChainTree = record { entry = d.entry; rules = d.rules; words = v; from = d.from; to = d.to } in k) w
 
-pub one_chain : (entry : ℕ) (rules : List ℕ) (words : List Word) (from to : ℕ) (chain : ChainTree) (xs ys : List ChainTree) → ys ≡ xs ++ chain ∷ []
-    → chain ≡ record { entry = entry; rules = rules; words = words; from = from; to = to } → AddsThose (IsOf (λ e. e ≡ entry) (λ e r. r ≡ rules) (λ m. m ≡ from) words to) xs ys
-one_chain entry rules words from to chain xs ys e is =
-    adds_one (IsOf (λ e. e ≡ entry) (λ e r. r ≡ rules) (λ m. m ≡ from) words to) xs ys (record { entry = entry; rules = rules; words = words; from = from; to = to }) (e ∙ ap (λ c. xs ++ c ∷ []) is)
-    (record { entry = refl; rules = refl; from = refl; words_are = refl; to_is = refl })
-    (λ y p. chain_same y (record { entry = entry; rules = rules; words = words; from = from; to = to }) p.from p.to_is p.entry p.rules p.words_are)
+-- one chain with what is made of it, where only one thing is
+pub one_ended : {V : Type 0} (A : ℕ → List ℕ → V → Type 0) (one : (entry : ℕ) (rules : List ℕ) (v w : V) → A entry rules v → A entry rules w → v ≡ w) (entry node : ℕ) (rules : List ℕ) (v : V) (words : List Word) (from to : ℕ) (x : MadeTree V) (xs ys : List (MadeTree V))
+    → ys ≡ xs ++ x ∷ [] → x ≡ record { chain = record { entry = entry; rules = rules; words = words; from = from; to = to }; value = v } → node ≡ 0 → A entry rules v → AddsThose (IsOf (λ e. e ≡ entry) (IsEnded A rules node) (λ m. m ≡ from) words to) xs ys
+one_ended {V} A one entry node rules v words from to x xs ys e is zero a =
+    adds_one (IsOf (λ e. e ≡ entry) (IsEnded A rules node) (λ m. m ≡ from) words to) xs ys this (e ∙ ap (λ c. xs ++ c ∷ []) is)
+    (record { entry = refl; rules = record { there = zero; is = refl; made = a }; from = refl; words_are = refl; to_is = refl })
+    same
+  where
+    this : MadeTree V
+    this = record { chain = record { entry = entry; rules = rules; words = words; from = from; to = to }; value = v }
 
--- the loops over first nodes, rules and entries
-pub of_froms : (E : ℕ → Type 0) (R : ℕ → List ℕ → Type 0) (froms : List ℕ) (words : List Word) (to : ℕ) (xs ys : List ChainTree)
+    same : (y : MadeTree V) → IsOf (λ e. e ≡ entry) (IsEnded A rules node) (λ m. m ≡ from) words to y → y ≡ this
+    same y p =
+        let chain : y.chain ≡ this.chain = chain_same y.chain this.chain p.from p.to_is p.entry p.rules.is p.words_are in
+        let made : A entry rules y.value = subst (λ r. A entry r y.value) p.rules.is (subst (λ n. A n y.chain.rules y.value) p.entry p.rules.made) in
+        let value : y.value ≡ v = one entry rules y.value v made a in
+        λ i. record { chain = chain i; value = value i }
+
+pub not_ended : {V : Type 0} (A : ℕ → List ℕ → V → Type 0) (entry node : ℕ) (rules : List ℕ) (words : List Word) (from to : ℕ) (xs : List (MadeTree V)) → (node ≡ 0 → ⊥) → AddsThose (IsOf (λ e. e ≡ entry) (IsEnded A rules node) (λ m. m ≡ from) words to) xs xs
+not_ended A entry node rules words from to xs far = adds_none (IsOf (λ e. e ≡ entry) (IsEnded A rules node) (λ m. m ≡ from) words to) xs (λ c p. far p.rules.there)
+
+-- the loops over first nodes and entries
+pub of_froms : {V : Type 0} (E : ℕ → Type 0) (R : ℕ → List ℕ → V → Type 0) (froms : List ℕ) (words : List Word) (to : ℕ) (xs ys : List (MadeTree V))
     → AddsThose (OfSome (λ m. IsOf E R (λ k. k ≡ m) words to) froms) xs ys → AddsThose (IsOf E R (λ k. Has k froms) words to) xs ys
 of_froms E R froms words to xs ys a =
     adds_like (OfSome (λ m. IsOf E R (λ k. k ≡ m) words to) froms) (IsOf E R (λ k. Has k froms) words to) xs ys
     (λ c o. record { entry = o.2.entry; rules = o.2.rules; from = subst (λ m. Has m froms) (sym o.2.from) o.1; words_are = o.2.words_are; to_is = o.2.to_is })
-    (λ c p. (c.from, p.from, record { entry = p.entry; rules = p.rules; from = refl; words_are = p.words_are; to_is = p.to_is })) a
+    (λ c p. (c.chain.from, p.from, record { entry = p.entry; rules = p.rules; from = refl; words_are = p.words_are; to_is = p.to_is })) a
 
-pub of_routes : (nodes : List NodeTree) (f : FeedsTree) (entry start depth : ℕ) (routes : List (List ℕ)) (F : ℕ → Type 0) (words : List Word) (to : ℕ) (xs ys : List ChainTree) → AreRoutes nodes f entry start depth routes
-    → AddsThose (OfSome (λ q. IsOf (λ e. e ≡ entry) (λ e r. r ≡ q) F words to) routes) xs ys → AddsThose (IsOf (λ e. e ≡ entry) (IsRouteOf nodes f depth start) F words to) xs ys
-of_routes nodes f entry start depth routes F words to xs ys are a =
-    adds_like (OfSome (λ q. IsOf (λ e. e ≡ entry) (λ e r. r ≡ q) F words to) routes) (IsOf (λ e. e ≡ entry) (IsRouteOf nodes f depth start) F words to) xs ys
-    (λ c o. record { entry = o.2.entry; rules = subst (λ e. IsRouteOf nodes f depth start e c.rules) (sym o.2.entry) (are.have c.rules (subst (λ q. Has q routes) (sym o.2.rules) o.1)); from = o.2.from; words_are = o.2.words_are; to_is = o.2.to_is })
-    (λ c p. (c.rules, are.all c.rules (subst (λ e. IsRouteOf nodes f depth start e c.rules) p.entry p.rules), record { entry = p.entry; rules = refl; from = p.from; words_are = p.words_are; to_is = p.to_is })) a
+pub of_entries : {V : Type 0} (nodes : List NodeTree) (A : ℕ → List ℕ → V → Type 0) (depth : ℕ) (steps : List StepTree) (s : StepTree) (n : ℕ) (front words : List Word) (entries froms : List ℕ) (xs ys : List (MadeTree V)) → AreFronts steps front s.from froms
+    → words ≡ front ++ s.word ∷ [] → AddsThose (OfSome (λ a. IsOf (λ e. e ≡ a) (IsRouteOf nodes A depth n) (λ m. Has m froms) words s.to) entries) xs ys → AddsThose (OfGroup nodes A depth steps s n front (λ e. Has e entries)) xs ys
+of_entries nodes A depth steps s n front words entries froms xs ys are w a =
+    adds_like (OfSome (λ a. IsOf (λ e. e ≡ a) (IsRouteOf nodes A depth n) (λ m. Has m froms) words s.to) entries) (OfGroup nodes A depth steps s n front (λ e. Has e entries)) xs ys
+    (λ c o. record { entry = subst (λ e. Has e entries) (sym o.2.entry) o.1; rules = o.2.rules; from = are.have c.chain.from o.2.from; words_are = o.2.words_are ∙ w; to_is = o.2.to_is })
+    (λ c p. (c.chain.entry, p.entry, record { entry = refl; rules = p.rules; from = are.all c.chain.from p.from; words_are = p.words_are ∙ sym w; to_is = p.to_is })) a
 
-pub of_entries : (nodes : List NodeTree) (f : FeedsTree) (depth : ℕ) (steps : List StepTree) (s : StepTree) (n : ℕ) (front words : List Word) (entries froms : List ℕ) (xs ys : List ChainTree) → AreFronts steps front s.from froms
-    → words ≡ front ++ s.word ∷ [] → AddsThose (OfSome (λ a. IsOf (λ e. e ≡ a) (IsRouteOf nodes f depth n) (λ m. Has m froms) words s.to) entries) xs ys → AddsThose (OfGroup nodes f depth steps s n front (λ e. Has e entries)) xs ys
-of_entries nodes f depth steps s n front words entries froms xs ys are w a =
-    adds_like (OfSome (λ a. IsOf (λ e. e ≡ a) (IsRouteOf nodes f depth n) (λ m. Has m froms) words s.to) entries) (OfGroup nodes f depth steps s n front (λ e. Has e entries)) xs ys
-    (λ c o. record { entry = subst (λ e. Has e entries) (sym o.2.entry) o.1; rules = o.2.rules; from = are.have c.from o.2.from; words_are = o.2.words_are ∙ w; to_is = o.2.to_is })
-    (λ c p. (c.entry, p.entry, record { entry = refl; rules = p.rules; from = are.all c.from p.from; words_are = p.words_are ∙ sym w; to_is = p.to_is })) a
-
-pub no_fronts : (nodes : List NodeTree) (f : FeedsTree) (depth : ℕ) (steps : List StepTree) (s : StepTree) (n : ℕ) (front : List Word) (E : ℕ → Type 0) (froms : List ℕ) (xs : List ChainTree) → AreFronts steps front s.from froms → froms ≡ []
-    → AddsThose (OfGroup nodes f depth steps s n front E) xs xs
-no_fronts nodes f depth steps s n front E froms xs are e = adds_none (OfGroup nodes f depth steps s n front E) xs (λ c p. absurd (subst (Has c.from) e (are.all c.from p.from)))
+pub no_fronts : {V : Type 0} (nodes : List NodeTree) (A : ℕ → List ℕ → V → Type 0) (depth : ℕ) (steps : List StepTree) (s : StepTree) (n : ℕ) (front : List Word) (E : ℕ → Type 0) (froms : List ℕ) (xs : List (MadeTree V)) → AreFronts steps front s.from froms → froms ≡ []
+    → AddsThose (OfGroup nodes A depth steps s n front E) xs xs
+no_fronts nodes A depth steps s n front E froms xs are e = adds_none (OfGroup nodes A depth steps s n front E) xs (λ c p. absurd (subst (Has c.chain.from) e (are.all c.chain.from p.from)))
 
 -- the words of a group
 snoc_same : (a b : List Word) (x y : Word) → a ++ x ∷ [] ≡ b ++ y ∷ [] → (a ≡ b) × (x ≡ y)
@@ -104,15 +119,15 @@ snoc_same (c ∷ cs) (d ∷ ds) x y e =
     let r = snoc_same cs ds x y t in
     (ap (λ z. z ∷ cs) h ∙ ap (λ l. d ∷ l) r.0, r.1)
 
-pub of_words : (nodes : List NodeTree) (f : FeedsTree) (depth : ℕ) (steps : List StepTree) (s : StepTree) (n : ℕ) (g : GroupTree) (front : List Word) (last : Word) (xs ys : List ChainTree) → g.words ≡ front ++ last ∷ []
-    → AddsThose (OfGroup nodes f depth steps s n front (λ e. Has e g.entries)) xs ys → AddsThose (OfWords nodes f depth steps s n g) xs ys
-of_words nodes f depth steps s n g front last xs ys e a =
-    adds_like (OfGroup nodes f depth steps s n front (λ e. Has e g.entries)) (OfWords nodes f depth steps s n g) xs ys
+pub of_words : {V : Type 0} (nodes : List NodeTree) (A : ℕ → List ℕ → V → Type 0) (depth : ℕ) (steps : List StepTree) (s : StepTree) (n : ℕ) (g : GroupTree) (front : List Word) (last : Word) (xs ys : List (MadeTree V)) → g.words ≡ front ++ last ∷ []
+    → AddsThose (OfGroup nodes A depth steps s n front (λ e. Has e g.entries)) xs ys → AddsThose (OfWords nodes A depth steps s n g) xs ys
+of_words nodes A depth steps s n g front last xs ys e a =
+    adds_like (OfGroup nodes A depth steps s n front (λ e. Has e g.entries)) (OfWords nodes A depth steps s n g) xs ys
     (λ c o. record { front = front; last = last; split = e; rest = o })
-    (λ c p. subst (λ l. OfGroup nodes f depth steps s n l (λ e. Has e g.entries) c) ((snoc_same p.front front p.last last (sym p.split ∙ e)).0) p.rest) a
+    (λ c p. subst (λ l. OfGroup nodes A depth steps s n l (λ e. Has e g.entries) c) ((snoc_same p.front front p.last last (sym p.split ∙ e)).0) p.rest) a
 
-pub no_words : (nodes : List NodeTree) (f : FeedsTree) (depth : ℕ) (steps : List StepTree) (s : StepTree) (n : ℕ) (g : GroupTree) (xs : List ChainTree) → g.words ≡ [] → AddsThose (OfWords nodes f depth steps s n g) xs xs
-no_words nodes f depth steps s n g xs e = adds_none (OfWords nodes f depth steps s n g) xs (λ c p. none p.front p.last (sym e ∙ p.split))
+pub no_words : {V : Type 0} (nodes : List NodeTree) (A : ℕ → List ℕ → V → Type 0) (depth : ℕ) (steps : List StepTree) (s : StepTree) (n : ℕ) (g : GroupTree) (xs : List (MadeTree V)) → g.words ≡ [] → AddsThose (OfWords nodes A depth steps s n g) xs xs
+no_words nodes A depth steps s n g xs e = adds_none (OfWords nodes A depth steps s n g) xs (λ c p. none p.front p.last (sym e ∙ p.split))
   where
     none : (front : List Word) (last : Word) → [] ≡ front ++ last ∷ [] → ⊥
     none [] last q = cc

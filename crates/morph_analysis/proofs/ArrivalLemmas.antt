@@ -13,7 +13,7 @@ use Rattle.std.proofs.lemmas.List.Sorted.{Contains-permutation, IsPermutation-sy
 use Rattle.std.proofs.lemmas.List.{get_or-take, length-take}
 use Rattle.word_lists.specs.Words.{Word, Has}
 use Rattle.morph_analysis.proofs.Lists.{true_not_false, Has-map, Has-left, Has-right, Has-next, map_take_next}
-use Rattle.morph_analysis.proofs.RouteLemmas.{has_map}
+use Rattle.morph_analysis.proofs.Lists.{has_map}
 use Rattle.morph_analysis.proofs.AddLemmas.{adds_one, adds_none, adds_like}
 use Rattle.morph_analysis.proofs.NodeLemmas.{cases_le}
 use Rattle.morph_analysis.specs.declared.lattice.Step.{Step}

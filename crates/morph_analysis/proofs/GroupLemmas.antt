@@ -5,10 +5,10 @@ use Rattle.word_lists.specs.Words.{Word, Has}
 use Rattle.lexicon.specs.Entries.{EntryTree, same_words, with_words, last_word}
 use Rattle.lexicon.specs.Groups.{GroupTree, found, AreApart, AreGroupsOf}
 use Rattle.morph_analysis.proofs.Lists.{bools, true_not_false, Each-at, Has-map}
-use Rattle.morph_analysis.proofs.RouteLemmas.{filter_has, has_filter, has_map}
+use Rattle.morph_analysis.proofs.Lists.{filter_has, has_filter, has_map}
 use Rattle.morph_analysis.proofs.AddLemmas.{adds_like}
-use Rattle.morph_analysis.specs.Allowed.{FeedsTree}
-use Rattle.morph_analysis.specs.Chains.{ChainTree, HaveWords}
+use Rattle.morph_analysis.specs.Chains.{HaveWords}
+use Rattle.morph_analysis.specs.Made.{MadeTree}
 use Rattle.morph_analysis.specs.Lattices.{StepTree}
 use Rattle.morph_analysis.specs.Spelled.{NodeTree, node_at}
 use Rattle.morph_analysis.specs.Inner.Adding.{AddsThose, OfSome, OfWords, OfNode}
@@ -61,28 +61,28 @@ last_snoc (x ∷ []) last = refl
 last_snoc (x ∷ y ∷ ys) last = last_snoc (y ∷ ys) last
 
 -- the chains of the groups of a node's word are those of entries that end with it
-pub of_node : (lexicon : List EntryTree) (nodes : List NodeTree) (f : FeedsTree) (depth : ℕ) (steps : List StepTree) (s : StepTree) (n : ℕ) (groups : List GroupTree) (xs ys : List ChainTree) → AreGroupsOf lexicon (node_at nodes n).word groups
-    → AddsThose (OfSome (OfWords nodes f depth steps s n) groups) xs ys → AddsThose (OfNode lexicon nodes f depth steps s n) xs ys
-of_node lexicon nodes f depth steps s n groups xs ys are a = adds_like (OfSome (OfWords nodes f depth steps s n) groups) (OfNode lexicon nodes f depth steps s n) xs ys there back a
+pub of_node : {V : Type 0} (lexicon : List EntryTree) (nodes : List NodeTree) (A : ℕ → List ℕ → V → Type 0) (depth : ℕ) (steps : List StepTree) (s : StepTree) (n : ℕ) (groups : List GroupTree) (xs ys : List (MadeTree V)) → AreGroupsOf lexicon (node_at nodes n).word groups
+    → AddsThose (OfSome (OfWords nodes A depth steps s n) groups) xs ys → AddsThose (OfNode lexicon nodes A depth steps s n) xs ys
+of_node {V} lexicon nodes A depth steps s n groups xs ys are a = adds_like (OfSome (OfWords nodes A depth steps s n) groups) (OfNode lexicon nodes A depth steps s n) xs ys there back a
   where
-    there : (c : ChainTree) → OfSome (OfWords nodes f depth steps s n) groups c → OfNode lexicon nodes f depth steps s n c
+    there : (c : MadeTree V) → OfSome (OfWords nodes A depth steps s n) groups c → OfNode lexicon nodes A depth steps s n c
     there c o =
         let g = o.0 in
         let w = o.2 in
         let last : last_word g.words ≡ (node_at nodes n).word = Each-at (λ g. last_word g.words ≡ (node_at nodes n).word) g groups are.only o.1 in
         let is : w.last ≡ (node_at nodes n).word = sym (last_snoc w.front w.last) ∙ ap last_word (sym w.split) ∙ last in
-        let h : Has c.entry (with_words lexicon g.words) = subst (Has c.entry) (are.all g.words last) (has_found groups g c.entry are.apart o.1 w.rest.entry) in
+        let h : Has c.chain.entry (with_words lexicon g.words) = subst (Has c.chain.entry) (are.all g.words last) (has_found groups g c.chain.entry are.apart o.1 w.rest.entry) in
         record {
           front = w.front;
-          entry = subst (λ l. Has (record { number = c.entry; words = l }) lexicon) (w.split ∙ ap (λ x. w.front ++ x ∷ []) is) (entry_has lexicon g.words c.entry h);
+          entry = subst (λ l. Has (record { number = c.chain.entry; words = l }) lexicon) (w.split ∙ ap (λ x. w.front ++ x ∷ []) is) (entry_has lexicon g.words c.chain.entry h);
           rest = record { entry = refl; rules = w.rest.rules; from = w.rest.from; words_are = w.rest.words_are; to_is = w.rest.to_is };
         }
 
-    back : (c : ChainTree) → OfNode lexicon nodes f depth steps s n c → OfSome (OfWords nodes f depth steps s n) groups c
+    back : (c : MadeTree V) → OfNode lexicon nodes A depth steps s n c → OfSome (OfWords nodes A depth steps s n) groups c
     back c o =
         let words : List Word = o.front ++ (node_at nodes n).word ∷ [] in
-        let h : Has c.entry (found groups words) = subst (Has c.entry) (sym (are.all words (last_snoc o.front (node_at nodes n).word))) (has_entry lexicon words c.entry o.entry) in
-        let g = found_has groups words c.entry h in
+        let h : Has c.chain.entry (found groups words) = subst (Has c.chain.entry) (sym (are.all words (last_snoc o.front (node_at nodes n).word))) (has_entry lexicon words c.chain.entry o.entry) in
+        let g = found_has groups words c.chain.entry h in
         (g.0, g.1, record { front = o.front; last = (node_at nodes n).word; split = g.2; rest = record { entry = g.3; rules = o.rest.rules; from = o.rest.from; words_are = o.rest.words_are; to_is = o.rest.to_is } })
 
 -- where no entry has no words, each has one

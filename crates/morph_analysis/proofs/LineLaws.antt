@@ -1,13 +1,13 @@
 -- A line has one reading.
-use Rattle.std.proofs.Common.{ℕ, ◌≡◌, ◌<◌, ◌≤◌, ◌+◌, ◌⊎◌, inl, inr, Bool, true, false, List, [], ◌∷◌, ◌++◌, length, refl, sym, ◌∙◌, ap, subst, arith, length-append}
+use Rattle.std.proofs.Common.{ℕ, ◌≡◌, ◌<◌, ◌≤◌, ◌+◌, inl, inr, false, List, [], ◌∷◌, ◌++◌, length, refl, sym, ◌∙◌, ap, subst, arith, length-append}
 use Rattle.std.specs.Prelude.{encode_utf8_all}
 use Rattle.std.specs.Char.{is_whitespace}
 use Rattle.caseless.specs.Caseless.{default_case_fold}
-use Rattle.word_lists.specs.Words.{Has, Each}
+use Rattle.word_lists.specs.Words.{Each}
 use Rattle.morph_analysis.proofs.Lists.{true_not_false}
 use Rattle.morph_analysis.proofs.LineLemmas.{split_unique, plain}
 use Rattle.morph_analysis.specs.Lattices.{StepTree, LatticeTree}
-use Rattle.morph_analysis.specs.LatticeLines.{value_of, IsNumber, Writes, ItemTree, StopsBefore, Items, ends, blank, item, once, AllWrite, no_more, one_more, IsEnd, IsLineOf, IsFirstWrong}
+use Rattle.morph_analysis.specs.LatticeLines.{value_of, Writes, ItemTree, StopsBefore, Items, ends, blank, item, once, AllWrite, no_more, one_more, IsEnd, IsLineOf, IsFirstWrong}
 
 run_one : (run rest run2 rest2 : List ℕ) → run ++ rest ≡ run2 ++ rest2 → Each (λ c. is_whitespace c ≡ false) run → Each (λ c. is_whitespace c ≡ false) run2 → StopsBefore rest → StopsBefore rest2 → (run ≡ run2) × (rest ≡ rest2)
 run_one [] rest [] rest2 e p q s t = (refl, e)

@@ -1,5 +1,5 @@
 -- Lines that write a lattice.
-use Rattle.std.proofs.Common.{ℕ, zero, suc, ◌≡◌, ◌<◌, ◌≤◌, ◌+◌, ◌*◌, ◌-◌, ◌⊎◌, ◌==◌, ◌&&◌, ◌||◌, inl, inr, not, Bool, true, false, cond, max, List, [], ◌∷◌, ◌++◌, length, map, filter, take, drop, get_or, refl, sym, ◌∙◌, ap, subst, arith, length-append}
+use Rattle.std.proofs.Common.{ℕ, zero, suc, ◌≡◌, ◌<◌, ◌≤◌, ◌+◌, ◌*◌, ◌-◌, ◌⊎◌, ◌==◌, ◌&&◌, ◌||◌, inl, inr, not, Bool, true, false, cond, List, [], ◌∷◌, ◌++◌, length, map, filter, take, drop, get_or, refl, sym, ◌∙◌, ap, subst, arith, length-append}
 use mathlib.Core.Bool.{beq}
 use Rattle.std.specs.Prelude.{encode_utf8_all}
 use Rattle.std.specs.Char.{is_whitespace, is_ascii_digit, encode_utf8}
@@ -10,9 +10,9 @@ use Rattle.std.proofs.lemmas.List.{map-append, append_assoc, append-nil, take-ap
 use Rattle.std.proofs.lemmas.Slice.Eq.{bytes_eq-Decides}
 use Rattle.std.proofs.lemmas.Bool.Decides.{Decides-eqb, Decides-and}
 use Rattle.caseless.specs.Caseless.{default_case_fold}
-use Rattle.word_lists.specs.Words.{Word, Has, Each}
-use Rattle.morph_analysis.proofs.Lists.{bools, true_not_false, Each-at, Has-left, Has-right, Has-either, Has-snoc, take_next, map_take_next, all_taken}
-use Rattle.morph_analysis.proofs.RouteLemmas.{filter_has, has_filter}
+use Rattle.word_lists.specs.Words.{Has, Each}
+use Rattle.morph_analysis.proofs.Lists.{bools, true_not_false, Each-at, Has-left, Has-right, Has-snoc, take_next, map_take_next, all_taken}
+use Rattle.morph_analysis.proofs.Lists.{filter_has, has_filter}
 use Rattle.morph_analysis.specs.Lattices.{StepTree, LatticeTree, IsValid}
 use Rattle.morph_analysis.specs.declared.lattice.Step.{Step}
 use Rattle.morph_analysis.specs.LatticeViews.{step_of}

@@ -1,5 +1,5 @@
 -- Lists, and what they have.
-use Rattle.std.proofs.Common.{ℕ, zero, suc, ◌≡◌, ◌<◌, ◌≤◌, ◌+◌, ◌⊎◌, inl, inr, Bool, true, false, ◌||◌, ◌==◌, List, [], ◌∷◌, ◌++◌, length, map, take, drop, get_or, refl, sym, ◌∙◌, ap, subst, arith}
+use Rattle.std.proofs.Common.{ℕ, zero, suc, ◌≡◌, ◌<◌, ◌≤◌, ◌+◌, ◌⊎◌, inl, inr, Bool, true, false, cond, ◌||◌, ◌==◌, List, [], ◌∷◌, ◌++◌, length, map, filter, take, drop, get_or, refl, sym, ◌∙◌, ap, subst, arith}
 use Rattle.std.specs.List.{flat_map, list_any}
 use Rattle.std.proofs.lemmas.Bool.Decides.{Decides-eqb}
 use Rattle.std.proofs.lemmas.List.{take_more, take_all, map-append}
@@ -121,3 +121,29 @@ empty_list (x ∷ xs) n e z = let k : n ≡ 0 = eq_same n 0 z in absurd (omega a
 pub filled : {A : Type 0} (xs : List A) (n : ℕ) → n ≡ length xs → (n == 0) ≡ false → 0 < length xs
 filled [] n e z = true_not_false (n == 0) (same_eq n 0 e) z
 filled (x ∷ xs) n e z = omega arith
+
+pub filter_has : {A : Type 0} (p : A → Bool) (x : A) (xs : List A) → Has x xs → p x ≡ true → Has x (filter p xs)
+filter_has p x [] h e = absurd h
+filter_has p x (y ∷ ys) (inl q) e = subst (λ b. Has x (cond b (y ∷ filter p ys) (filter p ys))) (sym (ap p (sym q) ∙ e)) (inl q)
+filter_has p x (y ∷ ys) (inr h) e = go (p y) (filter_has p x ys h e)
+  where
+    go : (b : Bool) → Has x (filter p ys) → Has x (cond b (y ∷ filter p ys) (filter p ys))
+    go true k = inr k
+    go false k = k
+
+pub has_filter : {A : Type 0} (p : A → Bool) (x : A) (xs : List A) → Has x (filter p xs) → Has x xs × (p x ≡ true)
+has_filter p x [] h = absurd h
+has_filter p x (y ∷ ys) h = go (bools (p y)) (has_filter p x ys)
+  where
+    go : (p y ≡ true) ⊎ (p y ≡ false) → (Has x (filter p ys) → Has x ys × (p x ≡ true)) → Has x (y ∷ ys) × (p x ≡ true)
+    go (inl t) r = elim (subst (λ b. Has x (cond b (y ∷ filter p ys) (filter p ys))) t h) [ inl e ↦ (inl e, ap p e ∙ t) | inr k ↦ (inr (r k).0, (r k).1) ]
+    go (inr f) r = let k = r (subst (λ b. Has x (cond b (y ∷ filter p ys) (filter p ys))) f h) in (inr k.0, k.1)
+
+pub has_map : {A B : Type 0} (f : A → B) (y : B) (xs : List A) → Has y (map f xs) → (x : A) × Has x xs × (y ≡ f x)
+has_map f y [] h = absurd h
+has_map f y (x ∷ xs) (inl e) = (x, inl refl, e)
+has_map f y (x ∷ xs) (inr h) = let r = has_map f y xs h in (r.0, inr r.1, r.2)
+
+pub same_map : {A : Type 0} (xs : List A) → map (λ y. y) xs ≡ xs
+same_map [] = refl
+same_map (x ∷ xs) = ap (λ ys. x ∷ ys) (same_map xs)

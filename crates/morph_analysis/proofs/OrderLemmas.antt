@@ -7,28 +7,22 @@ use Rattle.std.specs.Global.{Global}
 use Rattle.std.specs.Prelude.{nat_lt}
 use Rattle.std.specs.List.{AllByRecursion}
 use Rattle.std.specs.List.Sorted.{IsStrictlySortedBy}
-use Rattle.std.specs.Cmp.{IsTotalOrder, then_total, on_total, nat_cmp_total}
-use Rattle.std.specs.Cmp.Lexicographic.{nat_list_cmp_total, lists_total, slice_cmp}
+use Rattle.std.specs.Cmp.Lexicographic.{slice_cmp}
 use Rattle.word_lists.specs.Words.{Has, Each, compared}
 use Rattle.lexicon.specs.Entries.{EntryTree}
 use Rattle.spelling_rules.specs.Trees.{SpellingTree}
-use Rattle.morph_analysis.proofs.Lists.{bools, eq_same, Has-map}
-use Rattle.morph_analysis.proofs.RouteLemmas.{has_map}
+use Rattle.morph_analysis.proofs.Lists.{bools, eq_same, has_map, Has-map}
 use Rattle.morph_analysis.proofs.AddLemmas.{chain_same}
 use Rattle.morph_analysis.proofs.StepLemmas.{is_chain, chain_is}
 use Rattle.morph_analysis.specs.declared.chain.Chain.{Chain}
-use Rattle.morph_analysis.specs.Views.{chain_of}
-use Rattle.morph_analysis.specs.Allowed.{FeedsTree}
+use Rattle.morph_analysis.specs.declared.made.MadeChain.{MadeChain}
+use Rattle.morph_analysis.specs.Views.{chain_of, made_of}
+use Rattle.morph_analysis.specs.Made.{MadeTree, IsMadeChain, AreMadeChains}
+use Rattle.morph_analysis.specs.Inner.Orders.{chain_total}
+use Rattle.morph_analysis.specs.Allowed.{FeedsTree, IsAllowed}
 use Rattle.morph_analysis.specs.Lattices.{LatticeTree}
 use Rattle.morph_analysis.specs.Inner.Adding.{AddsThose, OfSome, OfStep}
 use Rattle.morph_analysis.specs.Chains.{ChainTree, chain_order, AreInOrder, AreChains, IsChain}
-
-pub chain_total : IsTotalOrder chain_order
-chain_total =
-    then_total (on_total (λ (c : ChainTree). c.from) nat_cmp_total)
-    (then_total (on_total (λ (c : ChainTree). c.to) nat_cmp_total)
-    (then_total (on_total (λ (c : ChainTree). c.entry) nat_cmp_total)
-    (then_total (on_total (λ (c : ChainTree). c.rules) nat_list_cmp_total) (on_total (λ (c : ChainTree). c.words) (lists_total nat_list_cmp_total)))))
 
 not_both : (c d : ChainTree) → chain_order c d ≡ Less → chain_order d c ≡ Less → ⊥
 not_both c d p q = let e : Less ≡ Greater = sym p ∙ chain_total.antisymm c d ∙ ap ordering_reverse q in cc
@@ -89,33 +83,55 @@ order_equal c d e =
     let s = then_equal (slice_cmp nat_cmp c.rules d.rules) (slice_cmp compared c.words d.words) r.1 in
     chain_same c d (nat_equal c.from d.from p.0) (nat_equal c.to d.to q.0) (nat_equal c.entry d.entry r.0) (slice_equal nat_cmp nat_equal c.rules d.rules s.0) (slice_equal compared (slice_equal nat_cmp nat_equal) c.words d.words s.1)
 
-each_below : (R : Chain → Chain → Ordering) → ((a b : Chain) → R a b ≡ chain_order (chain_of a) (chain_of b)) → (x : Chain) (xs : List Chain) → AllByRecursion (λ y. R x y ≡ Less) xs → Each (λ d. chain_order (chain_of x) d ≡ Less) (map chain_of xs)
-each_below R same x [] a = tt
-each_below R same x (y ∷ ys) a = (sym (same x y) ∙ a.0, each_below R same x ys a.1)
+module _ {T V : Type 0} (value : T → V) where
+  each_below : (R : MadeChain T → MadeChain T → Ordering) → ((a b : MadeChain T) → R a b ≡ chain_order (chain_of a.chain) (chain_of b.chain)) → (x : MadeChain T) (xs : List (MadeChain T)) → AllByRecursion (λ y. R x y ≡ Less) xs
+      → Each (λ d. chain_order (chain_of x.chain) d ≡ Less) (map (λ (y : MadeTree V). y.chain) (map (made_of value) xs))
+  each_below R same x [] a = tt
+  each_below R same x (y ∷ ys) a = (sym (same x y) ∙ a.0, each_below R same x ys a.1)
 
-in_order : (R : Chain → Chain → Ordering) → ((a b : Chain) → R a b ≡ chain_order (chain_of a) (chain_of b)) → (xs : List Chain) → IsStrictlySortedBy R xs → AreInOrder (map chain_of xs)
-unfolding IsStrictlySortedBy
-in_order R same [] h = tt
-in_order R same (x ∷ xs) h = (each_below R same x xs h.0, in_order R same xs h.1)
+  in_order : (R : MadeChain T → MadeChain T → Ordering) → ((a b : MadeChain T) → R a b ≡ chain_order (chain_of a.chain) (chain_of b.chain)) → (xs : List (MadeChain T)) → IsStrictlySortedBy R xs → AreInOrder (map (λ (y : MadeTree V). y.chain) (map (made_of value) xs))
+  unfolding IsStrictlySortedBy
+  in_order R same [] h = tt
+  in_order R same (x ∷ xs) h = (each_below R same x xs h.0, in_order R same xs h.1)
 
--- all chains, sorted and each once
-pub are_chains : (R : Chain → Chain → Ordering) (lexicon : List EntryTree) (sp : SpellingTree) (f : FeedsTree) (l : LatticeTree) (depth : ℕ) (old new : List Chain)
-    → AddsThose (OfSome (OfStep lexicon sp f depth l.steps) l.steps) [] (map chain_of old) → IsStrictlySortedBy R new → ((x : Chain) → Has x old → (y : Chain) × Has y new × (R x y ≡ Equal)) → ((x : Chain) → Has x new → Has x old) → ((a b : Chain) → R a b ≡ chain_order (chain_of a) (chain_of b))
-    → AreChains lexicon sp f l depth (map chain_of new)
-are_chains R lexicon sp f l depth old new a sorted kept only same = record { have = have; all = all; order = in_order R same new sorted }
+  -- all chains, sorted and each once
+  pub are_chains : (R : MadeChain T → MadeChain T → Ordering) (lexicon : List EntryTree) (sp : SpellingTree) (A : ℕ → List ℕ → V → Type 0) (one : (entry : ℕ) (rules : List ℕ) (v w : V) → A entry rules v → A entry rules w → v ≡ w) (l : LatticeTree) (depth : ℕ) (old new : List (MadeChain T))
+      → AddsThose (OfSome (OfStep lexicon sp A depth l.steps) l.steps) [] (map (made_of value) old) → IsStrictlySortedBy R new → ((x : MadeChain T) → Has x old → (y : MadeChain T) × Has y new × (R x y ≡ Equal)) → ((x : MadeChain T) → Has x new → Has x old)
+      → ((a b : MadeChain T) → R a b ≡ chain_order (chain_of a.chain) (chain_of b.chain)) → AreMadeChains A lexicon sp l depth (map (made_of value) new)
+  are_chains R lexicon sp A one l depth old new a sorted kept only same = record { have = have; all = all; order = in_order R same new sorted }
+    where
+      old_have : (c : MadeTree V) → Has c (map (made_of value) old) → IsMadeChain A lexicon sp l depth c
+      old_have c h = elim (a.only c h) [ inl k ↦ absurd k | inr p ↦ is_chain lexicon sp A l depth c p ]
+
+      have : (c : MadeTree V) → Has c (map (made_of value) new) → IsMadeChain A lexicon sp l depth c
+      have c h =
+          let m = has_map (made_of value) c new h in
+          old_have c (subst (λ d. Has d (map (made_of value) old)) (sym m.2) (Has-map (made_of value) m.0 old (only m.0 m.1)))
+
+      all : (c : MadeTree V) → IsMadeChain A lexicon sp l depth c → Has c (map (made_of value) new)
+      all c p =
+          let m = has_map (made_of value) c old (a.added c (chain_is lexicon sp A l depth c p)) in
+          let k = kept m.0 m.1 in
+          let chain : chain_of m.0.chain ≡ chain_of k.0.chain = order_equal (chain_of m.0.chain) (chain_of k.0.chain) (sym (same m.0 k.0) ∙ k.2) in
+          let there = Has-map (made_of value) k.0 new k.1 in
+          let before : A (chain_of m.0.chain).entry (chain_of m.0.chain).rules (value m.0.made) = subst (λ (d : MadeTree V). A d.chain.entry d.chain.rules d.value) m.2 p.made in
+          let after : A (chain_of m.0.chain).entry (chain_of m.0.chain).rules (value k.0.made) = subst (λ (d : ChainTree). A d.entry d.rules (value k.0.made)) (sym chain) (have (made_of value k.0) there).made in
+          let made : value m.0.made ≡ value k.0.made = one (chain_of m.0.chain).entry (chain_of m.0.chain).rules (value m.0.made) (value k.0.made) before after in
+          let same : made_of value m.0 ≡ made_of value k.0 = λ i. record { chain = chain i; value = made i } in
+          subst (λ d. Has d (map (made_of value) new)) (sym (m.2 ∙ same)) there
+
+-- the chains that are allowed, without more
+pub allowed_chains : (lexicon : List EntryTree) (sp : SpellingTree) (f : FeedsTree) (l : LatticeTree) (depth : ℕ) (xs : List (MadeTree (Unit {0}))) → AreMadeChains (λ entry rules v. IsAllowed f entry rules) lexicon sp l depth xs → AreChains lexicon sp f l depth (map (λ x. x.chain) xs)
+allowed_chains lexicon sp f l depth xs are = record { have = have; all = all; order = are.order }
   where
-    have : (c : ChainTree) → Has c (map chain_of new) → IsChain lexicon sp f l depth c
+    have : (c : ChainTree) → Has c (map (λ (x : MadeTree (Unit {0})). x.chain) xs) → IsChain lexicon sp f l depth c
     have c h =
-        let m = has_map chain_of c new h in
-        let there : Has c (map chain_of old) = subst (λ d. Has d (map chain_of old)) (sym m.2) (Has-map chain_of m.0 old (only m.0 m.1)) in
-        elim (a.only c there) [ inl k ↦ absurd k | inr p ↦ is_chain lexicon sp f l depth c p ]
+        let m = has_map (λ (x : MadeTree (Unit {0})). x.chain) c xs h in
+        let p = are.have m.0 m.1 in
+        subst (IsChain lexicon sp f l depth) (sym m.2) (record { spells = p.spells; carried = p.carried; allowed = p.made; shallow = p.shallow })
 
-    all : (c : ChainTree) → IsChain lexicon sp f l depth c → Has c (map chain_of new)
-    all c p =
-        let m = has_map chain_of c old (a.added c (chain_is lexicon sp f l depth c p)) in
-        let k = kept m.0 m.1 in
-        let e : chain_of m.0 ≡ chain_of k.0 = order_equal (chain_of m.0) (chain_of k.0) (sym (same m.0 k.0) ∙ k.2) in
-        subst (λ d. Has d (map chain_of new)) (sym (m.2 ∙ e)) (Has-map chain_of k.0 new k.1)
+    all : (c : ChainTree) → IsChain lexicon sp f l depth c → Has c (map (λ (x : MadeTree (Unit {0})). x.chain) xs)
+    all c p = Has-map (λ (x : MadeTree (Unit {0})). x.chain) (record { chain = c; value = tt }) xs (are.all (record { chain = c; value = tt }) (record { spells = p.spells; carried = p.carried; made = p.allowed; shallow = p.shallow }))
 
 -- the order of chains by their fields
 words_cmp : (xs ys : List (String Global)) → slice_cmp string_cmp xs ys ≡ slice_cmp compared (map string_bytes xs) (map string_bytes ys)

@@ -5,20 +5,20 @@ use Rattle.lexicon.specs.Entries.{EntryTree}
 use Rattle.spelling_rules.specs.Trees.{SpellingTree}
 use Rattle.morph_analysis.proofs.AddLemmas.{adds_like, adds_none}
 use Rattle.morph_analysis.proofs.NodeLemmas.{cases_le}
-use Rattle.morph_analysis.specs.Allowed.{FeedsTree}
-use Rattle.morph_analysis.specs.Chains.{ChainTree, Leads, there, by, IsChain}
+use Rattle.morph_analysis.specs.Chains.{Leads, there, by}
+use Rattle.morph_analysis.specs.Made.{MadeTree, IsMadeChain}
 use Rattle.morph_analysis.specs.Lattices.{StepTree, LatticeTree, Carries, stays, goes, HaveSame}
 use Rattle.morph_analysis.specs.Spelled.{NodeTree, node_at, Runs, IsSpelled}
 use Rattle.morph_analysis.specs.Spelled.{stays as run_stays, goes as run_goes}
 use Rattle.morph_analysis.specs.Inner.Adding.{AddsThose, OfSome, OfNode, OfNodes, OfStep}
 
 -- the loop over nodes
-pub nodes_none : (lexicon : List EntryTree) (nodes : List NodeTree) (f : FeedsTree) (depth : ℕ) (steps : List StepTree) (s : StepTree) (xs : List ChainTree) → AddsThose (OfNodes lexicon nodes f depth steps s 0) xs xs
-nodes_none lexicon nodes f depth steps s xs = adds_none (OfNodes lexicon nodes f depth steps s 0) xs (λ c o. absurd (let lt = o.1 in omega (arith, lt)))
+pub nodes_none : {V : Type 0} (lexicon : List EntryTree) (nodes : List NodeTree) (A : ℕ → List ℕ → V → Type 0) (depth : ℕ) (steps : List StepTree) (s : StepTree) (xs : List (MadeTree V)) → AddsThose (OfNodes lexicon nodes A depth steps s 0) xs xs
+nodes_none lexicon nodes A depth steps s xs = adds_none (OfNodes lexicon nodes A depth steps s 0) xs (λ c o. absurd (let lt = o.1 in omega (arith, lt)))
 
-pub nodes_more : (lexicon : List EntryTree) (nodes : List NodeTree) (f : FeedsTree) (depth : ℕ) (steps : List StepTree) (s : StepTree) (n : ℕ) (xs ys zs : List ChainTree) → AddsThose (OfNodes lexicon nodes f depth steps s n) xs ys
-    → AddsThose (OfNode lexicon nodes f depth steps s n) ys zs → AddsThose (OfNodes lexicon nodes f depth steps s (n + 1)) xs zs
-nodes_more lexicon nodes f depth steps s n xs ys zs p q = record {
+pub nodes_more : {V : Type 0} (lexicon : List EntryTree) (nodes : List NodeTree) (A : ℕ → List ℕ → V → Type 0) (depth : ℕ) (steps : List StepTree) (s : StepTree) (n : ℕ) (xs ys zs : List (MadeTree V)) → AddsThose (OfNodes lexicon nodes A depth steps s n) xs ys
+    → AddsThose (OfNode lexicon nodes A depth steps s n) ys zs → AddsThose (OfNodes lexicon nodes A depth steps s (n + 1)) xs zs
+nodes_more {V} lexicon nodes A depth steps s n xs ys zs p q = record {
   kept = λ x h. q.kept x (p.kept x h);
   added = λ x o. go x o (cases_le n o.0);
   only = λ x h.
@@ -28,8 +28,8 @@ nodes_more lexicon nodes f depth steps s n xs ys zs p q = record {
       ];
 }
   where
-    go : (x : ChainTree) (o : OfNodes lexicon nodes f depth steps s (n + 1) x) → (n ≤ o.0) ⊎ (o.0 < n) → Has x zs
-    go x o (inl le) = let lt = o.1 in let e : o.0 ≡ n = omega (arith, le, lt) in q.added x (subst (λ k. OfNode lexicon nodes f depth steps s k x) e o.2)
+    go : (x : MadeTree V) (o : OfNodes lexicon nodes A depth steps s (n + 1) x) → (n ≤ o.0) ⊎ (o.0 < n) → Has x zs
+    go x o (inl le) = let lt = o.1 in let e : o.0 ≡ n = omega (arith, le, lt) in q.added x (subst (λ k. OfNode lexicon nodes A depth steps s k x) e o.2)
     go x o (inr lt) = q.kept x (p.added x (o.0, lt, o.2))
 
 -- edges lead to the word at node 0
@@ -44,11 +44,11 @@ carries_same xs ys from _ _ f (stays _) = stays from
 carries_same xs ys _ _ to f (goes s words _ h c) = goes s words to (f s h) (carries_same xs ys s.to words to f c)
 
 -- the chains over a graph of a step's word
-pub of_step : (lexicon : List EntryTree) (sp : SpellingTree) (nodes : List NodeTree) (f : FeedsTree) (depth : ℕ) (steps others : List StepTree) (s : StepTree) (xs ys : List ChainTree) → IsSpelled sp s.word depth nodes → HaveSame others steps
-    → AddsThose (OfNodes lexicon nodes f depth others s (length nodes)) xs ys → AddsThose (OfStep lexicon sp f depth steps s) xs ys
-of_step lexicon sp nodes f depth steps others s xs ys p same a = adds_like (OfNodes lexicon nodes f depth others s (length nodes)) (OfStep lexicon sp f depth steps s) xs ys to back a
+pub of_step : {V : Type 0} (lexicon : List EntryTree) (sp : SpellingTree) (nodes : List NodeTree) (A : ℕ → List ℕ → V → Type 0) (depth : ℕ) (steps others : List StepTree) (s : StepTree) (xs ys : List (MadeTree V)) → IsSpelled sp s.word depth nodes → HaveSame others steps
+    → AddsThose (OfNodes lexicon nodes A depth others s (length nodes)) xs ys → AddsThose (OfStep lexicon sp A depth steps s) xs ys
+of_step {V} lexicon sp nodes A depth steps others s xs ys p same a = adds_like (OfNodes lexicon nodes A depth others s (length nodes)) (OfStep lexicon sp A depth steps s) xs ys to back a
   where
-    to : (c : ChainTree) → OfNodes lexicon nodes f depth others s (length nodes) c → OfStep lexicon sp f depth steps s c
+    to : (c : MadeTree V) → OfNodes lexicon nodes A depth others s (length nodes) c → OfStep lexicon sp A depth steps s c
     to c o =
         let n = o.0 in
         let q = o.2 in
@@ -57,23 +57,23 @@ of_step lexicon sp nodes f depth steps others s xs ys p same a = adds_like (OfNo
           front = q.front;
           stem = (node_at nodes n).word;
           is_entry = q.entry;
-          leads = leads_along sp s.word depth nodes c.rules n 0 p refl r.rules.0;
-          carried = carries_same others steps c.from q.front s.from same.there r.from;
+          leads = leads_along sp s.word depth nodes c.chain.rules n 0 p refl r.rules.0;
+          carried = carries_same others steps c.chain.from q.front s.from same.there r.from;
           words_are = r.words_are;
           to_is = r.to_is;
-          allowed = r.rules.1;
+          made = r.rules.1;
           shallow = r.rules.2;
         }
 
-    back : (c : ChainTree) → OfStep lexicon sp f depth steps s c → OfNodes lexicon nodes f depth others s (length nodes) c
+    back : (c : MadeTree V) → OfStep lexicon sp A depth steps s c → OfNodes lexicon nodes A depth others s (length nodes) c
     back c o =
-        let w = p.ways c.rules o.stem o.shallow o.leads in (
+        let w = p.ways c.chain.rules o.stem o.shallow o.leads in (
           w.0,
           w.1,
           record {
             front = o.front;
-            entry = subst (λ x. Has (record { number = c.entry; words = o.front ++ x ∷ [] }) lexicon) (sym w.2) o.is_entry;
-            rest = record { entry = refl; rules = (w.3, o.allowed, o.shallow); from = carries_same steps others c.from o.front s.from same.back o.carried; words_are = o.words_are; to_is = o.to_is };
+            entry = subst (λ x. Has (record { number = c.chain.entry; words = o.front ++ x ∷ [] }) lexicon) (sym w.2) o.is_entry;
+            rest = record { entry = refl; rules = (w.3, o.made, o.shallow); from = carries_same steps others c.chain.from o.front s.from same.back o.carried; words_are = o.words_are; to_is = o.to_is };
           },
         )
 
@@ -87,53 +87,53 @@ carries_less steps _ [] w to (goes s _ _ h (stays _)) = (s, h, refl, refl, stays
 carries_less steps _ (x ∷ front) w to (goes t _ _ h c) = let r = carries_less steps t.to front w to c in (r.0, r.1, r.2, r.3, goes t front r.0.from h r.4)
 
 -- all chains are those of the steps
-pub is_chain : (lexicon : List EntryTree) (sp : SpellingTree) (f : FeedsTree) (l : LatticeTree) (depth : ℕ) (c : ChainTree) → OfSome (OfStep lexicon sp f depth l.steps) l.steps c → IsChain lexicon sp f l depth c
-is_chain lexicon sp f l depth c o =
+pub is_chain : {V : Type 0} (lexicon : List EntryTree) (sp : SpellingTree) (A : ℕ → List ℕ → V → Type 0) (l : LatticeTree) (depth : ℕ) (c : MadeTree V) → OfSome (OfStep lexicon sp A depth l.steps) l.steps c → IsMadeChain A lexicon sp l depth c
+is_chain lexicon sp A l depth c o =
     let s = o.0 in
     let q = o.2 in
     record {
       spells = record { front = q.front; stem = q.stem; form = s.word; is_entry = q.is_entry; is = q.words_are; leads = q.leads };
-      carried = subst (λ w. Carries l.steps c.from w c.to) (sym q.words_are) (subst (Carries l.steps c.from (q.front ++ s.word ∷ [])) (sym q.to_is) (carries_more l.steps c.from q.front s s.from q.carried refl o.1));
-      allowed = q.allowed;
+      carried = subst (λ w. Carries l.steps c.chain.from w c.chain.to) (sym q.words_are) (subst (Carries l.steps c.chain.from (q.front ++ s.word ∷ [])) (sym q.to_is) (carries_more l.steps c.chain.from q.front s s.from q.carried refl o.1));
+      made = q.made;
       shallow = q.shallow;
     }
 
-pub chain_is : (lexicon : List EntryTree) (sp : SpellingTree) (f : FeedsTree) (l : LatticeTree) (depth : ℕ) (c : ChainTree) → IsChain lexicon sp f l depth c → OfSome (OfStep lexicon sp f depth l.steps) l.steps c
-chain_is lexicon sp f l depth c p =
+pub chain_is : {V : Type 0} (lexicon : List EntryTree) (sp : SpellingTree) (A : ℕ → List ℕ → V → Type 0) (l : LatticeTree) (depth : ℕ) (c : MadeTree V) → IsMadeChain A lexicon sp l depth c → OfSome (OfStep lexicon sp A depth l.steps) l.steps c
+chain_is lexicon sp A l depth c p =
     let q = p.spells in
-    let r = carries_less l.steps c.from q.front q.form c.to (subst (λ w. Carries l.steps c.from w c.to) q.is p.carried) in (
+    let r = carries_less l.steps c.chain.from q.front q.form c.chain.to (subst (λ w. Carries l.steps c.chain.from w c.chain.to) q.is p.carried) in (
       r.0,
       r.1,
       record {
         front = q.front;
         stem = q.stem;
         is_entry = q.is_entry;
-        leads = subst (Leads sp c.rules q.stem) (sym r.2) q.leads;
+        leads = subst (Leads sp c.chain.rules q.stem) (sym r.2) q.leads;
         carried = r.4;
         words_are = q.is ∙ ap (λ w. q.front ++ w ∷ []) (sym r.2);
         to_is = sym r.3;
-        allowed = p.allowed;
+        made = p.made;
         shallow = p.shallow;
       },
     )
 
 -- the steps in one order for those in another
-pub steps_same : (lexicon : List EntryTree) (sp : SpellingTree) (f : FeedsTree) (depth : ℕ) (steps others sorted : List StepTree) (xs ys : List ChainTree) → HaveSame others steps → HaveSame sorted steps
-    → AddsThose (OfSome (OfStep lexicon sp f depth others) sorted) xs ys → AddsThose (OfSome (OfStep lexicon sp f depth steps) steps) xs ys
-steps_same lexicon sp f depth steps others sorted xs ys same order a =
-    adds_like (OfSome (OfStep lexicon sp f depth others) sorted) (OfSome (OfStep lexicon sp f depth steps) steps) xs ys
+pub steps_same : {V : Type 0} (lexicon : List EntryTree) (sp : SpellingTree) (A : ℕ → List ℕ → V → Type 0) (depth : ℕ) (steps others sorted : List StepTree) (xs ys : List (MadeTree V)) → HaveSame others steps → HaveSame sorted steps
+    → AddsThose (OfSome (OfStep lexicon sp A depth others) sorted) xs ys → AddsThose (OfSome (OfStep lexicon sp A depth steps) steps) xs ys
+steps_same {V} lexicon sp A depth steps others sorted xs ys same order a =
+    adds_like (OfSome (OfStep lexicon sp A depth others) sorted) (OfSome (OfStep lexicon sp A depth steps) steps) xs ys
     (λ c o. (o.0, order.there o.0 o.1, moved others steps same.there o.0 c o.2)) (λ c o. (o.0, order.back o.0 o.1, moved steps others same.back o.0 c o.2)) a
   where
-    moved : (a b : List StepTree) → ((s : StepTree) → Has s a → Has s b) → (s : StepTree) (c : ChainTree) → OfStep lexicon sp f depth a s c → OfStep lexicon sp f depth b s c
+    moved : (a b : List StepTree) → ((s : StepTree) → Has s a → Has s b) → (s : StepTree) (c : MadeTree V) → OfStep lexicon sp A depth a s c → OfStep lexicon sp A depth b s c
     moved a b f s c o = record {
       front = o.front;
       stem = o.stem;
       is_entry = o.is_entry;
       leads = o.leads;
-      carried = carries_same a b c.from o.front s.from f o.carried;
+      carried = carries_same a b c.chain.from o.front s.from f o.carried;
       words_are = o.words_are;
       to_is = o.to_is;
-      allowed = o.allowed;
+      made = o.made;
       shallow = o.shallow;
     }
 

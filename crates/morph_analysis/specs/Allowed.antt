@@ -29,6 +29,12 @@ abbrev pub IsAllowed : FeedsTree → ℕ → List ℕ → Type 0
 IsAllowed f entry [] = Unit {0}
 IsAllowed f entry (r ∷ rs) = (in_table f.on_entry entry r ≡ true) × AreAllowedAfter f r rs
 
+-- whether a rule may apply to what an entry and some rules give
+abbrev pub may_go_on : FeedsTree → ℕ → List ℕ → ℕ → Bool
+may_go_on f entry [] rule = in_table f.on_entry entry rule
+may_go_on f entry (r ∷ []) rule = in_table f.on_rule r rule
+may_go_on f entry (r ∷ q ∷ rs) rule = may_go_on f entry (q ∷ rs) rule
+
 -- everything may
 abbrev pub AllMay : List (List Bool) → Type 0
 AllMay table = (row rule : ℕ) → in_table table row rule ≡ true

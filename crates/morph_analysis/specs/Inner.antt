@@ -3,3 +3,4 @@ pub mod Bits
 pub mod Growing
 pub mod Routes
 pub mod Lines
+pub mod Orders

@@ -1,6 +1,7 @@
 pub mod Lattices
 pub mod Allowed
 pub mod Chains
+pub mod Made
 pub mod Spelled
 pub mod LatticeViews
 pub mod LatticeLines

@@ -4,108 +4,69 @@ ghost use Rattle.std.specs.Prelude.{◌≡◌, ◌++◌, ◌-◌, ◌<◌, ◌�
 ghost use Rattle.std.specs.List.Sorted.{IsStrictlySortedBy};
 ghost use Rattle.std.specs.declared.cmp.Ordering.TheVariants.{Equal};
 ghost use Rattle.lexicon.specs.Groups.{group_of};
-ghost use Rattle.word_lists.specs.Words.{Word, Has};
-ghost use Rattle.morph_analysis.specs.Chains.{AreChains, HaveWords};
+ghost use Rattle.word_lists.specs.Words.{Has};
+ghost use Rattle.morph_analysis.specs.Chains.{HaveWords};
 ghost use Rattle.morph_analysis.specs.Lattices.{IsValid, HaveSame};
 ghost use Rattle.morph_analysis.specs.LatticeViews.{lattice_of, step_of};
-ghost use Rattle.morph_analysis.specs.Views.{chain_of};
+ghost use Rattle.morph_analysis.specs.Made.{AreMadeChains};
+ghost use Rattle.morph_analysis.specs.Views.{made_of};
 ghost use Rattle.morph_analysis.specs.Spelled.{IsSpelled, node_at};
 ghost use Rattle.morph_analysis.specs.Inner.Adding.{AddsThose, IsOf, OfGroup, OfWords, OfNode, OfNodes, OfSome, OfStep};
 ghost use Rattle.morph_analysis.specs.Inner.Routes.{AreWithin, IsRouteOf};
 
 use crate::arrivals::Arrivals;
-use crate::chain::Chain;
-use crate::feeds::Feeds;
 use crate::graph::Graph;
 use crate::lattice::{Lattice, Step};
-use crate::routes::routes_from;
+use crate::made::{MadeChain, Maker};
+use crate::outward::add_from;
 use lexicon::{Group, Lexicon};
 use spelling_rules::Spelling;
 use std::alloc::Global;
-use word_lists::{NoMemory, copied};
+use word_lists::NoMemory;
 
-// Adds a chain from a node over a front and a step.
-fn add_chain(
+// Adds the chains of an entry, whose last word is at a node, from each of some nodes.
+fn add_entry<M: Maker>(
     alloc: Global,
-    entry: u32,
-    rules: &[u32],
-    front: &[String],
-    step: &Step,
-    from: u32,
-    out: &mut Vec<Chain>,
-) -> Result<(), NoMemory>
-    ensures { OnOk result (AddsThose (IsOf (λ e. e ≡ entry) (λ e r. r ≡ rules.now) (λ m. m ≡ from) (map string_bytes front.now ++ string_bytes step.now.word ∷ []) step.now.to) (map chain_of out.old.items) (map chain_of out.new.items)) }
-{
-    let mut words = copied(alloc, front)?;
-    words.push(step.word.clone()?)?;
-    out.push(Chain {
-        from,
-        to: step.to,
-        entry,
-        rules: rules.to_vec(alloc)?,
-        words,
-    })?;
-    Ok(())
-}
-
-// Adds the chains of an entry and rules from each of some nodes.
-fn add_fronts(
-    alloc: Global,
-    entry: u32,
-    rules: &[u32],
-    front: &[String],
-    step: &Step,
-    froms: &[u32],
-    out: &mut Vec<Chain>,
-) -> Result<(), NoMemory>
-    ensures { OnOk result (AddsThose (IsOf (λ e. e ≡ entry) (λ e r. r ≡ rules.now) (λ m. Has m froms.now) (map string_bytes front.now ++ string_bytes step.now.word ∷ []) step.now.to) (map chain_of out.old.items) (map chain_of out.new.items)) }
-{
-    for from in froms {
-        add_chain(alloc, entry, rules, front, step, *from, out)?;
-    }
-    Ok(())
-}
-
-// Adds the chains of an entry whose last word is at a node.
-fn add_entry(
-    alloc: Global,
+    maker: &M,
+    work: &mut M::Work,
     graph: &Graph,
-    feeds: &Feeds,
     depth: u32,
     node: usize,
     entry: u32,
     front: &[String],
     step: &Step,
     froms: &[u32],
-    out: &mut Vec<Chain>,
+    out: &mut Vec<MadeChain<M::Made>>,
 ) -> Result<(), NoMemory>
     requires node { node < length graph.now }
     requires within { AreWithin graph.now }
-    ensures { OnOk result (AddsThose (IsOf (λ e. e ≡ entry) (IsRouteOf graph.now feeds.now depth node) (λ m. Has m froms.now) (map string_bytes front.now ++ string_bytes step.now.word ∷ []) step.now.to) (map chain_of out.old.items) (map chain_of out.new.items)) }
+    ensures { OnOk result (AddsThose (IsOf (λ e. e ≡ entry) (IsRouteOf graph.now (M.makes maker.now) depth node) (λ m. Has m froms.now) (map string_bytes front.now ++ string_bytes step.now.word ∷ []) step.now.to) (map (made_of (M.value maker.now)) out.old.items) (map (made_of (M.value maker.now)) out.new.items)) }
 {
-    let routes = routes_from(alloc, graph, feeds, entry, node, depth)?;
-    for rules in &routes {
-        add_fronts(alloc, entry, rules, front, step, froms, out)?;
+    for from in froms {
+        add_from(
+            alloc, maker, work, graph, depth, node, entry, front, step, *from, out,
+        )?;
     }
     Ok(())
 }
 
 // Adds the chains of entries with one front whose last word is at a node.
-fn add_entries(
+fn add_entries<M: Maker>(
     alloc: Global,
+    maker: &M,
+    work: &mut M::Work,
     graph: &Graph,
-    feeds: &Feeds,
     depth: u32,
     arrivals: &Arrivals<'_>,
     node: usize,
     entries: &[u32],
     front: &[String],
     step: &Step,
-    out: &mut Vec<Chain>,
+    out: &mut Vec<MadeChain<M::Made>>,
 ) -> Result<(), NoMemory>
     requires node { node < length graph.now }
     requires within { AreWithin graph.now }
-    ensures { OnOk result (AddsThose (OfGroup graph.now feeds.now depth arrivals.now (step_of step.now) node (map string_bytes front.now) (λ e. Has e entries.now)) (map chain_of out.old.items) (map chain_of out.new.items)) }
+    ensures { OnOk result (AddsThose (OfGroup graph.now (M.makes maker.now) depth arrivals.now (step_of step.now) node (map string_bytes front.now) (λ e. Has e entries.now)) (map (made_of (M.value maker.now)) out.old.items) (map (made_of (M.value maker.now)) out.new.items)) }
 {
     let froms = arrivals.fronts(alloc, front, step.from)?;
     if froms.is_empty() {
@@ -113,7 +74,7 @@ fn add_entries(
     }
     for entry in entries {
         add_entry(
-            alloc, graph, feeds, depth, node, *entry, front, step, &froms, out,
+            alloc, maker, work, graph, depth, node, *entry, front, step, &froms, out,
         )?;
     }
     Ok(())
@@ -128,20 +89,21 @@ fn front_of(words: &[String]) -> &[String]
 }
 
 // Adds the chains of the entries of a group, whose last word is at a node.
-fn add_group(
+fn add_group<M: Maker>(
     alloc: Global,
+    maker: &M,
+    work: &mut M::Work,
     graph: &Graph,
-    feeds: &Feeds,
     depth: u32,
     arrivals: &Arrivals<'_>,
     node: usize,
     group: &Group,
     step: &Step,
-    out: &mut Vec<Chain>,
+    out: &mut Vec<MadeChain<M::Made>>,
 ) -> Result<(), NoMemory>
     requires node { node < length graph.now }
     requires within { AreWithin graph.now }
-    ensures { OnOk result (AddsThose (OfWords graph.now feeds.now depth arrivals.now (step_of step.now) node (group_of group.now)) (map chain_of out.old.items) (map chain_of out.new.items)) }
+    ensures { OnOk result (AddsThose (OfWords graph.now (M.makes maker.now) depth arrivals.now (step_of step.now) node (group_of group.now)) (map (made_of (M.value maker.now)) out.old.items) (map (made_of (M.value maker.now)) out.new.items)) }
 {
     if group.words.is_empty() {
         return Ok(());
@@ -149,8 +111,9 @@ fn add_group(
     let front = front_of(&group.words);
     add_entries(
         alloc,
+        maker,
+        work,
         graph,
-        feeds,
         depth,
         arrivals,
         node,
@@ -163,45 +126,49 @@ fn add_group(
 }
 
 // Adds the chains of entries whose last word is that of a node.
-fn add_node(
+fn add_node<M: Maker>(
     alloc: Global,
+    maker: &M,
+    work: &mut M::Work,
     lexicon: &Lexicon,
     graph: &Graph,
-    feeds: &Feeds,
     depth: u32,
     arrivals: &Arrivals<'_>,
     node: usize,
     step: &Step,
-    out: &mut Vec<Chain>,
+    out: &mut Vec<MadeChain<M::Made>>,
 ) -> Result<(), NoMemory>
     requires node { node < length graph.now }
     requires within { AreWithin graph.now }
-    ensures { OnOk result (AddsThose (OfNode lexicon.now graph.now feeds.now depth arrivals.now (step_of step.now) node) (map chain_of out.old.items) (map chain_of out.new.items)) }
+    ensures { OnOk result (AddsThose (OfNode lexicon.now graph.now (M.makes maker.now) depth arrivals.now (step_of step.now) node) (map (made_of (M.value maker.now)) out.old.items) (map (made_of (M.value maker.now)) out.new.items)) }
 {
     let groups = lexicon.by_last(graph.word(node));
     for group in groups {
-        add_group(alloc, graph, feeds, depth, arrivals, node, group, step, out)?;
+        add_group(
+            alloc, maker, work, graph, depth, arrivals, node, group, step, out,
+        )?;
     }
     Ok(())
 }
 
 // Adds the chains whose last word is that of a step, which is at node 0.
-fn add_step(
+fn add_step<M: Maker>(
     alloc: Global,
+    maker: &M,
+    work: &mut M::Work,
     lexicon: &Lexicon,
     graph: &Graph,
-    feeds: &Feeds,
     depth: u32,
     arrivals: &Arrivals<'_>,
     step: &Step,
-    out: &mut Vec<Chain>,
+    out: &mut Vec<MadeChain<M::Made>>,
 ) -> Result<(), NoMemory>
     requires { AreWithin graph.now }
-    ensures { OnOk result (AddsThose (OfNodes lexicon.now graph.now feeds.now depth arrivals.now (step_of step.now) (length graph.now)) (map chain_of out.old.items) (map chain_of out.new.items)) }
+    ensures { OnOk result (AddsThose (OfNodes lexicon.now graph.now (M.makes maker.now) depth arrivals.now (step_of step.now) (length graph.now)) (map (made_of (M.value maker.now)) out.old.items) (map (made_of (M.value maker.now)) out.new.items)) }
 {
     for node in 0..graph.len() {
         add_node(
-            alloc, lexicon, graph, feeds, depth, arrivals, node, step, out,
+            alloc, maker, work, lexicon, graph, depth, arrivals, node, step, out,
         )?;
     }
     Ok(())
@@ -238,44 +205,48 @@ fn steps_by_word<'a>(alloc: Global, steps: &'a [Step]) -> Result<Vec<&'a Step>, 
 }
 
 // Adds the chains whose last words are those of steps. The graph of a word serves for all steps in a row with that word.
-fn add_steps(
+fn add_steps<M: Maker>(
     alloc: Global,
+    maker: &M,
+    work: &mut M::Work,
     lexicon: &Lexicon,
     spelling: &Spelling,
-    feeds: &Feeds,
     depth: u32,
     arrivals: &Arrivals<'_>,
     sorted: &[&Step],
-    out: &mut Vec<Chain>,
+    out: &mut Vec<MadeChain<M::Made>>,
 ) -> Result<(), NoMemory>
-    ensures { OnOk result (AddsThose (OfSome (OfStep lexicon.now spelling.now feeds.now depth arrivals.now) (map (λ s. step_of s.now) sorted.now)) (map chain_of out.old.items) (map chain_of out.new.items)) }
+    ensures { OnOk result (AddsThose (OfSome (OfStep lexicon.now spelling.now (M.makes maker.now) depth arrivals.now) (map (λ s. step_of s.now) sorted.now)) (map (made_of (M.value maker.now)) out.old.items) (map (made_of (M.value maker.now)) out.new.items)) }
 {
     let first = Graph::of_word(alloc, spelling, "", depth)?;
     let mut graph = first;
     for i in 0..sorted.len() {
         let step = sorted[i];
         graph = graph_for(alloc, spelling, graph, step.word.as_str(), depth)?;
-        add_step(alloc, lexicon, &graph, feeds, depth, arrivals, step, out)?;
+        add_step(
+            alloc, maker, work, lexicon, &graph, depth, arrivals, step, out,
+        )?;
     }
     Ok(())
 }
 
 // The chains whose last words are those of steps.
-fn chains_of(
+fn chains_of<M: Maker>(
     alloc: Global,
+    maker: &M,
+    work: &mut M::Work,
     lexicon: &Lexicon,
     spelling: &Spelling,
-    feeds: &Feeds,
     steps: &[Step],
     depth: u32,
-) -> Result<Vec<Chain>, NoMemory>
-    ensures { IfOk result (λ v. AddsThose (OfSome (OfStep lexicon.now spelling.now feeds.now depth (map step_of steps.now)) (map step_of steps.now)) [] (map chain_of v.items)) }
+) -> Result<Vec<MadeChain<M::Made>>, NoMemory>
+    ensures { IfOk result (λ v. AddsThose (OfSome (OfStep lexicon.now spelling.now (M.makes maker.now) depth (map step_of steps.now)) (map step_of steps.now)) [] (map (made_of (M.value maker.now)) v.items)) }
 {
     let mut out = Vec::new(alloc);
     let arrivals = Arrivals::make(alloc, steps)?;
     let sorted = steps_by_word(alloc, steps)?;
     add_steps(
-        alloc, lexicon, spelling, feeds, depth, &arrivals, &sorted, &mut out,
+        alloc, maker, work, lexicon, spelling, depth, &arrivals, &sorted, &mut out,
     )?;
     Ok(out)
 }
@@ -291,24 +262,26 @@ fn sort_once<T: Ord + Drop>(items: &mut Vec<T>) -> Result<(), NoMemory>
     Ok(())
 }
 
-/// The allowed chains of at most `depth` rules that spell words which a path of the lattice carries: exactly those, each
-/// once, by `from`, `to`, entry, rules and words.
+/// The chains of at most `depth` rules that spell words which a path of the lattice carries and of which something is made,
+/// with what is made of them: exactly those, each once, by `from`, `to`, entry, rules and words.
 ///
-/// Every entry of the lexicon must have a word, and the lattice must be valid. All chains are made before the first is
-/// given; a caller that unifies while it goes outwards takes `Graph`, `Arrivals` and `Lexicon::by_last` instead.
-pub fn chains(
+/// Every entry of the lexicon must have a word, and the lattice must be valid. The search goes outwards from each entry and
+/// ends where nothing is made; for chains from one node that begin alike, what their beginning makes is made once.
+pub fn made_chains<M: Maker>(
     alloc: Global,
+    maker: &M,
+    work: &mut M::Work,
     lexicon: &Lexicon,
     spelling: &Spelling,
-    feeds: &Feeds,
     lattice: &Lattice,
     depth: u32,
-) -> Result<Vec<Chain>, NoMemory>
+) -> Result<Vec<MadeChain<M::Made>>, NoMemory>
     requires words { HaveWords lexicon.now }
     requires valid { IsValid (lattice_of lattice.now) }
-    ensures { IfOk result (λ v. AreChains lexicon.now spelling.now feeds.now (lattice_of lattice.now) depth (map chain_of v.items)) }
+    ensures { IfOk result (λ v. AreMadeChains (M.makes maker.now) lexicon.now spelling.now (lattice_of lattice.now) depth (map (made_of (M.value maker.now)) v.items)) }
 {
-    let mut out = chains_of(alloc, lexicon, spelling, feeds, &lattice.steps, depth)?;
+    maker.laws();
+    let mut out = chains_of(alloc, maker, work, lexicon, spelling, &lattice.steps, depth)?;
     sort_once(&mut out)?;
     Ok(out)
 }

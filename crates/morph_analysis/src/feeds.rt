@@ -1,7 +1,7 @@
 //! Which lexical rule may apply to which entry, and to what which rule gives.
 
 ghost use Rattle.std.specs.Prelude.{◌≡◌, ◌<◌, IfOk};
-ghost use Rattle.morph_analysis.specs.Allowed.{AllMay, SameMay, MayBut, in_table};
+ghost use Rattle.morph_analysis.specs.Allowed.{AllMay, SameMay, MayBut, in_table, may_go_on};
 
 use crate::table::Table;
 use std::alloc::Global;
@@ -80,5 +80,15 @@ impl Feeds {
         ensures { result ≡ in_table self.now.on_rule inner outer }
     {
         self.rules.allows(inner, outer)
+    }
+
+    /// Whether a rule may apply to what an entry and some rules over it, from the inside out, give.
+    pub fn allows_after(&self, entry: u32, rules: &[u32], rule: u32) -> bool
+        ensures { result ≡ may_go_on self.now entry rules.now rule }
+    {
+        match rules.last() {
+            None => self.allows_entry(entry, rule),
+            Some(last) => self.allows_rule(*last, rule),
+        }
     }
 }

@@ -1,6 +1,7 @@
 //! The chains of lexical rules that spell the words of a lattice.
 #![tactic(auto)]
 
+mod allowed;
 mod analysis;
 mod arrivals;
 mod chain;
@@ -9,16 +10,19 @@ mod graph;
 mod items;
 mod lattice;
 pub mod laws;
+mod made;
 mod nodes;
-mod routes;
+mod outward;
 mod table;
 mod written;
 
-pub use analysis::chains;
+pub use allowed::chains;
+pub use analysis::made_chains;
 pub use arrivals::Arrivals;
 pub use chain::Chain;
 pub use feeds::Feeds;
 pub use graph::Graph;
 pub use lattice::{Lattice, LatticeFault, Step};
+pub use made::{MadeChain, Maker};
 pub use nodes::Edge;
 pub use word_lists::NoMemory;

@@ -1,7 +1,7 @@
 use Rattle.std.proofs.Common.{◌≡◌, ◌∙◌, ◌+◌, ◌++◌, [], ◌∷◌, map, take, get_or, string_bytes, refl, sym, subst}
 use Rattle.morph_analysis.specs.Inner.Adding.{AddsThose, OfSome, IsOf}
 use Rattle.word_lists.specs.Words.{Has}
-use Rattle.morph_analysis.specs.Views.{chain_of}
+use Rattle.morph_analysis.specs.Views.{made_of}
 use Rattle.std.proofs.lemmas.List.{take_more}
 use Rattle.morph_analysis.proofs.Lists.{all_taken, empty_list}
 use Rattle.morph_analysis.specs.LatticeViews.{step_of}
@@ -10,21 +10,21 @@ use Rattle.morph_analysis.proofs.AddLemmas.{some_none, some_more, of_entries, no
 use Rattle.morph_analysis.proofs.analysis.add_entries.Goals as goal
 
 pub returns-then-is_empty : goal.returns-then-is_empty
-returns-then-is_empty c =
-    no_fronts c.args.graph.now c.args.feeds.now c.args.depth c.args.arrivals.now (step_of c.args.step.now) c.args.node (map string_bytes c.args.front.now) (λ e. Has e c.args.entries.now) c.in_ok-froms.froms.items (map chain_of c.args.out.now.items) c.in_ok-froms.ensures
+returns-then-is_empty g c =
+    no_fronts c.args.graph.now (g.M.Maker.makes c.args.maker.now) c.args.depth c.args.arrivals.now (step_of c.args.step.now) c.args.node (map string_bytes c.args.front.now) (λ e. Has e c.args.entries.now) c.in_ok-froms.froms.items (map (made_of (g.M.Maker.value c.args.maker.now)) c.args.out.now.items) c.in_ok-froms.ensures
     (empty_list c.in_ok-froms.froms.items _ c.in_ok-froms.froms.ok.0 (sym c.is_empty.ensures ∙ c.if-is_empty.true))
 
 pub loop-entry-init : goal.loop-entry-init
-loop-entry-init c = some_none (λ a. IsOf (λ e. e ≡ a) (IsRouteOf c.args.graph.now c.args.feeds.now c.args.depth c.args.node) (λ k. Has k c.in_ok-froms.froms.items) (map string_bytes c.args.front.now ++ string_bytes c.args.step.now.word ∷ []) c.args.step.now.to) (map chain_of c.args.out.now.items)
+loop-entry-init g c = some_none (λ a. IsOf (λ e. e ≡ a) (IsRouteOf c.args.graph.now (g.M.Maker.makes c.args.maker.now) c.args.depth c.args.node) (λ k. Has k c.in_ok-froms.froms.items) (map string_bytes c.args.front.now ++ string_bytes c.args.step.now.word ∷ []) c.args.step.now.to) (map (made_of (g.M.Maker.value c.args.maker.now)) c.args.out.now.items)
 
 pub loop-entry-preserved : goal.loop-entry-preserved
-loop-entry-preserved c =
-    some_more (λ a. IsOf (λ e. e ≡ a) (IsRouteOf c.args.graph.now c.args.feeds.now c.args.depth c.args.node) (λ k. Has k c.in_ok-froms.froms.items) (map string_bytes c.args.front.now ++ string_bytes c.args.step.now.word ∷ []) c.args.step.now.to) (take c.loop-entry.entry-index c.args.entries.now) (take (c.loop-entry.entry-index + 1) c.args.entries.now) (get_or c.args.entries.now c.loop-entry.entry-index 0) (map chain_of c.args.out.now.items) (map chain_of c.loop-entry.out.items)
-    (map chain_of c.add_entry.new.out.items) (take_more c.args.entries.now c.loop-entry.entry-index 0 c.loop-entry-test.true) c.loop-entry.invariant
-    (subst (λ l. AddsThose (IsOf (λ e. e ≡ get_or c.args.entries.now c.loop-entry.entry-index 0) (IsRouteOf c.args.graph.now c.args.feeds.now c.args.depth c.args.node) (λ k. Has k l) (map string_bytes c.args.front.now ++ string_bytes c.args.step.now.word ∷ []) c.args.step.now.to) (map chain_of c.loop-entry.out.items) (map chain_of c.add_entry.new.out.items)) c.deref.ensures.value c.in_ok-add_entry.ensures)
+loop-entry-preserved g c =
+    some_more (λ a. IsOf (λ e. e ≡ a) (IsRouteOf c.args.graph.now (g.M.Maker.makes c.args.maker.now) c.args.depth c.args.node) (λ k. Has k c.in_ok-froms.froms.items) (map string_bytes c.args.front.now ++ string_bytes c.args.step.now.word ∷ []) c.args.step.now.to) (take c.loop-entry.entry-index c.args.entries.now) (take (c.loop-entry.entry-index + 1) c.args.entries.now) (get_or c.args.entries.now c.loop-entry.entry-index 0) (map (made_of (g.M.Maker.value c.args.maker.now)) c.args.out.now.items) (map (made_of (g.M.Maker.value c.args.maker.now)) c.loop-entry.out.items)
+    (map (made_of (g.M.Maker.value c.args.maker.now)) c.add_entry.new.out.items) (take_more c.args.entries.now c.loop-entry.entry-index 0 c.loop-entry-test.true) c.loop-entry.invariant
+    (subst (λ l. AddsThose (IsOf (λ e. e ≡ get_or c.args.entries.now c.loop-entry.entry-index 0) (IsRouteOf c.args.graph.now (g.M.Maker.makes c.args.maker.now) c.args.depth c.args.node) (λ k. Has k l) (map string_bytes c.args.front.now ++ string_bytes c.args.step.now.word ∷ []) c.args.step.now.to) (map (made_of (g.M.Maker.value c.args.maker.now)) c.loop-entry.out.items) (map (made_of (g.M.Maker.value c.args.maker.now)) c.add_entry.new.out.items)) c.deref.ensures.value c.in_ok-add_entry.ensures)
 
 pub returns : goal.returns
-returns c =
-    of_entries c.args.graph.now c.args.feeds.now c.args.depth c.args.arrivals.now (step_of c.args.step.now) c.args.node (map string_bytes c.args.front.now) (map string_bytes c.args.front.now ++ string_bytes c.args.step.now.word ∷ []) c.args.entries.now c.in_ok-froms.froms.items
-    (map chain_of c.args.out.now.items) (map chain_of c.loop-entry.out.items) c.in_ok-froms.ensures refl
-    (subst (λ l. AddsThose (OfSome (λ a. IsOf (λ e. e ≡ a) (IsRouteOf c.args.graph.now c.args.feeds.now c.args.depth c.args.node) (λ k. Has k c.in_ok-froms.froms.items) (map string_bytes c.args.front.now ++ string_bytes c.args.step.now.word ∷ []) c.args.step.now.to) l) (map chain_of c.args.out.now.items) (map chain_of c.loop-entry.out.items)) (all_taken c.args.entries.now c.loop-entry.entry-index c.loop-entry-test.false) c.loop-entry.invariant)
+returns g c =
+    of_entries c.args.graph.now (g.M.Maker.makes c.args.maker.now) c.args.depth c.args.arrivals.now (step_of c.args.step.now) c.args.node (map string_bytes c.args.front.now) (map string_bytes c.args.front.now ++ string_bytes c.args.step.now.word ∷ []) c.args.entries.now c.in_ok-froms.froms.items
+    (map (made_of (g.M.Maker.value c.args.maker.now)) c.args.out.now.items) (map (made_of (g.M.Maker.value c.args.maker.now)) c.loop-entry.out.items) c.in_ok-froms.ensures refl
+    (subst (λ l. AddsThose (OfSome (λ a. IsOf (λ e. e ≡ a) (IsRouteOf c.args.graph.now (g.M.Maker.makes c.args.maker.now) c.args.depth c.args.node) (λ k. Has k c.in_ok-froms.froms.items) (map string_bytes c.args.front.now ++ string_bytes c.args.step.now.word ∷ []) c.args.step.now.to) l) (map (made_of (g.M.Maker.value c.args.maker.now)) c.args.out.now.items) (map (made_of (g.M.Maker.value c.args.maker.now)) c.loop-entry.out.items)) (all_taken c.args.entries.now c.loop-entry.entry-index c.loop-entry-test.false) c.loop-entry.invariant)

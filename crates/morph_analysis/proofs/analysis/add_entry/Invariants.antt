@@ -1,9 +1,9 @@
 use Rattle.std.proofs.Common.{◌≡◌, ◌++◌, [], ◌∷◌, map, take, string_bytes}
 use Rattle.morph_analysis.specs.Inner.Adding.{AddsThose, OfSome, IsOf}
-use Rattle.word_lists.specs.Words.{Has}
-use Rattle.morph_analysis.specs.Views.{chain_of, rules_in}
+use Rattle.morph_analysis.specs.Inner.Routes.{IsRouteOf}
+use Rattle.morph_analysis.specs.Views.{made_of}
 use Rattle.morph_analysis.proofs.analysis.add_entry.Given as goal
 
-abbrev pub invariant-loop-rules : goal.invariant-loop-rules
-invariant-loop-rules l =
-    AddsThose (OfSome (λ q. IsOf (λ e. e ≡ l.entry) (λ e r. r ≡ q) (λ k. Has k l.froms) (map string_bytes l.front ++ string_bytes l.step.word ∷ []) l.step.to) (map rules_in (take l.rules-index l.rules-items))) (map chain_of l.initial.out.items) (map chain_of l.out.items)
+abbrev pub invariant-loop-from : goal.invariant-loop-from
+invariant-loop-from g l =
+    AddsThose (OfSome (λ m. IsOf (λ e. e ≡ l.entry) (IsRouteOf l.graph (g.M.Maker.makes l.maker) l.depth l.node) (λ k. k ≡ m) (map string_bytes l.front ++ string_bytes l.step.word ∷ []) l.step.to) (take l.from-index l.froms)) (map (made_of (g.M.Maker.value l.maker)) l.initial.out.items) (map (made_of (g.M.Maker.value l.maker)) l.out.items)

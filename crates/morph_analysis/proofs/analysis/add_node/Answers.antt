@@ -1,6 +1,6 @@
 use Rattle.std.proofs.Common.{◌+◌, map, take, subst}
 use Rattle.morph_analysis.specs.Inner.Adding.{AddsThose, OfSome, OfWords}
-use Rattle.morph_analysis.specs.Views.{chain_of}
+use Rattle.morph_analysis.specs.Views.{made_of}
 use Rattle.morph_analysis.proofs.Lists.{map_take_next, all_taken}
 use Rattle.morph_analysis.specs.LatticeViews.{step_of}
 use Rattle.lexicon.specs.Groups.{group_of}
@@ -10,19 +10,19 @@ use Rattle.lexicon.specs.Groups.{AreGroupsOf}
 use Rattle.morph_analysis.proofs.analysis.add_node.Goals as goal
 
 pub loop-group-init : goal.loop-group-init
-loop-group-init c = some_none (OfWords c.args.graph.now c.args.feeds.now c.args.depth c.args.arrivals.now (step_of c.args.step.now) c.args.node) (map chain_of c.args.out.now.items)
+loop-group-init g c = some_none (OfWords c.args.graph.now (g.M.Maker.makes c.args.maker.now) c.args.depth c.args.arrivals.now (step_of c.args.step.now) c.args.node) (map (made_of (g.M.Maker.value c.args.maker.now)) c.args.out.now.items)
 
 pub loop-group-preserved : goal.loop-group-preserved
-loop-group-preserved c =
+loop-group-preserved g c =
     let groups = c.by_last-groups.result.now in
-    some_more (OfWords c.args.graph.now c.args.feeds.now c.args.depth c.args.arrivals.now (step_of c.args.step.now) c.args.node) (map group_of (take c.loop-group.group-index groups)) (map group_of (take (c.loop-group.group-index + 1) groups)) (group_of c.group-item.result)
-    (map chain_of c.args.out.now.items) (map chain_of c.loop-group.out.items) (map chain_of c.add_group.new.out.items) (map_take_next group_of groups c.loop-group.group-index c.group-item.result c.loop-group-test.true c.group-item.is) c.loop-group.invariant
+    some_more (OfWords c.args.graph.now (g.M.Maker.makes c.args.maker.now) c.args.depth c.args.arrivals.now (step_of c.args.step.now) c.args.node) (map group_of (take c.loop-group.group-index groups)) (map group_of (take (c.loop-group.group-index + 1) groups)) (group_of c.group-item.result)
+    (map (made_of (g.M.Maker.value c.args.maker.now)) c.args.out.now.items) (map (made_of (g.M.Maker.value c.args.maker.now)) c.loop-group.out.items) (map (made_of (g.M.Maker.value c.args.maker.now)) c.add_group.new.out.items) (map_take_next group_of groups c.loop-group.group-index c.group-item.result c.loop-group-test.true c.group-item.is) c.loop-group.invariant
     c.in_ok-add_group.ensures
 
 pub returns : goal.returns
-returns c =
+returns g c =
     let groups = c.by_last-groups.result.now in
-    of_node c.args.lexicon.now c.args.graph.now c.args.feeds.now c.args.depth c.args.arrivals.now (step_of c.args.step.now) c.args.node (map group_of groups) (map chain_of c.args.out.now.items) (map chain_of c.loop-group.out.items)
+    of_node c.args.lexicon.now c.args.graph.now (g.M.Maker.makes c.args.maker.now) c.args.depth c.args.arrivals.now (step_of c.args.step.now) c.args.node (map group_of groups) (map (made_of (g.M.Maker.value c.args.maker.now)) c.args.out.now.items) (map (made_of (g.M.Maker.value c.args.maker.now)) c.loop-group.out.items)
     (subst (λ w. AreGroupsOf c.args.lexicon.now w (map group_of groups)) c.word.ensures c.by_last-groups.ensures)
-    (subst (λ l. AddsThose (OfSome (OfWords c.args.graph.now c.args.feeds.now c.args.depth c.args.arrivals.now (step_of c.args.step.now) c.args.node) (map group_of l)) (map chain_of c.args.out.now.items) (map chain_of c.loop-group.out.items))
+    (subst (λ l. AddsThose (OfSome (OfWords c.args.graph.now (g.M.Maker.makes c.args.maker.now) c.args.depth c.args.arrivals.now (step_of c.args.step.now) c.args.node) (map group_of l)) (map (made_of (g.M.Maker.value c.args.maker.now)) c.args.out.now.items) (map (made_of (g.M.Maker.value c.args.maker.now)) c.loop-group.out.items))
     (all_taken groups c.loop-group.group-index c.loop-group-test.false) c.loop-group.invariant)

@@ -1,19 +1,19 @@
 use Rattle.std.proofs.Common.{arith, ◌≡◌, length, map, subst}
 use Rattle.morph_analysis.specs.Inner.Adding.{AddsThose, OfNodes}
-use Rattle.morph_analysis.specs.Views.{chain_of}
+use Rattle.morph_analysis.specs.Views.{made_of}
 use Rattle.morph_analysis.specs.LatticeViews.{step_of}
 use Rattle.morph_analysis.proofs.StepLemmas.{nodes_none, nodes_more}
 use Rattle.morph_analysis.proofs.analysis.add_step.Goals as goal
 
 pub loop-node-init : goal.loop-node-init
-loop-node-init c = nodes_none c.args.lexicon.now c.args.graph.now c.args.feeds.now c.args.depth c.args.arrivals.now (step_of c.args.step.now) (map chain_of c.args.out.now.items)
+loop-node-init g c = nodes_none c.args.lexicon.now c.args.graph.now (g.M.Maker.makes c.args.maker.now) c.args.depth c.args.arrivals.now (step_of c.args.step.now) (map (made_of (g.M.Maker.value c.args.maker.now)) c.args.out.now.items)
 
 pub loop-node-preserved : goal.loop-node-preserved
-loop-node-preserved c =
-    nodes_more c.args.lexicon.now c.args.graph.now c.args.feeds.now c.args.depth c.args.arrivals.now (step_of c.args.step.now) c.loop-node.node (map chain_of c.args.out.now.items) (map chain_of c.loop-node.out.items) (map chain_of c.add_node.new.out.items)
+loop-node-preserved g c =
+    nodes_more c.args.lexicon.now c.args.graph.now (g.M.Maker.makes c.args.maker.now) c.args.depth c.args.arrivals.now (step_of c.args.step.now) c.loop-node.node (map (made_of (g.M.Maker.value c.args.maker.now)) c.args.out.now.items) (map (made_of (g.M.Maker.value c.args.maker.now)) c.loop-node.out.items) (map (made_of (g.M.Maker.value c.args.maker.now)) c.add_node.new.out.items)
     c.loop-node.invariant c.in_ok-add_node.ensures
 
 pub returns : goal.returns
-returns c =
+returns g c =
     let end : c.loop-node.node ≡ length c.args.graph.now = omega (arith, c.len-node-end.ensures) in
-    subst (λ n. AddsThose (OfNodes c.args.lexicon.now c.args.graph.now c.args.feeds.now c.args.depth c.args.arrivals.now (step_of c.args.step.now) n) (map chain_of c.args.out.now.items) (map chain_of c.loop-node.out.items)) end c.loop-node.invariant
+    subst (λ n. AddsThose (OfNodes c.args.lexicon.now c.args.graph.now (g.M.Maker.makes c.args.maker.now) c.args.depth c.args.arrivals.now (step_of c.args.step.now) n) (map (made_of (g.M.Maker.value c.args.maker.now)) c.args.out.now.items) (map (made_of (g.M.Maker.value c.args.maker.now)) c.loop-node.out.items)) end c.loop-node.invariant

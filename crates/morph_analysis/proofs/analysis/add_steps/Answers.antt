@@ -1,6 +1,6 @@
 use Rattle.std.proofs.Common.{◌+◌, map, take, sym, subst}
 use Rattle.morph_analysis.specs.Inner.Adding.{AddsThose, OfSome, OfStep}
-use Rattle.morph_analysis.specs.Views.{chain_of}
+use Rattle.morph_analysis.specs.Views.{made_of}
 use Rattle.morph_analysis.proofs.Lists.{map_take_next, all_taken}
 use Rattle.morph_analysis.specs.LatticeViews.{step_of}
 use denote.Ref.{Bor}
@@ -11,23 +11,23 @@ use Rattle.morph_analysis.proofs.StepLemmas.{of_step, same_refl}
 use Rattle.morph_analysis.proofs.analysis.add_steps.Goals as goal
 
 pub add_step-requires : goal.add_step-requires
-add_step-requires c = within c.args.spelling.now c.as_str.result.now c.args.depth c.in_ok-graph.graph c.in_ok-graph.ensures
+add_step-requires g c = within c.args.spelling.now c.as_str.result.now c.args.depth c.in_ok-graph.graph c.in_ok-graph.ensures
 
 pub loop-i-init : goal.loop-i-init
-loop-i-init c = record {
+loop-i-init g c = record {
   graph = subst (λ w. IsSpelled c.args.spelling.now w c.args.depth c.in_ok-first.first) (sym c.in_ok-first.ensures.root.1) c.in_ok-first.ensures;
-  chains = some_none (OfStep c.args.lexicon.now c.args.spelling.now c.args.feeds.now c.args.depth c.args.arrivals.now) (map chain_of c.args.out.now.items);
+  chains = some_none (OfStep c.args.lexicon.now c.args.spelling.now (g.M.Maker.makes c.args.maker.now) c.args.depth c.args.arrivals.now) (map (made_of (g.M.Maker.value c.args.maker.now)) c.args.out.now.items);
 }
 
 pub loop-i-preserved : goal.loop-i-preserved
-loop-i-preserved c = record {
+loop-i-preserved g c = record {
   graph = subst (λ w. IsSpelled c.args.spelling.now w c.args.depth c.in_ok-graph.graph) (sym c.in_ok-graph.ensures.root.1) c.in_ok-graph.ensures;
-  chains = some_more (OfStep c.args.lexicon.now c.args.spelling.now c.args.feeds.now c.args.depth c.args.arrivals.now) (map (λ (s : Bor Step). step_of s.now) (take c.loop-i.i c.args.sorted.now)) (map (λ (s : Bor Step). step_of s.now) (take (c.loop-i.i + 1) c.args.sorted.now)) (step_of c.index-sorted-i.result.now)
-      (map chain_of c.args.out.now.items) (map chain_of c.loop-i.out.items) (map chain_of c.add_step.new.out.items) (map_take_next (λ (s : Bor Step). step_of s.now) c.args.sorted.now c.loop-i.i c.index-sorted-i.result c.loop-i-test.true c.index-sorted-i.is) c.loop-i.invariant.chains
-      (of_step c.args.lexicon.now c.args.spelling.now c.in_ok-graph.graph c.args.feeds.now c.args.depth c.args.arrivals.now c.args.arrivals.now (step_of c.index-sorted-i.result.now) (map chain_of c.loop-i.out.items) (map chain_of c.add_step.new.out.items)
+  chains = some_more (OfStep c.args.lexicon.now c.args.spelling.now (g.M.Maker.makes c.args.maker.now) c.args.depth c.args.arrivals.now) (map (λ (s : Bor Step). step_of s.now) (take c.loop-i.i c.args.sorted.now)) (map (λ (s : Bor Step). step_of s.now) (take (c.loop-i.i + 1) c.args.sorted.now)) (step_of c.index-sorted-i.result.now)
+      (map (made_of (g.M.Maker.value c.args.maker.now)) c.args.out.now.items) (map (made_of (g.M.Maker.value c.args.maker.now)) c.loop-i.out.items) (map (made_of (g.M.Maker.value c.args.maker.now)) c.add_step.new.out.items) (map_take_next (λ (s : Bor Step). step_of s.now) c.args.sorted.now c.loop-i.i c.index-sorted-i.result c.loop-i-test.true c.index-sorted-i.is) c.loop-i.invariant.chains
+      (of_step c.args.lexicon.now c.args.spelling.now c.in_ok-graph.graph (g.M.Maker.makes c.args.maker.now) c.args.depth c.args.arrivals.now c.args.arrivals.now (step_of c.index-sorted-i.result.now) (map (made_of (g.M.Maker.value c.args.maker.now)) c.loop-i.out.items) (map (made_of (g.M.Maker.value c.args.maker.now)) c.add_step.new.out.items)
       (subst (λ w. IsSpelled c.args.spelling.now w c.args.depth c.in_ok-graph.graph) c.as_str.ensures.value c.in_ok-graph.ensures) (same_refl c.args.arrivals.now) c.in_ok-add_step.ensures);
 }
 
 pub returns : goal.returns
-returns c =
-    subst (λ l. AddsThose (OfSome (OfStep c.args.lexicon.now c.args.spelling.now c.args.feeds.now c.args.depth c.args.arrivals.now) (map (λ (s : Bor Step). step_of s.now) l)) (map chain_of c.args.out.now.items) (map chain_of c.loop-i.out.items)) (all_taken c.args.sorted.now c.loop-i.i c.loop-i-test.false) c.loop-i.invariant.chains
+returns g c =
+    subst (λ l. AddsThose (OfSome (OfStep c.args.lexicon.now c.args.spelling.now (g.M.Maker.makes c.args.maker.now) c.args.depth c.args.arrivals.now) (map (λ (s : Bor Step). step_of s.now) l)) (map (made_of (g.M.Maker.value c.args.maker.now)) c.args.out.now.items) (map (made_of (g.M.Maker.value c.args.maker.now)) c.loop-i.out.items)) (all_taken c.args.sorted.now c.loop-i.i c.loop-i-test.false) c.loop-i.invariant.chains

@@ -1,6 +1,4 @@
-use Rattle.std.proofs.Common.{rules, arith, ◌≡◌, ◌∙◌, ◌+◌, ◌-◌, ◌*◌, ◌<◌, ◌≤◌, ◌++◌, ◌⊎◌, inl, inr, ℕ, Bool, true, false, Some, None, List, [], ◌∷◌, suc, length, map, take, drop, get_or, refl, sym, ap, subst}
-use Rattle.std.specs.Prelude.{encode_utf8_all}
-use Rattle.morph_analysis.specs.Inner.Lines.{item_of}
+use Rattle.std.proofs.Common.{arith, ◌+◌, ◌-◌, length, take, drop, ap}
 use Rattle.morph_analysis.proofs.LineLemmas.{bytes_within, left_is, rest_is}
 use Rattle.morph_analysis.proofs.items.after_blanks.Goals as goal
 

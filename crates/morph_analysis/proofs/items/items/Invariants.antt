@@ -1,7 +1,6 @@
-use Rattle.std.proofs.Common.{◌≡◌, ◌<◌, ◌≤◌, ◌+◌, ◌++◌, ◌⊎◌, ℕ, Bool, List, [], ◌∷◌, length, map, take, drop, get_or, string_bytes}
-use Rattle.word_lists.specs.Words.{Word, Has, Each}
-use Rattle.morph_analysis.specs.LatticeLines.{ItemTree, Items, AllWrite, IsEnd, once, value_of, IsNumber, Writes}
-use Rattle.morph_analysis.specs.Inner.Lines.{item_of, IsLeft, BeginsWith, IsAtColon, HasParts, HasNoParts, WritesNone}
+use Rattle.std.proofs.Common.{◌≡◌, ◌+◌, ◌++◌, List, length, map}
+use Rattle.morph_analysis.specs.LatticeLines.{ItemTree, Items}
+use Rattle.morph_analysis.specs.Inner.Lines.{item_of, BeginsWith}
 use Rattle.std.specs.Prelude.{encode_utf8_all, false}
 use Rattle.morph_analysis.proofs.items.items.Given as goal
 

@@ -1,4 +1,4 @@
-use Rattle.std.proofs.Common.{rules, arith, ◌≡◌, ◌∙◌, ◌+◌, ◌-◌, ◌*◌, ◌<◌, ◌≤◌, ◌++◌, ◌⊎◌, inl, inr, ℕ, Bool, true, false, Some, None, List, [], ◌∷◌, suc, length, map, take, drop, get_or, refl, sym, ap, subst}
+use Rattle.std.proofs.Common.{arith, ◌≡◌, ◌∙◌, ◌<◌, ◌≤◌, length, refl, sym, ap}
 use Rattle.morph_analysis.proofs.Lists.{empty_list}
 use Rattle.morph_analysis.proofs.LineLemmas.{one_number, has_colon, rest_colon, parts_are}
 use Rattle.morph_analysis.proofs.written.parts_of.Goals as goal
