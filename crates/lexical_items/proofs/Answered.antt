@@ -1,5 +1,5 @@
 -- What is kept of all chains is the answer.
-use Rattle.std.specs.Prelude.{ℕ, ◌≡◌, ◌<◌, ◌≤◌, ◌+◌, ◌⊎◌, List, [], ◌∷◌, length, map}
+use Rattle.std.specs.Prelude.{ℕ, ◌≡◌, ◌<◌, ◌≤◌, ◌+◌, List, [], ◌∷◌, length, map}
 use Rattle.std.proofs.Common.{inl, inr, refl, sym, ◌∙◌, ap, subst, zero, suc, arith}
 use Rattle.std.specs.Ordering.{ordering_reverse}
 use Rattle.std.specs.declared.cmp.Ordering.TheVariants.{Less, Greater}
@@ -12,19 +12,18 @@ use Rattle.spelling_rules.specs.Trees.{SpellingTree}
 use Rattle.item_model.specs.Signs.{Signs, an_entry, a_lexical_rule}
 use Rattle.item_model.specs.Lexical as item
 use Rattle.item_model.specs.Trees.{full_lexical}
-use Rattle.fs_model.specs.Claims.{IsOrder}
 use Rattle.parse_items.specs.Lattices.{spans_lexical}
-use Rattle.parse_items.specs.Licensed.{IsLexicalTree, IsLeaf}
+use Rattle.parse_items.specs.Licensed.{IsLexicalTree}
 use Rattle.morph_analysis.specs.Lattices.{LatticeTree, IsValid}
 use Rattle.morph_analysis.specs.Allowed.{FeedsTree}
-use Rattle.morph_analysis.specs.Chains.{ChainTree, chain_order, AreInOrder, IsChain, AreChains}
-use Rattle.morph_analysis.proofs.OrderLemmas.{chain_total}
+use Rattle.morph_analysis.specs.Chains.{ChainTree, chain_order, AreInOrder, IsChain}
+use Rattle.morph_analysis.specs.Inner.Orders.{chain_total}
 use Rattle.lexical_items.specs.Places.{ArePlaces, place_in}
 use Rattle.lexical_items.specs.Said.{AreNumbered}
 use Rattle.lexical_items.proofs.Saying.{AreSaid}
 use Rattle.lexical_items.specs.Seen.{lattice_seen, tree_of, ForbidsNone}
-use Rattle.lexical_items.specs.Listed.{Lexeme, Lexical, TooDeep, Trees, IsLexeme, AreLexemes, IsLexicalAnswer}
-use Rattle.lexical_items.specs.Inner.Kept.{IsFullOf, lexeme_of, Keeps, keeps_none, keeps_tree, keeps_less, AreShallow, AreKept}
+use Rattle.lexical_items.specs.Listed.{Lexeme, Lexical, TooDeep, Trees, IsLexeme, IsLexicalAnswer}
+use Rattle.lexical_items.specs.Inner.Kept.{IsFullOf, AreFull, lexeme_of, Keeps, keeps_none, keeps_tree, AreShallow, AreKept}
 use Rattle.lexical_items.proofs.Spelled.{forward}
 use Rattle.lexical_items.proofs.Lists.{length_map, snoc_some}
 use Rattle.lexical_items.proofs.Treed.{is_tree, FromChain, from_chain, one_chain}
@@ -54,15 +53,12 @@ module _ (g : Signs) (entries rules : List ℕ) where
   comes {n = n} keeps_none a = elim a [ ]
   comes (keeps_tree c f full more) here = record { chain = c; has = inl refl; structure = f; full = full; is = refl }
   comes (keeps_tree c f full more) (there a) = later c (comes more a)
-  comes (keeps_less c none more) a = later c (comes more a)
 
   -- a chain that has a full structure is kept
   pub kept : {cs : List ChainTree} {xs : List Lexeme} (c : ChainTree) (f : Structure) → Keeps g entries rules cs xs → Has c cs → IsFullOf g entries rules c f → (n : ℕ) × (x : Lexeme) × At xs n x × (x.tree ≡ tree_of entries rules c)
   kept c f keeps_none h full = absurd h
   kept c f (keeps_tree d e own more) (inl q) full = (0, lexeme_of entries rules d e, here, ap (tree_of entries rules) (sym q))
   kept c f (keeps_tree d e own more) (inr h) full = let r = kept c f more h full in (suc r.0, r.1, there r.2, r.3)
-  kept c f (keeps_less d none more) (inl q) full = absurd (none f (subst (λ z. IsFullOf g entries rules z f) q full))
-  kept c f (keeps_less d none more) (inr h) full = kept c f more h full
 
   -- no tree is kept twice, where chains of one tree are one
   pub kept_once : {cs : List ChainTree} {xs : List Lexeme} → Keeps g entries rules cs xs → AreInOrder cs → ((c d : ChainTree) → Has c cs → Has d cs → tree_of entries rules c ≡ tree_of entries rules d → c ≡ d)
@@ -79,9 +75,8 @@ module _ (g : Signs) (entries rules : List ℕ) where
       absurd (not_self c (subst (λ d. chain_order c d ≡ Less) (sym same) (before_at c h.chain cs order.0 h.has)))
   kept_once (keeps_tree c f own more) order one (suc n) (suc m) x y (there a) (there b) e =
       ap suc (kept_once more order.1 (λ p q u v w. one p q (inr u) (inr v) w) n m x y a b e)
-  kept_once (keeps_less c none more) order one n m x y a b e = kept_once more order.1 (λ p q u v w. one p q (inr u) (inr v) w) n m x y a b e
 
-module _ (g : Signs) (entries rules : List ℕ) (entry_places : ArePlaces g an_entry entries) (rule_places : ArePlaces g a_lexical_rule rules) (lexicon : List EntryTree) (s : SpellingTree) (numbered : AreNumbered entries rules lexicon s) (feeds : FeedsTree) (harmless : ForbidsNone g entries rules feeds) (l : LatticeTree) (valid : IsValid l) (most : ℕ) (chains : List ChainTree) (are : AreChains lexicon s feeds l (most + 1) chains) (words : item.Words) (said : AreSaid entries rules lexicon s words) where
+module _ (g : Signs) (entries rules : List ℕ) (entry_places : ArePlaces g an_entry entries) (rule_places : ArePlaces g a_lexical_rule rules) (lexicon : List EntryTree) (s : SpellingTree) (numbered : AreNumbered entries rules lexicon s) (feeds : FeedsTree) (harmless : ForbidsNone g entries rules feeds) (l : LatticeTree) (valid : IsValid l) (most : ℕ) (chains : List ChainTree) (are : AreFull g entries rules lexicon s feeds l (most + 1) chains) (words : item.Words) (said : AreSaid entries rules lexicon s words) where
   back : (t : Derivation) → IsLexicalTree g words (lattice_seen l) t → item.rule_count t ≤ most + 1 → FromChain g entries rules entry_places rule_places lexicon s numbered feeds harmless l (most + 1) words said t
   back = from_chain g entries rules entry_places rule_places lexicon s numbered feeds harmless l (most + 1) words said
 
@@ -112,14 +107,14 @@ module _ (g : Signs) (entries rules : List ℕ) (entry_places : ArePlaces g an_e
   answered (Trees xs) k = (
     λ deep.
         let b = back deep.tree deep.is (omega (arith, deep.deep)) in
-        let low = k.0 b.chain b.structure (are.all b.chain b.is_chain) b.full in
+        let low = k.0 b.chain b.structure (are.all b.chain b.structure b.is_chain b.full) b.full in
         let long : length b.chain.rules ≡ most + 1 = sym (length_map (place_in rules) b.chain.rules) ∙ ap item.rule_count b.is ∙ deep.deep in
         omega (arith, low, long),
     record {
       each = λ n x a. lexeme x k.0 (comes g entries rules k.1 a);
       all = λ t h.
           let b = back t h.0 (omega (arith, h.1)) in
-          let r = kept g entries rules b.chain b.structure k.1 (are.all b.chain b.is_chain) b.full in
+          let r = kept g entries rules b.chain b.structure k.1 (are.all b.chain b.structure b.is_chain b.full) b.full in
           (r.0, r.1, r.2, r.3 ∙ b.is);
       once = kept_once g entries rules k.1 are.order one;
     },

@@ -5,3 +5,5 @@ pub mod Treed
 pub mod Under
 pub mod Answered
 pub mod Kept
+pub mod Harmless
+pub mod Outwards

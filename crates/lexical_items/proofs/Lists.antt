@@ -1,7 +1,7 @@
 -- Lists: where an element stands, and lists by their last element.
-use Rattle.std.specs.Prelude.{ℕ, ◌≡◌, ◌<◌, ◌+◌, ◌⊎◌, List, [], ◌∷◌, ◌++◌, length, map}
+use Rattle.std.specs.Prelude.{ℕ, ◌≡◌, ◌<◌, ◌+◌, List, [], ◌∷◌, ◌++◌, length, map}
 use Rattle.std.specs.List.{range_with_len}
-use Rattle.std.proofs.Common.{inl, inr, refl, sym, ◌∙◌, ap, subst, zero, suc, arith}
+use Rattle.std.proofs.Common.{inl, inr, refl, ◌∙◌, ap, subst, zero, suc, arith}
 use Rattle.fs_model.specs.Claims as claims
 use Rattle.word_lists.specs.Words as lists
 use Rattle.chart_model.specs.At.{At, here, there}

@@ -1,10 +1,9 @@
 -- What a chain spells, by numbers and by places, and what a path of steps carries.
-use Rattle.std.specs.Prelude.{ℕ, ◌≡◌, ◌<◌, ◌≤◌, ◌+◌, ◌⊎◌, List, [], ◌∷◌, ◌++◌, length, map}
+use Rattle.std.specs.Prelude.{ℕ, ◌≡◌, ◌<◌, ◌≤◌, List, [], ◌∷◌, ◌++◌, length, map}
 use Rattle.std.specs.List.{range_with_len}
-use Rattle.std.proofs.Common.{inl, inr, refl, sym, ◌∙◌, ap, subst, zero, suc, arith}
-use Rattle.fs_model.specs.Claims as claims
+use Rattle.std.proofs.Common.{inl, inr, refl, sym, ◌∙◌, ap, subst, arith}
 use Rattle.word_lists.specs.Words as lists
-use Rattle.chart_model.specs.At.{At, here, there, at_one, at_below}
+use Rattle.chart_model.specs.At.{At, there, at_one, at_below}
 use Rattle.cover.specs.Calculus.{Along, along_none, along_more}
 use Rattle.lexicon.specs.Entries.{EntryTree}
 use Rattle.spelling_rules.specs.Trees.{SpellingTree}
@@ -16,7 +15,7 @@ use Rattle.morph_analysis.specs.Chains.{Leads, there, by, Spells, HaveWords}
 use Rattle.lexical_items.specs.Said.{AreNumbered}
 use Rattle.lexical_items.proofs.Saying.{AreSaid}
 use Rattle.lexical_items.specs.Seen.{step_seen, lattice_seen}
-use Rattle.lexical_items.proofs.Lists.{has_at, at_has, claimed, unclaimed, snoc_same, last_of, at_map, at_unmap, range_at, range_has}
+use Rattle.lexical_items.proofs.Lists.{has_at, at_has, claimed, unclaimed, snoc_same, last_of, at_map, at_unmap, range_at}
 
 -- the entry with a number is one
 pub number_at : (k : ℕ) (xs : List EntryTree) → map (λ e. e.number) xs ≡ range_with_len 0 k → (n : ℕ) (e : EntryTree) → At xs n e → (e.number ≡ n) × (n < k)

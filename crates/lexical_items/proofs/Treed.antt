@@ -1,11 +1,8 @@
 -- Chains as lexical trees, and back.
-use Rattle.std.specs.Prelude.{ℕ, ◌≡◌, ◌<◌, ◌≤◌, ◌+◌, ◌⊎◌, All, List, [], ◌∷◌, ◌++◌, Some, None, length, map, slice_get}
-use Rattle.std.specs.List.{range_with_len}
+use Rattle.std.specs.Prelude.{ℕ, ◌≡◌, ◌<◌, ◌≤◌, ◌⊎◌, All, List, [], ◌∷◌, ◌++◌, Some, None, length, map}
 use Rattle.std.proofs.Common.{inl, inr, refl, sym, ◌∙◌, ap, subst, zero, suc, arith}
 use Rattle.std.proofs.lemmas.Bool.{cases_order}
-use Rattle.fs_model.specs.Claims.{IsOrder}
-use Rattle.word_lists.specs.Words.{Has}
-use Rattle.chart_model.specs.At.{At, here, there, at_found, at_below, to_get}
+use Rattle.chart_model.specs.At.{At, there, at_found}
 use Rattle.cover.specs.Calculus.{Along, along_none, along_more}
 use Rattle.derivation.specs.Trees.{Derivation, lexical, phrase}
 use Rattle.rule_model.specs.Structures.{Structure}

@@ -1,11 +1,6 @@
 -- What lexical rules make of a full structure, from the inside out.
-use Rattle.std.specs.Prelude.{ℕ, ◌≡◌, ◌<◌, ◌≤◌, ◌+◌, All, List, [], ◌∷◌, ◌++◌, Option, Some, None, Result, IfOk, MatchOption, length, map, slice_get}
-use Rattle.std.proofs.Common.{Ok, Err, take, get_or, refl, sym, ap, subst, zero, suc, arith}
-use Rattle.std.proofs.lemmas.Grind.{get_or_default_zero}
-use Rattle.morph_analysis.proofs.Lists.{map_take_next, all_taken}
-use Rattle.chart_model.specs.At.{At}
-use Rattle.lexical_items.specs.Places.{place_in}
-use Rattle.lexical_items.proofs.Treed.{placed}
+use Rattle.std.specs.Prelude.{ℕ, ◌≡◌, List, [], ◌∷◌, ◌++◌, Some, None, slice_get}
+use Rattle.std.proofs.Common.{refl, sym, subst}
 use Rattle.fs_model.specs.Claims.{IsOrder}
 use Rattle.rule_model.specs.Structures.{Structure}
 use Rattle.rule_model.specs.Mothers.{IsFull}
@@ -13,7 +8,6 @@ use Rattle.rule_model.proofs.Closures.{closure_ends, kept_ends}
 use Rattle.item_model.specs.Signs.{Signs, Instance, rule_system}
 use Rattle.item_model.specs.Lexical.{FullUnder, under_none, under_next, IsEntry, IsUnderRule, FullLexical}
 use Rattle.item_model.specs.Trees.{full_lexical}
-use Rattle.derivation.specs.Trees.{lexical}
 use Rattle.item_model.proofs.Once.{one_structure, one}
 
 pub under_more : {g : Signs} {d e f : Structure} {ps : List ℕ} {p : ℕ} → FullUnder g d ps e → IsUnderRule g p e f → FullUnder g d (ps ++ p ∷ []) f
@@ -33,13 +27,14 @@ module _ (g : Signs) (o : IsOrder g.system) where
   one_under h under_none under_none = h
   one_under h (under_next x xs) (under_next {e = m} {rule = p} y ys) = one_under (one_rule x (subst (λ z. IsUnderRule g p z m) (sym h) y)) xs ys
 
-  record Split (d : Structure) (ps : List ℕ) (p : ℕ) : Type 0 where
-    inner : Structure
-    before : FullUnder g d ps inner
-    outer : Structure
-    under : IsUnderRule g p inner outer
+  -- what the rules before one make
+  pub record Split (d : Structure) (ps : List ℕ) (p : ℕ) : Type 0 where
+    pub inner : Structure
+    pub before : FullUnder g d ps inner
+    pub outer : Structure
+    pub under : IsUnderRule g p inner outer
 
-  split : {d f : Structure} {zs : List ℕ} (ps : List ℕ) (p : ℕ) (qs : List ℕ) → FullUnder g d zs f → zs ≡ ps ++ p ∷ qs → Split d ps p
+  pub split : {d f : Structure} {zs : List ℕ} (ps : List ℕ) (p : ℕ) (qs : List ℕ) → FullUnder g d zs f → zs ≡ ps ++ p ∷ qs → Split d ps p
   split [] p qs under_none e = absurd (cc)
   split {d = d} [] p qs (under_next {e = m} {rule = r} x more) e =
       let q : r ≡ p = cc in
@@ -61,43 +56,3 @@ module _ (g : Signs) (o : IsOrder g.system) where
   pub from_entry : {p : ℕ} {d f : Structure} {ps : List ℕ} → IsEntry g p d → FullLexical g p ps f → FullUnder g d ps f
   from_entry {p = p} {f = f} {ps = ps} x h =
       subst (λ z. FullUnder g z ps f) (one g o (full_lexical {words = []} {nodes = None} (h.0, h.1, under_none)) (full_lexical {words = []} {nodes = None} (_, x, under_none))) h.2
-
--- a list of places around one of them
-cut_at : (place : ℕ → ℕ) (xs : List ℕ) (i : ℕ) → i < length xs → (after : List ℕ) × (map place xs ≡ map place (take i xs) ++ place (get_or xs i 0) ∷ after)
-cut_at place [] i h = absurd (omega arith)
-cut_at place (x ∷ xs) zero h = (map place xs, refl)
-cut_at place (x ∷ xs) (suc i) h = let r = cut_at place xs i (omega arith) in (r.0, ap (λ ys. place x ∷ ys) r.1)
-
-pub place_there : (places rules : List ℕ) (i place : ℕ) → All (λ rule. rule < length places) rules → i < length rules → place ≡ place_in places (get_or rules i 0) → (x : ℕ) × At places x place
-place_there places rules i place all h e = (get_or rules i 0, subst (At places (get_or rules i 0)) (sym e) (placed places (get_or rules i 0) (all i 0 h)))
-
-module _ (g : Signs) (places rules : List ℕ) (d : Structure) where
-  abbrev Made : ℕ → Structure → Type 0
-  Made i f = FullUnder g d (map (place_in places) (take i rules)) f
-
-  pub made_none : Made 0 d
-  made_none = none rules
-    where
-      none : (xs : List ℕ) → FullUnder g d (map (place_in places) (take 0 xs)) d
-      none [] = under_none
-      none (x ∷ xs) = under_none
-
-  pub made_next : (i place : ℕ) (e f : Structure) → i < length rules → place ≡ place_in places (get_or rules i 0) → Made i e → IsUnderRule g place e f → Made (i + 1) f
-  made_next i place e f h p x y =
-      subst (λ ps. FullUnder g d ps f) (sym (map_take_next (place_in places) rules i (get_or rules i 0) h (sym (get_or_default_zero rules i (get_or rules i 0) h))))
-      (under_more x (subst (λ q. IsUnderRule g q e f) p y))
-
-  pub made_all : (i : ℕ) (f : Structure) → length rules ≤ i → Made i f → FullUnder g d (map (place_in places) rules) f
-  made_all i f h x = subst (λ rs. FullUnder g d (map (place_in places) rs) f) (all_taken rules i h) x
-
-  pub made_never : IsOrder g.system → (i place : ℕ) (e f : Structure) → i < length rules → place ≡ place_in places (get_or rules i 0) → Made i e → ((u : Structure) → IsUnderRule g place e u → ⊥) → FullUnder g d (map (place_in places) rules) f → ⊥
-  made_never o i place e f h p x none y =
-      let cut = cut_at (place_in places) rules i h in
-      stuck g o (map (place_in places) (take i rules)) (place_in places (get_or rules i 0)) cut.0 x (subst (λ q. (u : Structure) → IsUnderRule g q e u → ⊥) p none) cut.1 y
-
--- an entry's structure under rules
-pub full_by : {T E : Type 0} (g : Signs) (o : IsOrder g.system) (value : T → Structure) (p q : ℕ) (d : Structure) (ps qs : List ℕ) (r : Result (Option T) E) → p ≡ q → ps ≡ qs → IsEntry g p d →
-    IfOk r (λ x. MatchOption x ((f : Structure) → FullUnder g d ps f → ⊥) (λ m. FullUnder g d ps (value m))) → IfOk r (λ x. MatchOption x ((f : Structure) → FullLexical g q qs f → ⊥) (λ m. FullLexical g q qs (value m)))
-full_by g o value p q d ps qs (Err e) a b x h = tt
-full_by g o value p q d ps qs (Ok None) a b x h = λ f k. h f (from_entry g o x (subst (λ i. FullLexical g i ps f) (sym a) (subst (λ is. FullLexical g q is f) (sym b) k)))
-full_by g o value p q d ps qs (Ok (Some m)) a b x h = subst (λ is. FullLexical g q is (value m)) b (subst (λ i. FullLexical g i ps (value m)) a (d, x, h))

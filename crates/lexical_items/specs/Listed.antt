@@ -1,14 +1,13 @@
 -- The lexical trees of a lattice, as a list.
-use Rattle.std.specs.Prelude.{ℕ, ◌≡◌, ◌<◌, ◌+◌, List}
+use Rattle.std.specs.Prelude.{ℕ, ◌≡◌, ◌<◌, List}
 use Rattle.chart_model.specs.At.{At}
-use Rattle.cover.specs.declared.span.Span.{Span}
 use Rattle.derivation.specs.Trees.{Derivation}
 use Rattle.rule_model.specs.Structures.{Structure}
 use Rattle.item_model.specs.Signs.{Signs}
-use Rattle.item_model.specs.Lexical.{Words, rule_count}
+use Rattle.item_model.specs.Lexical.{Words}
 use Rattle.item_model.specs.Trees.{Full}
 use Rattle.parse_items.specs.Lattices.{Lattice, Spans}
-use Rattle.parse_items.specs.Licensed.{IsLexicalTree, IsLeaf, IsTooDeep}
+use Rattle.parse_items.specs.Licensed.{IsLeaf, IsTooDeep}
 
 -- a lexical tree with the nodes between which it lies and its full structure
 pub record Lexeme : Type 0 where

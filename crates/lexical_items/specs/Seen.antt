@@ -1,5 +1,5 @@
 -- Lattices and chains in the words of lexical trees.
-use Rattle.std.specs.Prelude.{ℕ, ◌≡◌, Some, List, map}
+use Rattle.std.specs.Prelude.{ℕ, Some, List, map}
 use Rattle.derivation.specs.Trees.{Derivation, lexical}
 use Rattle.item_model.specs.Signs.{Signs}
 use Rattle.item_model.specs.Lexical.{FullLexical}

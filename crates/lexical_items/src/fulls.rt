@@ -1,6 +1,6 @@
 //! What is asked of the full structures of entries and lexical rules.
 
-ghost use Rattle.std.specs.Prelude.{◌≡◌, ℕ, List, IfOk, MatchOption};
+ghost use Rattle.std.specs.Prelude.{◌≡◌, ℕ, List, false, IfOk, MatchOption};
 ghost use Rattle.fs_model.specs.Claims.{IsOrder};
 ghost use Rattle.chart_model.specs.At.{At};
 ghost use Rattle.rule_model.specs.Structures.{Structure};
@@ -60,6 +60,18 @@ pub trait LexicalFulls {
         ensures { IfOk result (λ o. MatchOption o
             ((f : Structure) → IsUnderRule (signs self.now) place (value self.now full.now) f → ⊥)
             (λ made. IsUnderRule (signs self.now) place (value self.now full.now) (value self.now made))) };
+
+    /// Whether the lexical rule at one place may apply to what that at another place makes; false only where it never does.
+    fn may_follow(
+        &self,
+        alloc: Global,
+        work: &mut Self::Work,
+        inner: u32,
+        outer: u32,
+    ) -> Result<bool, NoMemory>
+        requires inner { (n : ℕ) × At (rules_of self.now) n inner }
+        requires outer { (n : ℕ) × At (rules_of self.now) n outer }
+        ensures { IfOk result (λ yes. yes ≡ false → (d e f : Structure) → IsUnderRule (signs self.now) inner d e → IsUnderRule (signs self.now) outer e f → ⊥) };
 
     /// A law: types are in order, and the places of entries and of lexical rules are those of all of them. It does nothing.
     fn laws(&self)

@@ -11,13 +11,18 @@ ghost use Rattle.lexical_items.specs.Seen.{lattice_seen, ForbidsNone};
 ghost use Rattle.lexical_items.specs.Listed.{IsLexicalAnswer};
 ghost use Rattle.lexical_items.specs.Views.{lexical_seen};
 
+mod feeding;
 mod fulls;
+mod lexeme;
+mod making;
 mod trees;
 
-use derivation::Tree;
+pub use feeding::feeds_of;
 pub use fulls::LexicalFulls;
+pub use lexeme::LexTree;
 use lexicon::Lexicon;
-use morph_analysis::{Feeds, Lattice, chains};
+use making::FullChains;
+use morph_analysis::{Feeds, Lattice, made_chains};
 use spelling_rules::Spelling;
 use std::alloc::{AllocError, AllocFailed, Global};
 use trees::trees_of;
@@ -50,15 +55,6 @@ impl From<word_lists::NoMemory> for NoMemory {
     }
 }
 
-/// A lexical tree between two nodes of a lattice, with its full structure.
-#[derive(Drop)]
-pub struct LexTree<T> {
-    pub from: u32,
-    pub to: u32,
-    pub tree: Tree,
-    pub full: T,
-}
-
 /// What is found of the lexical trees of a lattice.
 #[derive(Drop)]
 pub enum LexTrees<T> {
@@ -71,7 +67,8 @@ pub enum LexTrees<T> {
 /// The lexical trees of at most `most` rules that lie in a lattice, each once; or that one of exactly `most + 1` rules does.
 ///
 /// The lexicon and the spelling are those of the grammar, with its entries and lexical rules by number. `feeds` forbids no
-/// lexical tree; it only spares work.
+/// lexical tree; it only spares work. The search goes outwards from each entry and ends where a rule makes nothing, so that it
+/// costs a unification for each beginning of a chain with a full structure, and one for each rule that fails there.
 pub fn lexical_trees<F: LexicalFulls>(
     alloc: Global,
     fulls: &F,
@@ -89,6 +86,8 @@ pub fn lexical_trees<F: LexicalFulls>(
     ensures { IfOk result (λ trees. IsLexicalAnswer (F.signs fulls.now) (words_said (F.entries_of fulls.now) (F.rules_of fulls.now) lexicon.now spelling.now) (lattice_seen (lattice_of lattice.now)) most (lexical_seen (F.value fulls.now) trees)) }
 {
     fulls.laws();
-    let chains = chains(alloc, lexicon, spelling, feeds, lattice, most + 1)?;
-    trees_of(alloc, fulls, work, &chains, most)
+    let maker = FullChains { fulls, feeds };
+    let chains = made_chains(alloc, &maker, work, lexicon, spelling, lattice, most + 1)?;
+    let trees = trees_of(alloc, fulls, chains, most)?;
+    Ok(trees)
 }

@@ -1,13 +1,23 @@
--- The chains that have a full structure, with their trees.
-use Rattle.std.specs.Prelude.{ℕ, ◌<◌, ◌≤◌, List, [], ◌∷◌, Option, Some, None, All, length, map}
+-- Chains with their full structures, and their trees.
+use Rattle.std.specs.Prelude.{ℕ, ◌<◌, ◌≤◌, List, [], ◌∷◌, All, length, map}
 use Rattle.word_lists.specs.Words.{Has}
 use Rattle.rule_model.specs.Structures.{Structure}
 use Rattle.item_model.specs.Signs.{Signs}
 use Rattle.item_model.specs.Lexical.{FullLexical}
-use Rattle.morph_analysis.specs.Chains.{ChainTree}
+use Rattle.lexicon.specs.Entries.{EntryTree}
+use Rattle.spelling_rules.specs.Trees.{SpellingTree}
+use Rattle.morph_analysis.specs.Allowed.{FeedsTree}
+use Rattle.morph_analysis.specs.Chains.{ChainTree, IsChain, AreInOrder}
+use Rattle.morph_analysis.specs.Lattices.{LatticeTree}
+use Rattle.morph_analysis.specs.declared.made.MadeChain.{MadeChain}
+use Rattle.morph_analysis.specs.Views.{chain_of}
 use Rattle.lexical_items.specs.Places.{place_in}
 use Rattle.lexical_items.specs.Seen.{tree_of}
 use Rattle.lexical_items.specs.Listed.{Lexeme, Lexical, TooDeep, Trees}
+
+-- a chain without what is made of it
+abbrev pub chain_in : {T : Type 0} → MadeChain T → ChainTree
+chain_in x = chain_of x.chain
 
 module _ (entries rules : List ℕ) where
   -- the numbers of a chain are in range
@@ -21,21 +31,21 @@ module _ (entries rules : List ℕ) where
   abbrev pub lexeme_of : ChainTree → Structure → Lexeme
   lexeme_of c f = record { tree = tree_of entries rules c; from = c.from; to = c.to; full = f }
 
-  -- the tree of a chain, if it has a full structure
-  abbrev pub lexemes_in : {T : Type 0} → (T → Structure) → ChainTree → Option T → List Lexeme
-  lexemes_in value c None = []
-  lexemes_in value c (Some m) = lexeme_of c (value m) ∷ []
-
 module _ (g : Signs) (entries rules : List ℕ) where
   -- the full structure of a chain
   abbrev pub IsFullOf : ChainTree → Structure → Type 0
   IsFullOf c f = FullLexical g (place_in entries c.entry) (map (place_in rules) c.rules) f
 
-  -- each chain that has a full structure gives its tree, and the others none
+  -- exactly the chains that have a full structure, in order
+  pub record AreFull (lexicon : List EntryTree) (s : SpellingTree) (feeds : FeedsTree) (l : LatticeTree) (depth : ℕ) (cs : List ChainTree) : Type 0 where
+    pub have : (c : ChainTree) → Has c cs → IsChain lexicon s feeds l depth c
+    pub all : (c : ChainTree) (f : Structure) → IsChain lexicon s feeds l depth c → IsFullOf c f → Has c cs
+    pub order : AreInOrder cs
+
+  -- each chain, with its full structure, gives its tree
   pub data Keeps : List ChainTree → List Lexeme → Type 0 where
     keeps_none : Keeps [] []
     keeps_tree : (c : ChainTree) (f : Structure) {cs : List ChainTree} {xs : List Lexeme} → IsFullOf c f → Keeps cs xs → Keeps (c ∷ cs) (lexeme_of entries rules c f ∷ xs)
-    keeps_less : (c : ChainTree) {cs : List ChainTree} {xs : List Lexeme} → ((f : Structure) → IsFullOf c f → ⊥) → Keeps cs xs → Keeps (c ∷ cs) xs
 
   -- none that has one is deeper than this
   abbrev pub AreShallow : ℕ → List ChainTree → Type 0
