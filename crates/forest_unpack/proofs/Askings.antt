@@ -1,8 +1,8 @@
 -- Hosts that are asked for, row by row.
-use Rattle.std.specs.Prelude.{◌≡◌, ◌⊎◌, ℕ, ◌+◌, ◌<◌, ◌≤◌, true, is_some, Some, None, List, [], ◌∷◌, ◌++◌, map, slice_get, refl}
+use Rattle.std.specs.Prelude.{◌≡◌, ◌⊎◌, ℕ, ◌+◌, ◌<◌, ◌≤◌, true, is_some, Some, None, List, [], ◌∷◌, ◌++◌, map, slice_get}
 use Rattle.std.proofs.Common.{inl, inr, ap, subst, sym, ◌∙◌, arith}
 use Rattle.std.proofs.lemmas.Bool.{cases_lt}
-use Rattle.chart_model.specs.At.{At, at_one, from_get}
+use Rattle.chart_model.specs.At.{at_one, from_get}
 use Rattle.chart_core.specs.declared.Row.{Row}
 use Rattle.forest_model.specs.Readings.{Wholes}
 use Rattle.forest_model.specs.Lists as model

@@ -1,8 +1,8 @@
 -- A skeleton and a plan, from the rows of a finished chart.
-use Rattle.std.specs.Prelude.{◌≡◌, ℕ, ◌+◌, ◌*◌, ◌<◌, ◌≤◌, true, is_some, option_map, Option, Some, None, List, [], ◌∷◌, length, map, slice_get, refl, All}
+use Rattle.std.specs.Prelude.{◌≡◌, ℕ, ◌+◌, ◌*◌, ◌<◌, ◌≤◌, true, is_some, option_map, Option, Some, None, List, [], ◌∷◌, length, map, refl}
 use Rattle.std.proofs.Common.{Vec, Global, get_or, ap, subst, sym, ◌∙◌, arith, zero, suc}
 use Rattle.cover.specs.Calculus.{Calculus, Laws, Along, along_none, along_more}
-use Rattle.chart_model.specs.At.{At, here, there, at_one, at_below, to_get}
+use Rattle.chart_model.specs.At.{At, here, there, at_one, at_below}
 use Rattle.chart_model.specs.Chart as chart
 use Rattle.chart_model.specs.Chart.{OfWhole, is_free, all_free}
 use Rattle.chart_model.specs.Finished.{IsComplete}
@@ -22,9 +22,9 @@ use Rattle.forest_unpack.specs.Plans.{told_at, rank_at, AreLower, Fits, IsPlan}
 use Rattle.forest_unpack.specs.Keeping.{Asked}
 use Rattle.forest_unpack.specs.Ranks.{rank_in, rank_by}
 use Rattle.forest_unpack.specs.Groups.{AreFrontGroups}
-use Rattle.forest_unpack.specs.Asking.{IsLive, AreAsked}
+use Rattle.forest_unpack.specs.Asking.{AreAsked}
 use Rattle.forest_unpack.specs.Skeletons.{hosts_in, HasRow, IsSkeleton}
-use Rattle.forest_unpack.proofs.Telling.{Source, at_mapped, row_at, source_at, told_group}
+use Rattle.forest_unpack.proofs.Telling.{at_mapped, row_at, source_at, told_group}
 use Rattle.forest_unpack.proofs.Grounding.{rank_of, falls}
 use Rattle.forest_unpack.proofs.Filling.{told_is, get_map, length_map}
 

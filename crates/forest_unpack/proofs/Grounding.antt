@@ -1,5 +1,5 @@
 -- Ranks fall from hosts to the daughters of their rows.
-use Rattle.std.specs.Prelude.{◌≡◌, ℕ, ◌+◌, ◌*◌, ◌<◌, ◌≤◌, true, Some, List, [], ◌∷◌, length, slice_get, refl, All, Contains}
+use Rattle.std.specs.Prelude.{◌≡◌, ℕ, ◌+◌, ◌*◌, ◌<◌, ◌≤◌, true, Some, List, [], ◌∷◌, length, refl, All, Contains}
 use Rattle.std.proofs.Common.{ap, subst, sym, ◌∙◌, arith, zero, suc}
 use Rattle.std.proofs.lemmas.List.Elements.{All-nil, All-cons}
 use Rattle.cover.specs.Calculus.{Calculus, Laws}

@@ -3,8 +3,7 @@ use Rattle.std.specs.Prelude.{◌≡◌, ◌⊎◌, ◌&&◌, ℕ, Bool, true, f
 use Rattle.std.proofs.Common.{Vec, Global, get_or, inl, inr, ap, subst, sym, ◌∙◌, arith, zero, suc}
 use Rattle.std.proofs.lemmas.Bool.{cases_lt}
 use Rattle.cover.specs.Calculus.{Along, along_none, along_more}
-use Rattle.cover.specs.Tuples.{on_list}
-use Rattle.chart_model.specs.At.{At, at_one, at_below, from_get}
+use Rattle.chart_model.specs.At.{at_one, at_below, from_get}
 use Rattle.chart_model.specs.Chart.{is_free, all_free}
 use Rattle.chart_model.specs.Grown.{LeadsTo, ends, goes}
 use Rattle.chart_model.proofs.Trees.{leads_one}

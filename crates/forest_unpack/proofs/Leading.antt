@@ -1,7 +1,7 @@
 -- From a row to its last representative.
 use Rattle.std.specs.Prelude.{◌≡◌, ℕ, ◌-◌, ◌<◌, Option, Some, None, List, length, slice_get}
-use Rattle.std.proofs.Common.{ap, subst, arith}
-use Rattle.chart_model.specs.At.{At, at_below, from_get}
+use Rattle.std.proofs.Common.{subst, arith}
+use Rattle.chart_model.specs.At.{At, from_get}
 use Rattle.chart_model.specs.Grown.{LeadsTo, ends, goes}
 use Rattle.chart_core.specs.declared.chart.Core.{Core}
 use Rattle.chart_core.specs.declared.Row.{Row}

@@ -1,8 +1,10 @@
+pub mod Memos
 pub mod Taken
 pub mod Adding
 pub mod Growing
 pub mod Filling
 pub mod Sorting
+pub mod Counting
 pub mod Taking
 pub mod Whole
 pub mod Rising

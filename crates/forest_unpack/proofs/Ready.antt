@@ -1,6 +1,6 @@
 -- What the lists are made by, from what is asked of a finished chart.
 use Rattle.std.specs.Prelude.{◌≡◌, ℕ, ◌<◌, Some, List, length, map, refl}
-use Rattle.std.proofs.Common.{Vec, Global, get_or, ap, subst, sym, ◌∙◌, arith}
+use Rattle.std.proofs.Common.{Vec, Global, get_or, ap, arith}
 use Rattle.cover.specs.Calculus.{Laws}
 use Rattle.chart_model.specs.At.{At}
 use Rattle.chart_model.specs.Chart as chart

@@ -1,5 +1,5 @@
 -- Representatives rise: a row that is the representative of another is packed or frosted only into a later row.
-use Rattle.std.specs.Prelude.{◌≡◌, ℕ, ◌<◌, ◌≤◌, Bool, true, false, if◌then◌else◌, Option, Some, None, List, [], ◌∷◌, ◌++◌, length, slice_get, refl}
+use Rattle.std.specs.Prelude.{◌≡◌, ℕ, ◌<◌, Bool, true, false, if◌then◌else◌, Option, Some, None, List, [], ◌∷◌, ◌++◌, length, slice_get, refl}
 use Rattle.std.proofs.Common.{sym, subst, arith, length-append}
 use Rattle.cover.specs.Calculus.{Calculus}
 use Rattle.chart_model.specs.Chart as model

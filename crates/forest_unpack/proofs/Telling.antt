@@ -1,8 +1,8 @@
 -- What is told of the groups of code is told of the groups of the chart.
-use Rattle.std.specs.Prelude.{◌≡◌, ℕ, ◌<◌, Bool, true, false, if◌then◌else◌, Option, Some, List, [], ◌∷◌, length, map, slice_get, refl}
-use Rattle.std.proofs.Common.{ap, subst, sym, ◌∙◌, arith, zero, suc}
+use Rattle.std.specs.Prelude.{◌≡◌, ℕ, Bool, true, false, if◌then◌else◌, Option, Some, List, [], ◌∷◌, length, map, slice_get, refl}
+use Rattle.std.proofs.Common.{ap, subst, sym, ◌∙◌, zero, suc}
 use Rattle.cover.specs.Calculus.{Calculus, Along, along_none, along_more}
-use Rattle.chart_model.specs.At.{At, here, there, at_one, at_below, at_found, from_get, to_get}
+use Rattle.chart_model.specs.At.{At, here, there, at_one, at_below, at_found, to_get}
 use Rattle.chart_model.specs.Chart as chart
 use Rattle.chart_model.specs.Chart.{OfLeaf, OfWhole, all_free, leaf_row}
 use Rattle.chart_model.specs.Finished.{IsComplete}

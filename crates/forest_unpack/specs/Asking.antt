@@ -1,5 +1,5 @@
 -- Hosts whose trees may be asked for.
-use Rattle.std.specs.Prelude.{◌≡◌, ℕ, ◌<◌, true, is_some, Option, None, List, map}
+use Rattle.std.specs.Prelude.{◌≡◌, ℕ, ◌<◌, true, is_some, None, List, map}
 use Rattle.chart_model.specs.At.{At}
 use Rattle.chart_core.specs.declared.Row.{Row}
 use Rattle.forest_model.specs.Readings.{Wholes}

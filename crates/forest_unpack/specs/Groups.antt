@@ -1,5 +1,5 @@
 -- The rows of groups, as they are told of a chart's rows.
-use Rattle.std.specs.Prelude.{◌≡◌, ℕ, ◌<◌, ◌+◌, if◌then◌else◌, Option, List, [], ◌∷◌, ◌++◌, length}
+use Rattle.std.specs.Prelude.{◌≡◌, ℕ, ◌<◌, if◌then◌else◌, Option, List, [], ◌∷◌, ◌++◌, length}
 use Rattle.std.proofs.Common.{Vec, Global}
 use Rattle.cover.specs.Calculus.{Along}
 use Rattle.chart_model.specs.At.{At}

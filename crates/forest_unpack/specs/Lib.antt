@@ -1,4 +1,5 @@
 pub mod Parts
+pub mod Counted
 pub mod Items
 pub mod Plans
 pub mod Unpacking
@@ -7,3 +8,4 @@ pub mod Skeletons
 pub mod Groups
 pub mod Ranks
 pub mod Asking
+pub mod Inner

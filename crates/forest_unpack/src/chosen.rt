@@ -2,9 +2,11 @@
 
 ghost use Rattle.std.specs.Prelude.{◌≡◌, ◌++◌, ◌∷◌, [], IfOk, OnOk, map};
 ghost use Rattle.derivation.specs.Views.{derivation_of};
-ghost use Rattle.forest_unpack.specs.Items.{trees_at, IsFullAt};
+ghost use Rattle.derivation.specs.Counted.{AreCounted};
+ghost use Rattle.forest_unpack.specs.Items.{trees_at, IsFullAt, IsNumberAt};
 
-use crate::lists::Item;
+use crate::item::Item;
+use crate::memo::Question;
 use crate::{FullParts, Fulls, NoMemory};
 use derivation::Tree;
 use std::alloc::Global;
@@ -30,12 +32,24 @@ fn full_of<F: Fulls>(item: Option<&Item<F>>) -> Result<Option<Arc<F::Full>>, NoM
     }
 }
 
+/// The number of the full structure of an item.
+fn number_of<F: Fulls>(item: Option<&Item<F>>) -> Option<u32>
+    ensures { IsNumberAt item.entry result }
+{
+    match item {
+        None => None,
+        Some(item) => Some(item.number),
+    }
+}
+
 /// Adds a copy of the tree of an item, if there is one.
+#[tactic(auto, using(crate::proofs::Counting::counted_push))]
 fn push_tree<F: Fulls>(item: Option<&Item<F>>, into: &mut Vec<Tree>) -> Result<(), NoMemory>
-    ensures { OnOk result (map derivation_of into.new.items ≡ map derivation_of into.old.items ++ trees_at item.entry) }
+    ensures counted { OnOk result (AreCounted into.old.items → AreCounted into.new.items) }
+    ensures trees { OnOk result (map derivation_of into.new.items ≡ map derivation_of into.old.items ++ trees_at item.entry) }
 {
     if let Some(item) = item {
-        into.push(item.tree.copy()?)?;
+        into.push(item.tree.tree.copy()?)?;
     }
     Ok(())
 }
@@ -45,8 +59,11 @@ impl<'a, F: Fulls> Chosen<'a, F> {
     ghost use Rattle.std.specs.Arc.{arc_value};
     ghost use Rattle.derivation.specs.Trees.{phrase};
     ghost use Rattle.derivation.specs.Views.{derivation_of, in_order};
+    ghost use Rattle.forest_unpack.specs.Counted.{derivation_in};
+    ghost use Rattle.derivation.specs.Counted.{IsCounted};
     ghost use Rattle.forest_unpack.specs.Parts.{AreParts, parts_of};
     ghost use Rattle.forest_unpack.specs.Items.{AreChosen, chosen_items};
+    ghost use Rattle.forest_unpack.specs.Inner.Memos.{daughters_of};
 
     /// These with one more to their right.
     pub fn with(&self, item: &'a Item<F>) -> Chosen<'a, F>
@@ -83,11 +100,26 @@ impl<'a, F: Fulls> Chosen<'a, F> {
         })
     }
 
+    /// What a rule makes of them, as a question about known full structures.
+    pub fn question(&self, rule: u32) -> Question
+        ensures rule { result.rule ≡ rule }
+        ensures daughters { daughters_of result ≡ map (λ item. item.number) (chosen_items self.now) }
+    {
+        Question {
+            rule,
+            a: number_of(self.a),
+            b: number_of(self.b),
+            c: number_of(self.c),
+            d: number_of(self.d),
+        }
+    }
+
     /// The phrase of a rule over their trees.
     pub fn phrase(&self, alloc: Global, place: u32) -> Result<Tree, NoMemory>
-        ensures { IfOk result (λ tree. derivation_of tree ≡ phrase place (in_order (map (λ item. derivation_of item.tree) (chosen_items self.now)))) }
+        ensures counted { IfOk result IsCounted }
+        ensures tree { IfOk result (λ tree. derivation_of tree ≡ phrase place (in_order (map (λ item. derivation_in item.tree) (chosen_items self.now)))) }
     {
-        let mut daughters = Vec::with_capacity(alloc, 4)?;
+        let mut daughters = Vec::with_capacity(alloc, self.count as usize)?;
         push_tree(self.a, &mut daughters)?;
         push_tree(self.b, &mut daughters)?;
         push_tree(self.c, &mut daughters)?;

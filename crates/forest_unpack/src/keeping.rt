@@ -1,24 +1,29 @@
 //! The trees that are asked for.
 
-ghost use Rattle.std.specs.Prelude.{◌<◌, ◌∷◌, [], length, map, OnOk, IsTrue};
+ghost use Rattle.std.specs.Prelude.{◌≡◌, ◌<◌, ◌↔◌, ◌∷◌, [], All, None, length, map, IfOk, OnOk, IsTrue};
+ghost use Rattle.std.specs.Arc.{arc_value};
 ghost use Rattle.std.specs.List.Sorted.{IsPermutation, IsSortedBy};
 ghost use Rattle.std.specs.Ordering.{is_lt};
 ghost use Rattle.derivation.specs.Order.{compare_trees};
-ghost use Rattle.derivation.specs.Views.{derivation_of};
 ghost use Rattle.forest_unpack.specs.Items.{items_of, list_at, IsListed};
+ghost use Rattle.forest_unpack.specs.Inner.Memos.{AreAccepted, IsNumbered, IsReady, known_in};
 ghost use Rattle.forest_unpack.specs.Keeping.{Kept};
+ghost use Rattle.forest_unpack.specs.Counted.{derivation_in};
+ghost use Rattle.derivation.specs.Views.{derivation_of};
 
-use crate::lists::Item;
+use crate::counted::CountedTree;
+use crate::item::Item;
+use crate::memo::Memo;
 use crate::{Fulls, NoMemory};
-use derivation::{Tree, compare};
+use derivation::{Tree, compare_counted};
 use std::alloc::Global;
 
 /// Whether no tree comes before the one in front of it.
-fn is_sorted(trees: &[Tree]) -> bool
-    ensures { IsTrue result → IsSortedBy (λ x y. is_lt (compare_trees x y)) (map derivation_of trees.now) }
+fn is_sorted(trees: &[CountedTree]) -> bool
+    ensures { IsTrue result → IsSortedBy (λ x y. is_lt (compare_trees x y)) (map derivation_in trees.now) }
 {
     for i in 1..trees.len() {
-        if compare(&trees[i], &trees[i - 1]).is_lt() {
+        if compare_counted(&trees[i].tree, &trees[i - 1].tree).is_lt() {
             return false;
         }
     }
@@ -26,17 +31,17 @@ fn is_sorted(trees: &[Tree]) -> bool
 }
 
 /// Puts trees in the order of trees.
-fn arrange(trees: &mut Vec<Tree>)
-    ensures moved { IsPermutation (map derivation_of trees.old.items) (map derivation_of trees.new.items) }
-    ensures sorted { IsSortedBy (λ x y. is_lt (compare_trees x y)) (map derivation_of trees.new.items) }
+fn arrange(trees: &mut Vec<CountedTree>)
+    ensures moved { IsPermutation (map derivation_in trees.old.items) (map derivation_in trees.new.items) }
+    ensures sorted { IsSortedBy (λ x y. is_lt (compare_trees x y)) (map derivation_in trees.new.items) }
 {
-    trees.sort_unstable_by(|a, b| compare(a, b));
+    trees.sort_unstable_by(|a, b| compare_counted(&a.tree, &b.tree));
 }
 
 /// Puts trees in the order of trees. Trees that stand in it stay as they are, after one walk.
-pub fn sort(trees: &mut Vec<Tree>)
-    ensures moved { IsPermutation (map derivation_of trees.old.items) (map derivation_of trees.new.items) }
-    ensures sorted { IsSortedBy (λ x y. is_lt (compare_trees x y)) (map derivation_of trees.new.items) }
+pub fn sort(trees: &mut Vec<CountedTree>)
+    ensures moved { IsPermutation (map derivation_in trees.old.items) (map derivation_in trees.new.items) }
+    ensures sorted { IsSortedBy (λ x y. is_lt (compare_trees x y)) (map derivation_in trees.new.items) }
 {
     if is_sorted(trees) {
         return;
@@ -44,21 +49,64 @@ pub fn sort(trees: &mut Vec<Tree>)
     arrange(trees);
 }
 
+/// Whether trees of an item's full structure are asked for, which is found out once.
+fn accepted<F: Fulls>(
+    alloc: Global,
+    fulls: &F,
+    work: &mut F::Work,
+    _memo: &Memo<F>,
+    cover: &F::Cover,
+    item: &Item<F>,
+    told: &mut Vec<Option<bool>>,
+) -> Result<bool, NoMemory>
+    requires numbered { IsNumbered (F.value fulls.now) (known_in (F.value fulls.now) _memo.now) item.now }
+    requires told { AreAccepted (F.wholes fulls.now) (known_in (F.value fulls.now) _memo.now) cover.now told.old.items }
+    ensures told { OnOk result (AreAccepted (F.wholes fulls.now) (known_in (F.value fulls.now) _memo.now) cover.now told.new.items) }
+    ensures is { IfOk result (λ yes. IsTrue yes ↔ (F.wholes fulls.now).accepted (F.value fulls.now (arc_value item.now.full)) cover.now) }
+{
+    let number = item.number as usize;
+    if number >= told.len() {
+        return fulls.accepts(alloc, work, &item.full, cover);
+    }
+    if let Some(yes) = told[number] {
+        return Ok(yes);
+    }
+    let yes = fulls.accepts(alloc, work, &item.full, cover)?;
+    told[number] = Some(yes);
+    Ok(yes)
+}
+
 /// Adds a tree if it is asked for.
 fn keep_one<F: Fulls>(
     alloc: Global,
     fulls: &F,
     work: &mut F::Work,
+    memo: &Memo<F>,
     cover: &F::Cover,
     item: &Item<F>,
-    into: &mut Vec<Tree>,
+    told: &mut Vec<Option<bool>>,
+    into: &mut Vec<CountedTree>,
 ) -> Result<(), NoMemory>
-    ensures { OnOk result (Kept (F.value fulls.now) (F.wholes fulls.now) cover.now (items_of (F.value fulls.now) (item.now ∷ [])) into.old.items into.new.items) }
+    requires numbered { IsNumbered (F.value fulls.now) (known_in (F.value fulls.now) memo.now) item.now }
+    requires told { AreAccepted (F.wholes fulls.now) (known_in (F.value fulls.now) memo.now) cover.now told.old.items }
+    ensures told { OnOk result (AreAccepted (F.wholes fulls.now) (known_in (F.value fulls.now) memo.now) cover.now told.new.items) }
+    ensures kept { OnOk result (Kept (F.value fulls.now) (F.wholes fulls.now) cover.now (items_of (F.value fulls.now) (item.now ∷ [])) into.old.items into.new.items) }
 {
-    if fulls.accepts(alloc, work, &item.full, cover)? {
+    if accepted(alloc, fulls, work, memo, cover, item, told)? {
         into.push(item.tree.copy()?)?;
     }
     Ok(())
+}
+
+/// Nothing found out yet, of as many full structures.
+fn none_told(alloc: Global, count: usize) -> Result<Vec<Option<bool>>, NoMemory>
+    ensures { IfOk result (λ told. All (λ o. o ≡ None) told.items) }
+{
+    let mut told = Vec::with_capacity(alloc, count)?;
+    while told.len() < count {
+        told.push(None)?;
+    }
+    Ok(told)
 }
 
 /// Adds the trees of a list that are asked for.
@@ -66,14 +114,17 @@ fn keep<F: Fulls>(
     alloc: Global,
     fulls: &F,
     work: &mut F::Work,
+    memo: &Memo<F>,
     cover: &F::Cover,
     items: &[Item<F>],
-    into: &mut Vec<Tree>,
+    into: &mut Vec<CountedTree>,
 ) -> Result<(), NoMemory>
+    requires { All (IsNumbered (F.value fulls.now) (known_in (F.value fulls.now) memo.now)) items.now }
     ensures { OnOk result (Kept (F.value fulls.now) (F.wholes fulls.now) cover.now (items_of (F.value fulls.now) items.now) into.old.items into.new.items) }
 {
+    let mut told = none_told(alloc, memo.known.len())?;
     for item in items {
-        keep_one(alloc, fulls, work, cover, item, into)?;
+        keep_one(alloc, fulls, work, memo, cover, item, &mut told, into)?;
     }
     Ok(())
 }
@@ -83,17 +134,30 @@ pub fn keep_host<F: Fulls>(
     alloc: Global,
     fulls: &F,
     work: &mut F::Work,
+    memo: &Memo<F>,
     cover: &F::Cover,
     host: u64,
     table: &[Option<Vec<Item<F>>>],
-    into: &mut Vec<Tree>,
+    into: &mut Vec<CountedTree>,
 ) -> Result<(), NoMemory>
     requires host { host < length table.now }
     requires listed { IsListed table.now host }
+    requires ready { IsReady (F.value fulls.now) (F.wholes fulls.now) memo.now table.now }
     ensures { OnOk result (Kept (F.value fulls.now) (F.wholes fulls.now) cover.now (list_at (F.value fulls.now) table.now host) into.old.items into.new.items) }
 {
     match &table[host as usize] {
         None => Ok(()),
-        Some(items) => keep(alloc, fulls, work, cover, items, into),
+        Some(items) => keep(alloc, fulls, work, memo, cover, items, into),
     }
+}
+
+/// The trees alone.
+pub fn trees_of(alloc: Global, counted: Vec<CountedTree>) -> Result<Vec<Tree>, NoMemory>
+    ensures { IfOk result (λ v. map derivation_of v.items ≡ map derivation_in counted.items) }
+{
+    let mut trees = Vec::with_capacity(alloc, counted.len())?;
+    for one in counted {
+        trees.push(one.tree)?;
+    }
+    Ok(trees)
 }

@@ -14,8 +14,10 @@ ghost use Rattle.forest_unpack.specs.Skeletons.{IsSkeleton};
 use crate::asking::wanted_of;
 use crate::collecting::{Wanted, collect};
 use crate::groups::groups_of;
-use crate::keeping::sort;
-use crate::lists::{Item, Plan};
+use crate::item::Item;
+use crate::keeping::{sort, trees_of};
+use crate::lists::Plan;
+use crate::memo::Memo;
 use crate::ranks::ranks_of;
 use crate::rows::GroupRow;
 use crate::{Fulls, NoMemory, UnpackFault};
@@ -55,12 +57,14 @@ fn pass<'p, 'w, S: Shapes, F: Fulls<Cover = S::Cover>>(
         (IsUnpackFault (grammar_of S.Shapes S.Cover.Cover.own _shapes.now) (F.wholes plan.now.fulls.now) _finished.now max) }
 {
     let mut table = no_lists(alloc, plan.groups.len())?;
+    let mut memo = Memo::new(alloc);
     let mut cut = false;
     let mut trees = Vec::new(alloc);
     let over = collect(
         alloc,
         plan,
         work,
+        &mut memo,
         wanted,
         max as usize,
         &mut table,
@@ -74,7 +78,7 @@ fn pass<'p, 'w, S: Shapes, F: Fulls<Cover = S::Cover>>(
     if over || cut {
         return Ok(None);
     }
-    Ok(Some(trees))
+    Ok(Some(trees_of(alloc, trees)?))
 }
 
 /// The trees over a chart's leaves that are asked for, by its groups, ranks and wanted hosts. Lists are cut first just above `max`, and later if need be.

@@ -1,7 +1,6 @@
-use Rattle.std.proofs.Common.{map, [], ap, subst, sym, refl, ◌∙◌, ◌+◌}
+use Rattle.std.proofs.Common.{map, [], ap, refl, ◌∙◌, ◌+◌}
 use Rattle.chart_core.specs.Kept.{core_of, rows_in}
 use Rattle.forest_unpack.specs.Keeping.{asked_of}
-use Rattle.forest_unpack.specs.Asking.{AreAsked}
 use Rattle.forest_unpack.proofs.Askings.{asked_none, asked_same, asked_skip, asked_next}
 use Rattle.forest_unpack.proofs.asking.wanted_of.Goals.{then-is_wanted+in_ok-push, else-is_wanted}
 use Rattle.forest_unpack.proofs.asking.wanted_of.Goals as goal

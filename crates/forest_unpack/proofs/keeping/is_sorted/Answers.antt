@@ -1,7 +1,4 @@
-use Rattle.std.proofs.Common.{◌+◌, arith}
-use Rattle.std.specs.Ordering.{is_lt}
-use Rattle.derivation.specs.Order.{compare_trees}
-use Rattle.derivation.specs.Views.{derivation_of}
+use Rattle.std.proofs.Common.{arith}
 use Rattle.forest_unpack.proofs.Sorting.{sorted_trees}
 use Rattle.forest_unpack.proofs.keeping.is_sorted.Goals as goal
 

@@ -1,0 +1,5 @@
+use Rattle.forest_unpack.specs.Inner.Memos.{places_left}
+use Rattle.forest_unpack.proofs.memo.Memo.find.Given as goal
+
+abbrev pub decreases-loop-next : goal.decreases-loop-next
+decreases-loop-next g l = places_left l.next
