@@ -5,3 +5,4 @@ pub mod PlaceLemmas
 pub mod LexicalLemmas
 pub mod WithinLemmas
 pub mod LineLemmas
+pub mod FollowLemmas

@@ -61,10 +61,10 @@ same_parts (p ∷ ps) (x ∷ gs) = ap (λ qs. record { place = p; reader = reade
 abbrev pub rule_with : GraphMap → List Path → Rule
 rule_with structure places = record { facts = source_alone (reader_of structure); places = places }
 
-same_source : (structure : GraphMap) (places : List Path) (ds : List GraphMap) → source_of (placed_with structure places ds) ≡ source_at (rule_with structure places) (map reader_of ds)
+pub same_source : (structure : GraphMap) (places : List Path) (ds : List GraphMap) → source_of (placed_with structure places ds) ≡ source_at (rule_with structure places) (map reader_of ds)
 same_source structure places ds = ap (λ qs. record { claims = []; parts = record { place = []; reader = reader_of structure } ∷ qs }) (same_parts places ds)
 
-rule_is : (o : Option Rule) (facts : Source) (places : List Path) → option_map (λ r. r.facts) o ≡ Some facts → option_map (λ r. r.places) o ≡ Some places → o ≡ Some (record { facts = facts; places = places })
+pub rule_is : (o : Option Rule) (facts : Source) (places : List Path) → option_map (λ r. r.facts) o ≡ Some facts → option_map (λ r. r.places) o ≡ Some places → o ≡ Some (record { facts = facts; places = places })
 rule_is None facts places e f = absurd (cc)
 rule_is (Some r) facts places e f = let x : r.facts ≡ facts = cc in let y : r.places ≡ places = cc in λ i. Some (record { facts = x i; places = y i })
 

@@ -1,3 +1,4 @@
 -- Words between one function and the next; no public clause cites them.
 pub mod Placed
 pub mod Rooting
+pub mod Following

@@ -3,6 +3,7 @@
 ghost use Rattle.std.specs.Prelude.{◌≡◌};
 
 use crate::copies::copied;
+use crate::following::may_follow;
 use crate::full::FullStructure;
 use crate::making::made;
 use book_signs::SignBook;
@@ -67,6 +68,20 @@ impl<'a> LexicalFulls for SignFulls<'a> {
         match made(alloc, work, self.signs, place, &[&full.graph]) {
             Ok(Some(graph)) => Ok(Some(FullStructure::of(self.signs, graph))),
             Ok(None) => Ok(None),
+            Err(_) => Err(NoMemory),
+        }
+    }
+
+    fn may_follow(
+        &self,
+        alloc: Global,
+        work: &mut Scratch,
+        inner: u32,
+        outer: u32,
+    ) -> Result<bool, NoMemory> {
+        self.signs.laws();
+        match may_follow(alloc, work, self.signs, inner, outer) {
+            Ok(yes) => Ok(yes),
             Err(_) => Err(NoMemory),
         }
     }

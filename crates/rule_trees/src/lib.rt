@@ -3,6 +3,7 @@
 #![tactic(auto)]
 
 mod copies;
+mod following;
 mod full;
 mod lexical;
 mod line;

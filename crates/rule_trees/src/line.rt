@@ -12,6 +12,7 @@ use forest_unpack::{FullParts, Fulls, NoMemory};
 use fs_unify::Scratch;
 use lexical_items::LexTree;
 use std::alloc::Global;
+use std::sync::Arc;
 
 /// The full structures of trees over the lexical trees of a line, which are named by their places, and which of them are
 /// asked for: those that go from the first node to the end and are rooted.
@@ -47,7 +48,7 @@ impl<'a> Fulls for LineFulls<'a> {
 
     ghost ruled = { λ s. IsRuled (signs_of s.signs.now) };
 
-    fn leaf(&self, alloc: Global, name: u32) -> Result<(FullStructure, Tree), NoMemory> {
+    fn leaf(&self, alloc: Global, name: u32) -> Result<(Arc<FullStructure>, Tree), NoMemory> {
         let leaf = &self.leaves[name as usize];
         let Ok(full) = leaf.full.copy(alloc, self.signs) else {
             return Err(NoMemory);
@@ -69,6 +70,14 @@ impl<'a> Fulls for LineFulls<'a> {
             Ok(full) => Ok(full),
             Err(_) => Err(NoMemory),
         }
+    }
+
+    fn same(&self, full: &FullStructure, other: &FullStructure) -> bool {
+        full.same(other, self.signs)
+    }
+
+    fn mark(&self, full: &FullStructure) -> u64 {
+        full.mark()
     }
 
     fn accepts(

@@ -13,8 +13,8 @@ use fs_trim::unify_without;
 use fs_unify::{Parts, Scratch};
 use std::alloc::Global;
 
-// An instance's structure, with daughters at their places.
-fn parts_with<'x>(
+/// An instance's structure, with daughters at their places.
+pub(crate) fn parts_with<'x>(
     alloc: Global,
     structure: &'x Graph,
     places: &[Vec<Feat>],
