@@ -26,7 +26,6 @@ use Rattle.parse_items.specs.Answers.{IsParseAnswer}
 use Rattle.packed_items.specs.Packed.{Fit, IsFound}
 use Rattle.packed_items.specs.Answers.{limits_in, answer_of}
 use Rattle.packed_items.specs.declared.Found.{Found}
-use Rattle.morph_analysis.specs.Allowed.{FeedsTree, AllMay, IsAllowed, AreAllowedAfter}
 use Rattle.morph_analysis.proofs.Lists.{map_take_next, all_taken}
 use Rattle.book_signs.specs.Trees.{SignTree, signs_of}
 use Rattle.grammar_shapes.specs.declared.shapes.GrammarShapes.{GrammarShapes}
@@ -37,21 +36,11 @@ use Rattle.rule_trees.specs.Wholes.{wholes_of, IsRuled}
 use Rattle.rule_trees.specs.Mothers.{view_in, IsShortIn}
 use Rattle.rule_trees.proofs.MakingLemmas.{inside}
 use Rattle.lexical_items.specs.Listed.{Lexeme, IsLexeme, AreLexemes, Trees, IsLexicalAnswer}
-use Rattle.lexical_items.specs.Seen.{ForbidsNone}
 use Rattle.grammar_rules.specs.Leafed.{IsShapeOf}
 use Rattle.grammar_rules.specs.Lined.{AreLined}
 use Rattle.grammar_rules.specs.Lines.{AreShapesOf}
 use Rattle.grammar_rules.proofs.Consistent.{lexical_sound, alone_sound}
 use Rattle.grammar_rules.proofs.Lined.{lined_more, line_fit, line_answer, map_length}
-
--- where everything may apply, nothing is forbidden
-all_after : (f : FeedsTree) → AllMay f.on_rule → (r : ℕ) (rs : List ℕ) → AreAllowedAfter f r rs
-all_after f h r [] = tt
-all_after f h r (s ∷ ss) = (h r s, all_after f h s ss)
-
-pub all_may : (g : Signs) (entries rules : List ℕ) (f : FeedsTree) → AllMay f.on_entry → AllMay f.on_rule → ForbidsNone g entries rules f
-all_may g entries rules f p q entry place [] ps u a along full = tt
-all_may g entries rules f p q entry place (r ∷ rs) ps u a along full = (p entry r, all_after f q r rs)
 
 pub shape_sound : (t : SignTree) (s : GrammarShapes) (graph : GraphMap) → AreShapesOf t s → IsShortIn t graph → AreConsistent (signs_of t).system (Meant (rule_system (signs_of t)) (view_in t graph)) → IsConsistent (system_of (grammar_of s)) (Told (source_alone (reader_of graph)))
 shape_sound t s graph are short h = subst (λ (g : Grammar). IsConsistent (system_of g) (Told (source_alone (reader_of graph)))) (sym are.grammar) (alone_sound (signs_of t) (reader_of graph) (inside t graph short) h)

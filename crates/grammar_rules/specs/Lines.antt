@@ -3,13 +3,14 @@ use Rattle.std.specs.Prelude.{◌≡◌, List}
 use Rattle.chart_core.specs.declared.Limits.{Limits}
 use Rattle.lexicon.specs.Entries.{EntryTree}
 use Rattle.spelling_rules.specs.Trees.{SpellingTree}
+use Rattle.morph_analysis.specs.Allowed.{FeedsTree}
 use Rattle.morph_analysis.specs.Lattices.{LatticeTree}
 use Rattle.item_model.specs.Signs.{rule_system}
 use Rattle.item_model.specs.Items.{Answer}
 use Rattle.parse_items.specs.Answers.{IsParseAnswer}
 use Rattle.packed_items.specs.Answers.{limits_in}
 use Rattle.lexical_items.specs.Said.{AreNumbered, words_said}
-use Rattle.lexical_items.specs.Seen.{lattice_seen}
+use Rattle.lexical_items.specs.Seen.{lattice_seen, ForbidsNone}
 use Rattle.book_signs.specs.Trees.{SignTree, signs_of, entries_of, lexical_rules_of}
 use Rattle.grammar_shapes.specs.declared.shapes.GrammarShapes.{GrammarShapes}
 use Rattle.grammar_shapes.specs.Systems.{grammar_of, rules_of}
@@ -18,6 +19,10 @@ use Rattle.grammar_shapes.specs.Systems.{grammar_of, rules_of}
 pub record AreShapesOf (t : SignTree) (s : GrammarShapes) : Type 0 where
   pub grammar : grammar_of s ≡ t.book.system
   pub rules : rules_of s ≡ rule_system (signs_of t)
+
+-- the tables of what may apply to what forbid no lexical tree of these signs
+abbrev pub AreFeedsOf : SignTree → FeedsTree → Type 0
+AreFeedsOf t feeds = ForbidsNone (signs_of t) (entries_of (signs_of t)) (lexical_rules_of (signs_of t)) feeds
 
 -- the lexicon has the entries and the spelling the lexical rules of these signs, each once; and each entry has a word
 abbrev pub HaveAll : SignTree → List EntryTree → SpellingTree → Type 0

@@ -15,10 +15,10 @@ ghost use Rattle.grammar_shapes.specs.Spanned.{span_calculus};
 ghost use Rattle.rule_trees.specs.Mothers.{view_in};
 ghost use Rattle.lexical_items.specs.Listed.{Lexeme, Trees, IsLexicalAnswer};
 ghost use Rattle.lexical_items.specs.Said.{words_said};
-ghost use Rattle.lexical_items.specs.Seen.{lattice_seen, ForbidsNone};
+ghost use Rattle.lexical_items.specs.Seen.{lattice_seen};
 ghost use Rattle.lexical_items.specs.Views.{lexeme_seen};
 ghost use Rattle.grammar_rules.specs.Lined.{AreLined};
-ghost use Rattle.grammar_rules.specs.Lines.{AreShapesOf, HaveAll, IsLineAnswer};
+ghost use Rattle.grammar_rules.specs.Lines.{AreShapesOf, AreFeedsOf, HaveAll, IsLineAnswer};
 ghost use Rattle.grammar_rules.specs.Views.{item_answer};
 
 use crate::{ItemAnswer, NoMemory};
@@ -34,14 +34,6 @@ use rule_trees::{FullStructure, LineFulls, SignBook, SignFulls};
 use spelling_rules::Spelling;
 use std::alloc::Global;
 use std::sync::Arc;
-
-// A table in which every lexical rule may apply to everything.
-fn open_feeds(alloc: Global, _signs: &SignBook<'_>) -> Result<Feeds, NoMemory>
-    ensures { IfOk result (ForbidsNone (signs_of _signs.now) (entries_of (signs_of _signs.now)) (lexical_rules_of (signs_of _signs.now))) }
-{
-    let feeds = Feeds::make(alloc, 0, 0)?;
-    Ok(feeds)
-}
 
 // The span between two nodes.
 fn span_of(from: u32, to: u32) -> Span
@@ -171,30 +163,30 @@ fn answer_trees<'a, 's>(
 /// limit on unary chains or packed classes is broken, at the least size; more trees are licensed than the limit; or these are
 /// they, each once, in the order of trees, with the number of packed classes.
 ///
-/// `shapes` is made of the signs, once for a grammar; lexicon and spelling have its entries and lexical rules by number.
+/// `shapes` and `feeds`, which says what lexical rule may apply to what, are made of the signs, once for a grammar; lexicon
+/// and spelling have its entries and lexical rules by number.
 /// `NoMemory` may come in place of any answer.
 pub fn parse_words<'a>(
     alloc: Global,
     work: &mut Scratch,
     signs: &'a SignBook<'a>,
     shapes: &GrammarShapes<'_>,
+    feeds: &Feeds,
     lexicon: &Lexicon,
     spelling: &Spelling,
     lattice: &Lattice,
     limits: &Limits,
 ) -> Result<ItemAnswer, NoMemory>
     requires shapes { AreShapesOf signs.now shapes.now }
+    requires feeds { AreFeedsOf signs.now feeds.now }
     requires have { HaveAll signs.now lexicon.now spelling.now }
     requires valid { IsValid (lattice_of lattice.now) }
     requires limits { InRange limits.now }
     ensures { IfOk result (λ a. IsLineAnswer signs.now lexicon.now spelling.now (lattice_of lattice.now) limits.now (item_answer a)) }
 {
-    let feeds = open_feeds(alloc, signs)?;
     let fulls = SignFulls { signs };
     let most = limits.lexical;
-    match lexical_trees(
-        alloc, &fulls, work, lexicon, spelling, &feeds, lattice, most,
-    )? {
+    match lexical_trees(alloc, &fulls, work, lexicon, spelling, feeds, lattice, most)? {
         LexTrees::TooDeep => Ok(ItemAnswer::LexicalDepth),
         LexTrees::Trees(trees) => {
             answer_trees(

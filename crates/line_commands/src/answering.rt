@@ -4,7 +4,7 @@ ghost use Rattle.std.specs.Prelude.{◌≡◌, length};
 ghost use Rattle.chart_core.specs.Kept.{InRange};
 ghost use Rattle.book_signs.specs.Trees.{signs_of};
 ghost use Rattle.line_commands.specs.Inner.Props.{list_props};
-ghost use Rattle.grammar_rules.specs.Lines.{AreShapesOf, HaveAll};
+ghost use Rattle.grammar_rules.specs.Lines.{AreShapesOf, AreFeedsOf, HaveAll};
 
 use crate::NoMemory;
 use crate::lattices::lattice_of_line;
@@ -17,7 +17,7 @@ use fs_unify::Scratch;
 use grammar_rules::parse_words;
 use grammar_shapes::GrammarShapes;
 use lexicon::Lexicon;
-use morph_analysis::{Lattice, LatticeFault};
+use morph_analysis::{Feeds, Lattice, LatticeFault};
 use spelling_rules::Spelling;
 use std::alloc::Global;
 use std::sync::Wait;
@@ -29,6 +29,7 @@ use worker_gate::Gate;
 pub(crate) struct Parser<'a> {
     pub(crate) signs: &'a SignBook<'a>,
     pub(crate) shapes: &'a GrammarShapes<'a>,
+    pub(crate) feeds: &'a Feeds,
     pub(crate) lexicon: &'a Lexicon,
     pub(crate) spelling: &'a Spelling,
     pub(crate) names: &'a [String],
@@ -36,6 +37,7 @@ pub(crate) struct Parser<'a> {
     // whether a line writes a lattice
     pub(crate) lattice: bool,
     ghost shapes_are: { AreShapesOf signs.now shapes.now },
+    ghost feeds_are: { AreFeedsOf signs.now feeds.now } by { Prim.hlevel list_props },
     ghost have: { HaveAll signs.now lexicon.now spelling.now } by { Prim.hlevel list_props },
     ghost named: { length names.now ≡ length (signs_of signs.now).instances },
     ghost in_range: { InRange limits },
@@ -61,6 +63,7 @@ impl Parser<'_> {
             &mut work,
             self.signs,
             self.shapes,
+            self.feeds,
             self.lexicon,
             self.spelling,
             lattice,

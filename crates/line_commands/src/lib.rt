@@ -3,6 +3,7 @@
 
 mod answering;
 mod checks;
+mod compared;
 mod lattices;
 pub mod laws;
 mod parsing;
@@ -10,7 +11,7 @@ mod reports;
 mod rules;
 
 pub use parsing::{Parse, parse_lines};
-pub use rules::shapes_of;
+pub use rules::{rule_feeds, shapes_of};
 use std::alloc::{AllocError, AllocFailed};
 
 /// Memory was wanting.
@@ -43,6 +44,12 @@ impl From<word_lists::NoMemory> for NoMemory {
 
 impl From<grammar_rules::NoMemory> for NoMemory {
     fn from(_: grammar_rules::NoMemory) -> NoMemory {
+        NoMemory
+    }
+}
+
+impl From<lexical_items::NoMemory> for NoMemory {
+    fn from(_: lexical_items::NoMemory) -> NoMemory {
         NoMemory
     }
 }

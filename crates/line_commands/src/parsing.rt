@@ -3,7 +3,7 @@
 ghost use Rattle.std.specs.Prelude.{◌≡◌, option_map};
 ghost use Rattle.chart_core.specs.Kept.{InRange};
 ghost use Rattle.book_signs.specs.Conditions.{IsWhole};
-ghost use Rattle.grammar_rules.specs.Lines.{AreShapesOf};
+ghost use Rattle.grammar_rules.specs.Lines.{AreShapesOf, AreFeedsOf};
 ghost use Rattle.grammar_load.specs.Conditions.{IsLoaded};
 ghost use Rattle.grammar_load.specs.Views.{grammar_of};
 ghost use Rattle.endings.specs.Meanings.{Shelves, shelves};
@@ -14,7 +14,7 @@ ghost use Rattle.line_commands.specs.Parsing.{parse_meaning};
 ghost use Rattle.line_commands.specs.Views.{asked_with};
 
 use crate::answering::Parser;
-use crate::rules::shapes_of;
+use crate::rules::{rule_feeds, shapes_of};
 use book_signs::SignBook;
 use book_signs::laws::whole_book;
 use chart_core::Limits;
@@ -24,6 +24,7 @@ use endings::{Fault, Stop};
 use grammar_load::Grammar;
 use grammar_shapes::GrammarShapes;
 use lkb_io::{Shelf, Sink, Source};
+use morph_analysis::Feeds;
 use std::alloc::Global;
 use std::sync::Wait;
 use std::thread::Threads;
@@ -40,7 +41,7 @@ pub struct Parse<'a> {
     pub lattice: bool,
 }
 
-// Answers all lines of the source with the signs of a grammar and its phrase rules.
+// Answers all lines of the source with the signs of a grammar, its phrase rules and what its lexical rules may apply to.
 fn parse_with_shapes<I: Source, O: Sink, Rt: Threads + Wait + Sync>(
     rt: &Rt,
     alloc: Global,
@@ -48,6 +49,7 @@ fn parse_with_shapes<I: Source, O: Sink, Rt: Threads + Wait + Sync>(
     grammar: &Grammar,
     signs: &SignBook<'_>,
     shapes: &GrammarShapes<'_>,
+    feeds: &Feeds,
     input: &mut I,
     out: &mut O,
     gate: &dyn Gate,
@@ -56,6 +58,7 @@ fn parse_with_shapes<I: Source, O: Sink, Rt: Threads + Wait + Sync>(
     requires loaded { IsLoaded (grammar_of grammar.now) }
     requires book { signs.now.book ≡ grammar.now.book }
     requires shapes { AreShapesOf signs.now shapes.now }
+    requires feeds { AreFeedsOf signs.now feeds.now }
     ensures { (h : Shelves) → HasGrammar h.files command.now.grammar.now (option_map (λ s. s.now) command.now.settings) (grammar_of grammar.now)
         → Ended (parse_meaning command.now.grammar.now (option_map (λ s. s.now) command.now.settings) (asked_with command.now.limits command.now.lattice)) h
         (streams I.left I.faults O.written O.flushed O.faults input.old input.new out.old out.new) (input.new ≡ input.old) ((input.new ≡ input.old) × (out.new ≡ out.old)) result }
@@ -64,6 +67,7 @@ fn parse_with_shapes<I: Source, O: Sink, Rt: Threads + Wait + Sync>(
     let parser = Parser {
         signs,
         shapes,
+        feeds,
         lexicon: &grammar.lexicon,
         spelling: &grammar.spelling,
         names: &grammar.names,
@@ -95,8 +99,11 @@ fn parse_with_signs<I: Source, O: Sink, Rt: Threads + Wait + Sync>(
     let Ok(shapes) = shapes_of(alloc, signs) else {
         return Err(Fault::Stopped(Stop::NoMemory));
     };
+    let Ok(feeds) = rule_feeds(alloc, signs) else {
+        return Err(Fault::Stopped(Stop::NoMemory));
+    };
     parse_with_shapes(
-        rt, alloc, command, grammar, signs, &shapes, input, out, gate,
+        rt, alloc, command, grammar, signs, &shapes, &feeds, input, out, gate,
     )
 }
 

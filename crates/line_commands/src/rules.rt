@@ -1,4 +1,4 @@
-//! The phrase rules of a grammar, over abstract structures.
+//! The rules of a grammar, as lines need them.
 
 ghost use Rattle.std.specs.Prelude.{◌≡◌, Some, All, map, IfOk};
 ghost use Rattle.fs_graph.specs.GraphMap.{reader_of};
@@ -7,14 +7,19 @@ ghost use Rattle.fs_unify.specs.Entering.{IsWellFormed};
 ghost use Rattle.fs_trim.specs.Cutting.{cut_of};
 ghost use Rattle.book_signs.specs.Trees.{signs_of, rule_at, paths_of};
 ghost use Rattle.grammar_shapes.specs.Ruled.{rule_of, IsRuleIn};
-ghost use Rattle.grammar_rules.specs.Lines.{AreShapesOf};
+ghost use Rattle.grammar_rules.specs.Lines.{AreShapesOf, AreFeedsOf};
 ghost use Rattle.line_commands.specs.Inner.Ruled.{IsPhraseRuleAt};
 
 use crate::NoMemory;
 use crate::checks::paths_known;
+use crate::compared::compared;
 use book_signs::{Cut, SignBook};
 use fs_paths::Feat;
+use fs_unify::Scratch;
 use grammar_shapes::{GrammarShapes, PhraseRule};
+use lexical_items::feeds_of;
+use morph_analysis::Feeds;
+use rule_trees::SignFulls;
 use std::alloc::Global;
 
 // The same paths once more.
@@ -77,8 +82,7 @@ fn phrase_rules<'a>(
     Ok(rules)
 }
 
-/// The phrase rules of a grammar over abstract structures (Oepen and Carroll 2000), numbered in order of place. Types are
-/// compared at the check paths of its settings.
+/// The phrase rules of a grammar over abstract structures (Oepen and Carroll 2000), numbered in order of place.
 pub fn shapes_of<'a>(alloc: Global, signs: &'a SignBook<'a>) -> Result<GrammarShapes<'a>, NoMemory>
     ensures { IfOk result (AreShapesOf signs.now) }
 {
@@ -86,8 +90,19 @@ pub fn shapes_of<'a>(alloc: Global, signs: &'a SignBook<'a>) -> Result<GrammarSh
     let rules = phrase_rules(alloc, signs, signs.phrase_rules())?;
     let daughters = cut_again(alloc, signs.daughters())?;
     let restrictors = cut_again(alloc, signs.restrictors())?;
-    let checks = paths_known(alloc, &signs.book().names.check_paths)?;
+    let given = paths_known(alloc, &signs.book().names.check_paths)?;
+    let checks = compared(alloc, &given, &rules, signs.restrictors())?;
     let system = signs.system();
     let shapes = GrammarShapes::make(alloc, system, rules, daughters, restrictors, checks)?;
     Ok(shapes)
+}
+
+/// Which lexical rule of a grammar may apply to what which gives.
+pub fn rule_feeds<'a>(alloc: Global, signs: &'a SignBook<'a>) -> Result<Feeds, NoMemory>
+    ensures { IfOk result (AreFeedsOf signs.now) }
+{
+    let fulls = SignFulls { signs };
+    let mut work = Scratch::new(alloc);
+    let feeds = feeds_of(alloc, &fulls, &mut work)?;
+    Ok(feeds)
 }

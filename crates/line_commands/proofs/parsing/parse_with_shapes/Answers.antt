@@ -20,6 +20,7 @@ invariant_of-parser g c =
     let names = all-have-names (grammar_of c.args.grammar.now) signs c.requires.loaded is in
     record {
       shapes_are = c.requires.shapes;
+      feeds_are = c.requires.feeds;
       have = numbered (grammar_of c.args.grammar.now) signs c.requires.loaded is;
       named = ap length c.deref.ensures.value ∙ sym (length-map c.args.grammar.now.names.items string_bytes) ∙ names;
       in_range = c.requires.limits;
