@@ -1,0 +1,4 @@
+pub mod Ranks
+pub mod Walking
+pub mod Elements
+pub mod OneOutcome

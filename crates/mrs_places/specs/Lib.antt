@@ -1,0 +1,7 @@
+pub mod Paths
+pub mod Looking
+pub mod Asked
+pub mod Faults
+pub mod Places
+pub mod Laws
+pub mod Inner

@@ -1,0 +1,15 @@
+//! Where the parts of an MRS stand in a structure (Copestake, Flickinger, Pollard and Sag 2005).
+#![tactic(auto)]
+
+mod laws;
+mod lists;
+mod looking;
+mod missing;
+mod paths;
+mod steps;
+
+pub use laws::outcomes_are_one;
+pub use lists::Element;
+pub use looking::{Found, look};
+pub use paths::{MrsFeat, MrsPaths, MrsSort, NoMemory, NoMrs};
+pub use steps::{is_below, step};

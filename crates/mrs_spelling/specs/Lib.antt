@@ -1,0 +1,7 @@
+pub mod Forms
+pub mod Reading
+pub mod Grammar
+pub mod Conditions
+pub mod Faults
+pub mod Scanning
+pub mod Inner
