@@ -12,4 +12,3 @@ pub mod UniteLemmas
 pub mod OrderLemmas
 pub mod RuleRowLemmas
 pub mod OutlineLemmas
-pub mod LevelLemmas

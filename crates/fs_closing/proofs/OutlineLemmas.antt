@@ -6,7 +6,7 @@ use Rattle.std.proofs.lemmas.Bool.{cases_lt}
 use Rattle.std.proofs.lemmas.List.{get_or-set_other, length-set, length-map, take_more}
 use Rattle.std.proofs.lemmas.List.Elements.{filter-append}
 use Rattle.type_hierarchy.specs.Table.{TypeTable, is_below}
-use Rattle.fs_model.specs.Claims.{Has, here, there}
+use Rattle.fs_model.specs.Claims.{Has, here}
 use Rattle.fs_model.proofs.StepLemmas.{same_or_other}
 use Rattle.fs_model.proofs.VisitLemmas.{bool_cases}
 use Rattle.fs_closing.specs.declared.facts.TypeFacts.{TypeFacts}

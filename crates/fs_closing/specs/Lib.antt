@@ -7,4 +7,3 @@ pub mod Work
 pub mod Keeps
 pub mod Systems
 pub mod Inner
-pub mod Levels

@@ -4,7 +4,6 @@
 pub mod closing;
 pub mod facts;
 pub mod fault;
-pub mod levels;
 pub mod nodes;
 pub mod outline;
 pub mod rule_rows;

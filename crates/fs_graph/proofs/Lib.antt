@@ -6,3 +6,4 @@ pub mod DrawLemmas
 pub mod SameLemmas
 pub mod LineLemmas
 pub mod OneList
+pub mod HeightLemmas

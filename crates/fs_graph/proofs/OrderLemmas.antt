@@ -1,5 +1,5 @@
 -- The graph of the nodes in the order of a visit.
-use Rattle.std.proofs.Common.{ℕ, ◌≡◌, ◌<◌, ◌+◌, ◌==◌, Bool, true, false, cond, Some, option_map, List, [], ◌∷◌, ◌++◌, length, map, take, slice_index, slice_index_or, refl, sym, ◌∙◌, ap, subst, arith, append_assoc}
+use Rattle.std.proofs.Common.{ℕ, ◌≡◌, ◌≢◌, ◌<◌, ◌+◌, ◌==◌, ◌⊎◌, inl, inr, Bool, true, false, cond, Some, option_map, List, [], ◌∷◌, ◌++◌, length, map, take, slice_index, slice_index_or, refl, sym, ◌∙◌, ap, subst, arith, append_assoc}
 use Rattle.std.specs.List.{find, flat_map}
 use Rattle.std.proofs.lemmas.List.{get_or-map, length-map, map_push, map_more, take_more, take_all}
 use Rattle.std.proofs.lemmas.List.FromFn.{length-map-range_with_len}
@@ -7,9 +7,9 @@ use Rattle.fs_model.specs.Claims.{Path}
 use Rattle.fs_model.specs.Sources.{IsSameStructure}
 use Rattle.fs_model.specs.Table.{walk}
 use Rattle.fs_model.specs.Numbering.{IsNumbered, HasHeights}
-use Rattle.fs_model.specs.DepthFirst.{Plan, Leads, IsSettled, plain}
+use Rattle.fs_model.specs.DepthFirst.{Plan, Leads, IsSettled, missing, plain}
 use Rattle.fs_model.proofs.RenumberLemmas.{renumbered_same, renumbered_numbered, renumbered_falls, walk_leads, leads_walk}
-use Rattle.fs_model.proofs.VisitLemmas.{Leads-in, settles, settled_acyclic}
+use Rattle.fs_model.proofs.VisitLemmas.{bool_cases, Leads-in, settles, settled_acyclic}
 use Rattle.type_hierarchy.specs.declared.types.Ty.{Ty}
 use Rattle.fs_graph.specs.declared.graph.GraphArc.{GraphArc}
 use Rattle.fs_graph.specs.declared.clash.Clash.{Clash}
@@ -17,10 +17,12 @@ use Rattle.fs_graph.specs.declared.clash.Clash.TheVariants.{Cycle, NoMemory}
 use Rattle.fs_graph.specs.declared.visit.Frame.{Frame}
 use Rattle.fs_graph.specs.GraphMap.{GraphMap, arc_to, arcs_at, type_at, table_of, reader_of, Rises}
 use Rattle.fs_graph.specs.Inside.{row, graph_map, AreRows, IsGraphInside}
-use Rattle.fs_graph.specs.Orders.{ArePlan, IsOrdering, IsReached, ReachesItself, IsClash}
+use Rattle.fs_graph.specs.Orders.{ArePlan, IsReached, ReachesItself, IsClash, IsLongest, IsOrderOf}
 use Rattle.fs_graph.specs.Visits.{feats_of, targets_of, plan_of, IsVisitable, view_of, IsGoing, IsClashIn}
 use Rattle.fs_graph.specs.Renumbering.{renumber, new_row, new_type, new_start, AreRenumbered}
 use Rattle.fs_graph.proofs.FlatLemmas.{flat-more, starts-more, row_is, rows_are}
+use Rattle.fs_graph.specs.Inner.Heights.{AreHeights}
+use Rattle.fs_graph.proofs.HeightLemmas.{paths_within, path_reached}
 use Rattle.fs_graph.proofs.RowLemmas.{row_at, visitable, are_arcs}
 
 -- the same features, and numbers for nodes
@@ -190,15 +192,46 @@ module _ (types : List Ty) (starts : List ℕ) (arcs : List GraphArc) (plan : Ar
     to_leads : (n k : ℕ) (q : Path) → n < length types → walk (table_of drawn) n q ≡ Some k → Leads whole n q k
     to_leads n k q h e = walk_leads whole (visitable types starts arcs plan).plan (table_of drawn).arc (type_at drawn) (are_arcs types starts arcs plan) n k q h e
 
-    pub ordering_is : (graph : GraphMap) → IsSameStructure (reader_of drawn) (reader_of graph) → IsOrdering drawn graph
-    ordering_is graph same = record { same = same; acyclic = acyclic }
+    acyclic : (n : ℕ) → IsReached drawn n → ReachesItself drawn n → ⊥
+    acyclic n a b =
+        let first = to_leads 0 n a.0 plan.filled a.1 in
+        let n_in = Leads-in whole (visitable types starts arcs plan).plan 0 n a.0 plan.filled first in
+        settled_acyclic whole (visitable types starts arcs plan).plan (view_of numbers order closed frames) g.going (ap length over) n a.0 b.0 first b.1
+        (to_leads n n b.0 n_in b.2)
+
+    -- the root is done with
+    root_done : slice_index_or closed 0 false ≡ true
+    root_done = go (bool_cases (slice_index_or closed 0 false))
       where
-        acyclic : (n : ℕ) → IsReached drawn n → ReachesItself drawn n → ⊥
-        acyclic n a b =
-            let first = to_leads 0 n a.0 plan.filled a.1 in
-            let n_in = Leads-in whole (visitable types starts arcs plan).plan 0 n a.0 plan.filled first in
-            settled_acyclic whole (visitable types starts arcs plan).plan (view_of numbers order closed frames) g.going (ap length over) n a.0 b.0 first b.1
-            (to_leads n n b.0 n_in b.2)
+        met : slice_index numbers 0 ≢ missing
+        met e =
+            let root = g.going.root in
+            let zero_is = ap (slice_index numbers) (sym root.1) ∙ (g.going.ordered 0 root.0).1 in
+            absurd (omega (arith, e, zero_is))
+
+        go : (slice_index_or closed 0 false ≡ true) ⊎ (slice_index_or closed 0 false ≡ false) → slice_index_or closed 0 false ≡ true
+        go (inl e) = e
+        go (inr e) = let k = g.going.open_all 0 plan.filled met e in absurd (omega (arith, k.1, ap length over))
+
+    module _ (heights : List ℕ) (tall : AreHeights (plan_of (length types) starts arcs) closed heights) where
+      longest_is : IsLongest (graph_map types starts arcs) (slice_index heights 0)
+      longest_is = record {
+        bounds = λ q n e.
+            paths_within whole (visitable types starts arcs plan).plan closed heights tall (λ n i h c arc. (g.going.done_arcs n i h c arc).0) 0 n q plan.filled root_done
+            (to_leads 0 n q plan.filled e);
+        reached =
+            let r = path_reached whole (visitable types starts arcs plan).plan closed heights tall (λ n i h c arc. (g.going.done_arcs n i h c arc).0)
+            (slice_index heights 0) 0 plan.filled root_done refl in
+            (r.0, r.1, leads_walk whole (visitable types starts arcs plan).plan (table_of drawn).arc (type_at drawn) (are_arcs types starts arcs plan) 0 r.1 r.0 plan.filled r.2, r.3);
+      }
+
+      pub order_is : (height : ℕ) → height ≡ slice_index heights 0 → IsOrderOf types starts arcs numbers order height
+      order_is height is = record {
+        numbers_all = g.numbers_all;
+        settled = settled_is;
+        acyclic = acyclic;
+        longest = subst (IsLongest (graph_map types starts arcs)) (sym is) longest_is;
+      }
 
   -- what a clash shows
   clash_is : (e : Clash) → IsClashIn whole e → IsClash drawn e

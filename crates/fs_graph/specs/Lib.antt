@@ -6,3 +6,4 @@ pub mod Renumbering
 pub mod Drawn
 pub mod PathLists
 pub mod PathLaws
+pub mod Inner

@@ -59,6 +59,13 @@ impl Graph {
         self.types.len() as u32
     }
 
+    /// A law: each graph is an `IsGraph`. It does nothing.
+    pub fn laws(&self)
+        ensures { IsGraph self.now }
+    {
+        let _ = &self.types;
+    }
+
     // The root, with what every graph keeps.
     fn root(&self) -> Node
         ensures root { result.0 ≡ 0 }

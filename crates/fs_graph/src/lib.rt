@@ -13,4 +13,5 @@ pub use builder::Builder;
 pub use clash::{Clash, NoMemory};
 pub use graph::{Graph, GraphArc, Node};
 pub use laws::path_laws;
-pub use order::ordered;
+pub use order::{graph_of, order_in, ordered};
+pub use visit::Order;

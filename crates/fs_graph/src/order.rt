@@ -5,14 +5,52 @@ ghost use Rattle.fs_model.specs.DepthFirst.{IsSettled};
 ghost use Rattle.fs_model.specs.Sources.{IsSameStructure};
 ghost use Rattle.fs_graph.specs.GraphMap.{reader_of};
 ghost use Rattle.fs_graph.specs.Inside.{graph_map};
-ghost use Rattle.fs_graph.specs.Orders.{ArePlan, IsOrdering, IsClash};
+ghost use Rattle.fs_graph.specs.Orders.{ArePlan, IsOrdering, IsClash, IsOrderOf};
 ghost use Rattle.fs_graph.specs.Visits.{plan_of, targets_of};
 ghost use Rattle.fs_graph.specs.Renumbering.{renumber};
 
-use crate::visit::{begin, pass};
+use crate::visit::{Order, begin, pass};
 use crate::{Clash, Graph, GraphArc, NoMemory, Node};
 use std::alloc::Global;
 use type_hierarchy::Ty;
+
+/// The order of nodes whose arcs stand in rows, in the memory of an order before. The arcs of node n are those from
+/// `starts[n]` to `starts[n + 1]`, by rising feature.
+///
+/// `Cycle` comes exactly where a reached node reaches itself, and names such a node.
+pub fn order_in(
+    order: &mut Order,
+    types: &[Ty],
+    starts: &[u32],
+    arcs: &[GraphArc],
+) -> Result<(), Clash>
+    requires { ArePlan types.now starts.now arcs.now }
+    ensures ok { OnOk result (IsOrderOf types.now starts.now arcs.now order.new.numbers.items order.new.order.items order.new.longest) }
+    ensures err { IfErr result (IsClash (graph_map types.now starts.now arcs.now)) }
+{
+    begin(order, types.len() as u32, starts)?;
+    while let Some(frame) = order.open.pop() {
+        pass(order, starts, arcs, frame)?;
+    }
+    order.longest = order.heights[0];
+    Ok(())
+}
+
+/// The graph of nodes in their order, without the nodes that the root doesn't reach.
+pub fn graph_of(
+    alloc: Global,
+    types: &[Ty],
+    starts: &[u32],
+    arcs: &[GraphArc],
+    order: &Order,
+) -> Result<Graph, NoMemory>
+    requires plan { ArePlan types.now starts.now arcs.now }
+    requires order { IsOrderOf types.now starts.now arcs.now order.now.numbers.items order.now.order.items order.now.longest }
+    ensures { IfOk result (IsOrdering (graph_map types.now starts.now arcs.now)) }
+{
+    let graph = renumbered(alloc, types, starts, arcs, &order.numbers, &order.order)?;
+    Ok(graph)
+}
 
 /// The graph of nodes whose arcs stand in rows, from the root 0 on, without the nodes that the root doesn't reach. The
 /// arcs of node n are those from `starts[n]` to `starts[n + 1]`, by rising feature.
@@ -28,12 +66,22 @@ pub fn ordered(
     ensures ok { IfOk result (IsOrdering (graph_map types.now starts.now arcs.now)) }
     ensures err { IfErr result (IsClash (graph_map types.now starts.now arcs.now)) }
 {
-    let mut visit = begin(alloc, types.len() as u32, starts)?;
-    while let Some(frame) = visit.open.pop() {
-        pass(&mut visit, starts, arcs, frame)?;
-    }
-    let graph = renumbered(alloc, types, starts, arcs, &visit.numbers, &visit.order)?;
+    let mut order = Order::new(alloc);
+    order_in(&mut order, types, starts, arcs)?;
+    let graph = graph_of(alloc, types, starts, arcs, &order)?;
     Ok(graph)
+}
+
+// How many arcs these nodes have in all, for the memory that is asked for.
+fn count_arcs(starts: &[u32], order: &[u32]) -> usize
+    requires { (k : ℕ) → k < length order.now → slice_index order.now k + 1 < length starts.now }
+{
+    let mut count = 0usize;
+    for node in order {
+        let row = starts[*node as usize + 1].saturating_sub(starts[*node as usize]);
+        count = count.saturating_add(row as usize);
+    }
+    count
 }
 
 // The nodes in their new order.
@@ -52,7 +100,7 @@ fn renumbered(
 {
     let mut new_types = Vec::with_capacity(alloc, order.len())?;
     let mut new_starts = Vec::with_capacity(alloc, order.len() + 1)?;
-    let mut new_arcs = Vec::new(alloc);
+    let mut new_arcs = Vec::with_capacity(alloc, count_arcs(starts, order))?;
     for node in order {
         new_types.push(types[*node as usize])?;
         new_starts.push(place(&new_arcs)?)?;

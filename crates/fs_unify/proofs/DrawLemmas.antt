@@ -1,5 +1,5 @@
 -- A graph that shows a table is the table's structure.
-use Rattle.std.proofs.Common.{ℕ, ◌≡◌, ◌≤◌, ◌<◌, true, false, Option, Some, None, [], ◌∷◌, length, refl, sym, ◌∙◌, ap, subst}
+use Rattle.std.proofs.Common.{ℕ, ◌≡◌, ◌≤◌, ◌<◌, true, Option, Some, None, [], ◌∷◌, length, refl, sym, ◌∙◌, ap, subst, arith}
 use Rattle.std.specs.Option.{option_map}
 use Rattle.fs_model.specs.Claims.{Path, Claim, below, System, IsOrder}
 use Rattle.fs_model.specs.Closure.{Closure, given_claim, IsConsistent}
@@ -9,9 +9,8 @@ use Rattle.fs_model.specs.Numbering.{seen}
 use Rattle.fs_model.proofs.TableLemmas.{walk-live, walk_ends, Table-structure, Table-typed}
 use Rattle.fs_model.proofs.AnswerLemmas.{walk_clash, cycle_clash}
 use Rattle.fs_graph.specs.GraphMap.{GraphMap, table_of, reader_of}
-use Rattle.fs_graph.specs.Orders.{IsReached, ReachesItself, IsOrdering}
-use Rattle.fs_closing.specs.Levels.{BoundsPaths}
-use Rattle.fs_unify.specs.Drawing.{IsPicture, Answers}
+use Rattle.fs_graph.specs.Orders.{IsReached, ReachesItself, IsOrdering, IsLongest}
+use Rattle.fs_unify.specs.Drawing.{IsPicture, BoundsPaths, Answers}
 use Rattle.fs_closing.specs.Keeps.{Deep, Stands}
 use Rattle.fs_model.proofs.ClosureLemmas.{closure_grows}
 use Rattle.fs_unify.specs.Entering.{IsWellFormed}
@@ -71,9 +70,20 @@ picture_same t ok filled root g shows = record {
     is : (p : Path) → walk (table_of g) 0 p ≡ walk t 0 p
     is p = picture_walk t ok g shows 0 p filled root
 
-pub answer_long : (x : Deep) (limit : ℕ) → BoundsPaths x.table limit false → Answers x limit None
-answer_long x limit (p, n, e, long) s source w o is st ok =
-    walk_clash s o (Told source) x.table w p n st.closes e (subst (λ k. k < length p) (sym is) long) ok
+-- what nodes without work stand for is inconsistent where a path is longer than the limit
+pub answer_longest : (x : Deep) (limit : ℕ) (plan : GraphMap) (longest : ℕ) → 0 < x.table.size → x.table.live 0 ≡ 0 → IsPicture x.table plan →
+    IsLongest plan longest → limit < longest → Answers x limit None
+answer_longest x limit plan longest filled root shows l long s source w o is st ok =
+    let r = l.reached in
+    walk_clash s o (Told source) x.table w r.0 r.1 st.closes (sym (picture_walk x.table st.closes.table plan shows 0 r.0 filled root) ∙ r.2)
+    (let q = r.3 in omega arith) ok
+
+-- no path is longer than the limit where the longest one isn't
+pub picture_bounds : (t : Table) → IsTable t → (limit : ℕ) (plan : GraphMap) (longest : ℕ) → 0 < t.size → t.live 0 ≡ 0 → IsPicture t plan →
+    IsLongest plan longest → longest ≤ limit → BoundsPaths t limit
+picture_bounds t ok limit plan longest filled root shows l short p n e =
+    let within = l.bounds p n (picture_walk t ok plan shows 0 p filled root ∙ e) in
+    omega arith
 
 pub answer_cycle : (x : Deep) (limit : ℕ) (plan : GraphMap) (n : ℕ) → 0 < x.table.size → x.table.live 0 ≡ 0 → IsPicture x.table plan → IsReached plan n →
     ReachesItself plan n → Answers x limit None
@@ -85,7 +95,7 @@ answer_cycle x limit plan n filled root shows (p, e) (q, apart, d) s source w o 
     cycle_clash s o (Told source) t w p q n st.closes e' apart (sym (picture_walk t table plan shows n q ends.0 ends.1) ∙ d) ok
 
 -- what nodes without work stand for is consistent where no walk is longer than the limit
-pub consistent_closed : (x : Deep) (limit : ℕ) → BoundsPaths x.table limit true → (s : System) (source : Source) (w : ℕ → Path) → IsOrder s → s.path_limit ≡ limit →
+pub consistent_closed : (x : Deep) (limit : ℕ) → BoundsPaths x.table limit → (s : System) (source : Source) (w : ℕ → Path) → IsOrder s → s.path_limit ≡ limit →
     Stands s (Told source) x [] w → IsConsistent s (Told source)
 consistent_closed x limit short s source w o is st =
     let t = x.table in
@@ -98,13 +108,13 @@ consistent_closed x limit short s source w o is st =
           subst (λ k. length p ≤ k) (sym is) (short p end.0 end.1);
     }
 
-pub answer_graph : (x : Deep) (limit : ℕ) (plan graph : GraphMap) → 0 < x.table.size → x.table.live 0 ≡ 0 → BoundsPaths x.table limit true → IsPicture x.table plan →
-    IsOrdering plan graph → Answers x limit (Some (reader_of graph))
-answer_graph x limit plan graph filled root short shows order s source w o is st =
+pub answer_graph : (x : Deep) (limit : ℕ) (plan graph : GraphMap) (longest : ℕ) → 0 < x.table.size → x.table.live 0 ≡ 0 → IsPicture x.table plan →
+    IsLongest plan longest → longest ≤ limit → IsOrdering plan graph → Answers x limit (Some (reader_of graph))
+answer_graph x limit plan graph longest filled root shows l short order s source w o is st =
     let t = x.table in
     let c = st.closes in
     let structure_is = Table-structure s o (Told source) t c.table c.filled w c.sound c.complete in (
-      consistent_closed x limit short s source w o is st,
+      consistent_closed x limit (picture_bounds t c.table limit plan longest filled root shows l short) s source w o is st,
       structure_same s (Told source) (reader_of plan) (reader_of graph)
           (structure_same s (Told source) (seen t) (reader_of plan) structure_is (picture_same t c.table filled root plan shows)) order.same,
     )

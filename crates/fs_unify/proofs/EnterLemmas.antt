@@ -5,14 +5,14 @@ use Rattle.std.proofs.lemmas.Bool.{cases_lt, ne_eqb, eqb-true}
 use Rattle.std.proofs.lemmas.List.{get_or-map}
 use Rattle.std.specs.Option.{option_map}
 use Rattle.fs_model.specs.Claims.{Claim, System, IsBare, Has, here, there}
-use Rattle.fs_model.specs.Table.{Table, NodeClaim, is_under, from}
+use Rattle.fs_model.specs.Table.{Table, NodeClaim, is_under, from, Seen}
 use Rattle.fs_closing.specs.Joined.{IsJoined}
 use Rattle.fs_closing.specs.Keeps.{PushesFacts}
 use Rattle.fs_closing.proofs.HasLemmas.{Has-left, Has-right, Has-either, Has-map, Has-of_map}
 use Rattle.fs_model.specs.Steps.{Links}
 use Rattle.fs_model.proofs.StepLemmas.{same_or_other}
 use Rattle.fs_graph.specs.declared.graph.GraphArc.{GraphArc}
-use Rattle.fs_graph.specs.GraphMap.{GraphMap, type_at, arc_to, arcs_at, Rises}
+use Rattle.fs_graph.specs.GraphMap.{GraphMap, table_of, type_at, arc_to, arcs_at, Rises}
 use Rattle.fs_closing.specs.Cells.{live_of}
 use Rattle.fs_closing.specs.NodeSteps.{AddsNode}
 use Rattle.fs_unify.specs.Entering.{AreFlat, AddsNodes, AddsRow, AddsRows, EntersTable, Owes, introducer_claims}
@@ -252,26 +252,37 @@ owes_more s offset n at g ty arcs work one two three bare top is_at is_ty is_arc
   only = λ c h. last c (joined.only c h);
 }
   where
-    facts : (k x : ℕ) (c : Claim) → k < n + 1 → s.is_below (type_at g k) x ≡ true → Has c (s.facts_of x) → (k < n) ⊎ (n ≤ k) → Has (from (offset + k) c) three
-    facts k x c h b i (inl a) = joined.from_old _ (pushed.rest _ (old.facts k x c a b i))
+    facts : (k x : ℕ) (c : Claim) → k < n + 1 → s.is_below (type_at g k) x ≡ true → Has c (s.facts_of x) → (k < n) ⊎ (n ≤ k) →
+        Has (from (offset + k) c) three ⊎ Seen s (table_of g) (from k c)
+    facts k x c h b i (inl a) = kept (old.facts k x c a b i)
+      where
+        kept : Has (from (offset + k) c) one ⊎ Seen s (table_of g) (from k c) → Has (from (offset + k) c) three ⊎ Seen s (table_of g) (from k c)
+        kept (inl z) = inl (joined.from_old _ (pushed.rest _ z))
+        kept (inr z) = inr z
     facts k x c h b i (inr a) = go (pushed.facts x c (ap (λ y. s.is_below y x) (is_ty ∙ ap (type_at g) (sym e)) ∙ b) i)
       where
         e : k ≡ n
         e = omega arith
 
-        go : (s.is_below 0 x ≡ true) ⊎ ((s.is_below 0 x ≡ true) ⊎ Has (from at c) two) → Has (from (offset + k) c) three
+        go : (s.is_below 0 x ≡ true) ⊎ ((s.is_below 0 x ≡ true) ⊎ Has (from at c) two) → Has (from (offset + k) c) three ⊎ Seen s (table_of g) (from k c)
         go (inl z) = absurd (bare x c (ap (λ y. s.is_below y x) top ∙ z) i)
         go (inr (inl z)) = absurd (bare x c (ap (λ y. s.is_below y x) top ∙ z) i)
-        go (inr (inr z)) = subst (λ y. Has (from y c) three) (let d : at ≡ offset + k = omega (arith, is_at) in d) (joined.from_old _ z)
+        go (inr (inr z)) = inl (subst (λ y. Has (from y c) three) (let d : at ≡ offset + k = omega (arith, is_at) in d) (joined.from_old _ z))
 
-    introduces : (k : ℕ) (a : GraphArc) → k < n + 1 → Has a (arcs_at g k) → (k < n) ⊎ (n ≤ k) → Has (is_under (offset + k) [] (s.introducer a.feat.0)) three
-    introduces k a h i (inl b) = joined.from_old _ (pushed.rest _ (old.introduces k a b i))
+    introduces : (k : ℕ) (a : GraphArc) → k < n + 1 → Has a (arcs_at g k) → (k < n) ⊎ (n ≤ k) →
+        Has (is_under (offset + k) [] (s.introducer a.feat.0)) three ⊎ (s.is_below (type_at g k) (s.introducer a.feat.0) ≡ true)
+    introduces k a h i (inl b) = kept (old.introduces k a b i)
+      where
+        kept : Has (is_under (offset + k) [] (s.introducer a.feat.0)) one ⊎ (s.is_below (type_at g k) (s.introducer a.feat.0) ≡ true) →
+            Has (is_under (offset + k) [] (s.introducer a.feat.0)) three ⊎ (s.is_below (type_at g k) (s.introducer a.feat.0) ≡ true)
+        kept (inl z) = inl (joined.from_old _ (pushed.rest _ z))
+        kept (inr z) = inr z
     introduces k a h i (inr b) =
         let e : k ≡ n = omega arith in
         let d : at ≡ offset + k = omega (arith, is_at) in
-        subst (λ y. Has (is_under y [] (s.introducer a.feat.0)) three) d
+        inl (subst (λ y. Has (is_under y [] (s.introducer a.feat.0)) three) d
         (joined.from_new _ (Has-map (λ (z : GraphArc). is_under at [] (s.introducer z.feat.0)) a arcs
-        (subst (Has a) (ap (arcs_at g) e ∙ sym is_arcs) i)))
+        (subst (Has a) (ap (arcs_at g) e ∙ sym is_arcs) i))))
 
     first : (c : NodeClaim) →
         ((k : ℕ) × (x : ℕ) × (d : Claim) × (k < n) × (s.is_below (type_at g k) x ≡ true) × Has d (s.facts_of x) × (c ≡ from (offset + k) d)) ⊎
@@ -318,4 +329,24 @@ joined_more xs xs' y old now new is a b = record {
       where
         go : Has c xs ⊎ Has c old → Has c xs' ⊎ Has c old
         go (inl i) = inl (subst (Has c) (sym is) (Has-left c xs (y ∷ []) i))
+        go (inr i) = inr i
+
+-- work that is joined twice
+pub joined_both : (xs ys : List NodeClaim) (old now new : List NodeClaim) → IsJoined xs old now → IsJoined ys now new → IsJoined (xs ++ ys) old new
+joined_both xs ys old now new a b = record {
+  from_new = λ c h. from_new c (Has-either c xs ys h);
+  from_old = λ c h. b.from_old c (a.from_old c h);
+  only = λ c h. only c (b.only c h);
+}
+  where
+    from_new : (c : NodeClaim) → Has c xs ⊎ Has c ys → Has c new
+    from_new c (inl h) = b.from_old c (a.from_new c h)
+    from_new c (inr h) = b.from_new c h
+
+    only : (c : NodeClaim) → Has c ys ⊎ Has c now → Has c (xs ++ ys) ⊎ Has c old
+    only c (inl h) = inl (Has-right c xs ys h)
+    only c (inr h) = go (a.only c h)
+      where
+        go : Has c xs ⊎ Has c old → Has c (xs ++ ys) ⊎ Has c old
+        go (inl i) = inl (Has-left c xs ys i)
         go (inr i) = inr i

@@ -13,17 +13,20 @@ use Rattle.fs_closing.specs.NodeTable.{AreWhole, AreWithin, table_of, IsWhole, I
 use Rattle.fs_closing.specs.NodeSteps.{AddsNode}
 use Rattle.fs_closing.specs.Rules.{Grammar, system_of}
 use Rattle.fs_closing.specs.Work.{work_of}
-use Rattle.fs_unify.specs.Given.{facts_source, StandsFor, StandsForSome, Gathers, Decides, Settles}
-use Rattle.fs_unify.specs.Drawing.{Answers}
+use Rattle.fs_unify.specs.Given.{facts_source, StandsFor, StandsForSome, Gathers, Decides, Pictured, Settles}
+use Rattle.fs_unify.specs.Drawing.{IsPictureIn, Shows, Answers}
+use Rattle.fs_unify.specs.declared.draw.Picture.{Picture}
+use Rattle.fs_graph.specs.Inside.{graph_map}
+use Rattle.fs_closing.specs.Cells.{live_of}
+use Rattle.fs_closing.proofs.UniteLemmas.{table_whole}
 use Rattle.fs_unify.specs.Entering.{IsGraphIn}
-use Rattle.fs_unify.proofs.DrawLemmas.{answer_long, consistent_closed}
+use Rattle.fs_unify.proofs.DrawLemmas.{picture_bounds, consistent_closed}
 use Rattle.std.specs.Prelude.{IfSome, IsTrue, ◌↔◌}
 use Rattle.fs_graph.specs.GraphMap.{GraphMap}
 use Rattle.type_hierarchy.specs.Table.{count_of}
-use Rattle.fs_closing.specs.Levels.{BoundsPaths}
-use Rattle.fs_closing.specs.Keeps.{Deep, deep_of, Stands, Turns, Refutes, Leads, Clashes, StepsTo}
+use Rattle.fs_closing.specs.Keeps.{Deep, deep_of, Stands, Leads, Clashes, StepsTo}
 use Rattle.fs_closing.proofs.HasLemmas.{Has-map, Has-of_map}
-use Rattle.fs_closing.proofs.KeepsLemmas.{Refutes-after, Refutes-order, Refutes-beside, same_beside, same_itself, same_swapped}
+use Rattle.fs_closing.proofs.UniteLemmas.{live_le}
 pub use Rattle.fs_closing.proofs.OrderLemmas.{order_of_laws}
 
 pub whole_none : AreWhole [] [] [] [] []
@@ -107,14 +110,25 @@ pub closed_filled : (g : Grammar) (nodes : Nodes) (tasks : Tasks) (nodes' : Node
     0 < length nodes'.types.items
 closed_filled g nodes tasks nodes' some leads = (closed_stands g nodes tasks nodes' some.0 some.1 leads).1.closes.filled
 
-pub decides_by : (g : Grammar) (nodes : Nodes) (tasks : Tasks) (nodes' : Nodes) (limit : ℕ) (b : Bool) → IsOrder (system_of g) → limit ≡ g.path_limit →
-    Leads g nodes (work_of g.rules tasks) nodes' [] → IsWhole nodes' → IsWithin (count_of g.types) (length g.introducers) nodes' → 0 < length nodes'.types.items →
-    BoundsPaths (table_of nodes') limit b → Decides g nodes tasks nodes' b
-decides_by g nodes tasks nodes' limit true order is leads whole within filled bounds =
-    (leads, whole, within, subst (λ l. BoundsPaths (table_of nodes') l true) is bounds, filled)
-decides_by g nodes tasks nodes' limit false order is leads whole within filled bounds = λ source st ok.
+pub decides_none : (g : Grammar) (nodes : Nodes) (tasks : Tasks) (nodes' : Nodes) → IsOrder (system_of g) → Leads g nodes (work_of g.rules tasks) nodes' [] →
+    Answers (deep_of nodes') g.path_limit None → Decides g nodes tasks nodes' false
+decides_none g nodes tasks nodes' order leads none source st ok =
     let r = closed_stands g nodes tasks nodes' source st leads in
-    answer_long (deep_of nodes') limit bounds (system_of g) source r.0 order (sym is) r.1 ok
+    none (system_of g) source r.0 order refl r.1 ok
+
+-- closed nodes, with their picture if there is one
+pub pictured : (g : Grammar) (nodes : Nodes) (tasks : Tasks) (nodes' : Nodes) (limit : ℕ) (p : Picture) (b : Bool) → IsOrder (system_of g) → limit ≡ g.path_limit →
+    Leads g nodes (work_of g.rules tasks) nodes' [] → IsWhole nodes' → IsWithin (count_of g.types) (length g.introducers) nodes' → 0 < length nodes'.types.items →
+    Shows nodes' limit p b → Pictured g nodes tasks nodes' p b
+pictured g nodes tasks nodes' limit p false order is leads whole within filled none =
+    decides_none g nodes tasks nodes' order leads (subst (λ l. Answers (deep_of nodes') l None) is none)
+pictured g nodes tasks nodes' limit p true order is leads whole within filled some =
+    let shown = subst (λ l. IsPictureIn (table_of nodes') l p) is some in
+    let root : live_of nodes'.forwards.items 0 ≡ 0 = omega (arith, live_le nodes'.forwards.items whole.falls 0) in
+    let ok = table_whole nodes'.types.items nodes'.forwards.items nodes'.depths.items nodes'.firsts.items nodes'.cells.items whole in
+    let bounds = picture_bounds (table_of nodes') ok g.path_limit (graph_map p.types.items p.starts.items p.arcs.items) p.order.longest filled root shown.shows
+    shown.order.longest shown.short in
+    ((leads, whole, within, bounds, filled), shown)
 
 pub decides_clash : (g : Grammar) (nodes : Nodes) (tasks : Tasks) (nodes' : Nodes) → Clashes g nodes (work_of g.rules tasks) → Decides g nodes tasks nodes' false
 decides_clash g nodes tasks nodes' clash source st ok =
@@ -131,6 +145,12 @@ decided g nodes tasks nodes' source true order st d = (
 )
 decided g nodes tasks nodes' source false order st d = (λ e. absurd cc, λ ok. absurd (d source st ok))
 
+-- what is decided where nodes are drawn
+pub decided_by : (g : Grammar) (nodes : Nodes) (tasks : Tasks) (nodes' : Nodes) (source : Source) (p : Picture) (b : Bool) → IsOrder (system_of g) →
+    StandsFor g source nodes tasks → Pictured g nodes tasks nodes' p b → IsTrue b ↔ IsConsistent (system_of g) (Told source)
+decided_by g nodes tasks nodes' source p false order st d = decided g nodes tasks nodes' source false order st d
+decided_by g nodes tasks nodes' source p true order st d = decided g nodes tasks nodes' source true order st d.0
+
 pub settles_by : (g : Grammar) (nodes : Nodes) (tasks : Tasks) (nodes' : Nodes) (o : Option Reader) → IsOrder (system_of g) →
     Leads g nodes (work_of g.rules tasks) nodes' [] → Answers (deep_of nodes') g.path_limit o → Settles g nodes tasks o
 settles_by g nodes tasks nodes' o order leads answers source st =
@@ -142,15 +162,6 @@ pub inside_at : (o : Option GraphMap) (nodes : Nodes) (types feats : ℕ) → Is
     IfSome o (λ g. (ts fs : ℕ) → IsWithin ts fs nodes → IsGraphIn ts fs g) → IfSome o (IsGraphIn types feats)
 inside_at None nodes types feats within h = h
 inside_at (Some g) nodes types feats within h = h types feats within
-
--- a claim of several shows a clash
-pub refute_one : (s : System) (x y : Deep) (start : List NodeClaim) (k : NodeClaim) (rest a : List NodeClaim) → Turns s x start y ((k ∷ rest) ++ a) →
-    Refutes s y (k ∷ a) → Refutes s x start
-refute_one s x y start k rest a one clash =
-    Refutes-after s x y start ((k ∷ rest) ++ a) one
-    (Refutes-order s y ((k ∷ rest) ++ a) ((k ∷ a) ++ rest)
-    (same_beside (k ∷ []) (k ∷ []) (rest ++ a) (a ++ rest) (same_itself (k ∷ [])) (same_swapped rest a))
-    (Refutes-beside s y (k ∷ a) rest clash))
 
 -- one claim of several at the root
 pub claims_step : (claims : List Claim) (i : ℕ) (d : Claim) → i < length claims →

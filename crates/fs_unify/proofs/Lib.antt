@@ -4,6 +4,8 @@ pub mod DrawRows
 pub mod GivenLemmas
 pub mod EnterLemmas
 pub mod InsideLemmas
+pub mod OwedLemmas
+pub mod OwedRows
 pub mod PartModel
 pub mod PlaceLemmas
 pub mod SampleLemmas

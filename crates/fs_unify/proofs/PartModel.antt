@@ -3,9 +3,9 @@ use Rattle.std.proofs.Common.{ℕ, ◌≡◌, ◌≤◌, ◌<◌, ◌+◌, ◌-�
 use Rattle.std.proofs.lemmas.Bool.{cases_lt}
 use Rattle.std.specs.Option.{option_map}
 use Rattle.fs_model.specs.Claims.{Path, Claim, exists_at, same, below, at, System, IsBare, Has, here}
-use Rattle.fs_model.specs.Closure.{Closure, given_claim, same_exists, below_exists, prefix, same_refl, introduced, raised, topped, constrained}
+use Rattle.fs_model.specs.Closure.{Closure, given_claim, same_exists, prefix, same_refl, introduced, raised, topped, constrained}
 use Rattle.fs_model.specs.Sources.{Tells, tells_exists, tells_same, tells_below, Part, Source, Told, told_claim, told_part}
-use Rattle.fs_model.specs.Table.{Table, IsTable, NodeClaim, is_there, is_same, is_under, from, Stated, by_node, by_arc, by_merge, by_type, by_work, Follows, stated, there_left, same_back, same_on, under_same, under_higher, walk, read}
+use Rattle.fs_model.specs.Table.{Table, IsTable, NodeClaim, is_there, is_same, is_under, from, Seen, Stated, by_node, by_arc, by_merge, by_type, by_work, Follows, stated, there_left, same_back, same_on, under_same, under_higher, walk, read}
 use Rattle.fs_model.specs.Steps.{InTable, Closes, Starts, StandsIn}
 use Rattle.fs_model.specs.Numbering.{IsBefore}
 use Rattle.fs_model.proofs.StepLemmas.{Follows-grows, read-agree}
@@ -15,7 +15,7 @@ use Rattle.fs_model.proofs.PartLemmas.{walk_follows, part_follows}
 use Rattle.fs_graph.specs.declared.graph.GraphArc.{GraphArc}
 use Rattle.fs_graph.specs.GraphMap.{GraphMap, IsGraph, table_of, type_at, arcs_at, arc_to, reader_of}
 use Rattle.fs_closing.specs.Joined.{IsJoined}
-use Rattle.fs_unify.specs.Entering.{EntersTable, Owes, IsOwed, IsWellFormed, Entered}
+use Rattle.fs_unify.specs.Entering.{EntersTable, Owes, IsOwed, Entered}
 use Rattle.fs_closing.proofs.HasLemmas.{Has-left, Has-right, Has-either, Has-one}
 use Rattle.fs_unify.proofs.EnterLemmas.{arc_to_has, rises_found}
 
@@ -138,22 +138,12 @@ module _ (s : System) (source : Source) (place : Path) (g : GraphMap) (graph : I
           omega (arith, r.2, inside, enters.size_is)
 
   kept_work : (c : NodeClaim) → Has c joined → Has c full'
-  kept_work c h = go owed
-    where
-      go : IsOwed s t.size g joined full' → Has c full'
-      go (inl (_, e)) = subst (Has c) (sym e) h
-      go (inr o) = o.rest c h
+  kept_work c h = owed.rest c h
 
   only_work : (c : NodeClaim) → Has c full' →
       ((k : ℕ) × (x : ℕ) × (d : Claim) × (k < length g.types) × (s.is_below (type_at g k) x ≡ true) × Has d (s.facts_of x) × (c ≡ from (t.size + k) d)) ⊎
       ((k : ℕ) × (a : GraphArc) × (k < length g.types) × Has a (arcs_at g k) × (c ≡ is_under (t.size + k) [] (s.introducer a.feat.0))) ⊎ Has c joined
-  only_work c h = go owed
-    where
-      go : IsOwed s t.size g joined full' →
-          ((k : ℕ) × (x : ℕ) × (d : Claim) × (k < length g.types) × (s.is_below (type_at g k) x ≡ true) × Has d (s.facts_of x) × (c ≡ from (t.size + k) d)) ⊎
-          ((k : ℕ) × (a : GraphArc) × (k < length g.types) × Has a (arcs_at g k) × (c ≡ is_under (t.size + k) [] (s.introducer a.feat.0))) ⊎ Has c joined
-      go (inl (_, e)) = inr (inr (subst (Has c) e h))
-      go (inr o) = o.only c h
+  only_work c h = owed.only c h
 
   in_work : (c : NodeClaim) → Has c full → Has c full'
   in_work c h = kept_work c (joins.from_old c h)
@@ -205,51 +195,23 @@ module _ (s : System) (source : Source) (place : Path) (g : GraphMap) (graph : I
     types = λ p n e. enters.type_new n (walk_ends_in p 0 n root_in e);
   }
 
-  -- what a well-formed graph's types and arcs force stands in it
+  -- what is seen in the graph follows in the table
   type_follows : (k u : ℕ) → k < length g.types → s.is_below (type_at g k) u ≡ true → Follows s t' full' (is_under (t.size + k) [] u)
   type_follows k u h b =
       let inside : t.size + k < t'.size = omega (arith, enters.size_is) in
       under_higher (t.size + k) (t'.type_of (t.size + k)) u [] (stated _ (by_type (t.size + k) inside (live_is (t.size + k))))
       (ap (λ y. s.is_below y u) (enters.type_new k h) ∙ b)
 
-  further : (k : ℕ) (q : Path) (n : ℕ) → k < length g.types → walk (table_of g) 0 (graph.least k ++ q) ≡ Some n → walk (table_of g) k q ≡ Some n
-  further k q n h e = sym (walk-append (table_of g) graph.numbered.table 0 k (graph.least k) q (leads k h)) ∙ e
-
-  path_follows : (k : ℕ) (q : Path) (n : ℕ) → k < length g.types → walk (table_of g) 0 (graph.least k ++ q) ≡ Some n →
-      Follows s t' full' (is_same (t.size + k) q (t.size + n) [])
+  path_follows : (k : ℕ) (q : Path) (n : ℕ) → k < length g.types → walk (table_of g) k q ≡ Some n → Follows s t' full' (is_same (t.size + k) q (t.size + n) [])
   path_follows k q n h e =
       let inside : t.size + k < t'.size = omega (arith, enters.size_is) in
-      walk_follows s t' full' table' (t.size + k) (t.size + n) q inside (walk_in q k n h (further k q n h e))
+      walk_follows s t' full' table' (t.size + k) (t.size + n) q inside (walk_in q k n h e)
 
-  end_in : (k : ℕ) (q : Path) (n : ℕ) → k < length g.types → walk (table_of g) 0 (graph.least k ++ q) ≡ Some n → n < length g.types
-  end_in k q n h e = walk_ends_in q k n h (further k q n h e)
-
-  well_introduces : IsWellFormed s (reader_of g) → (k f m : ℕ) → k < length g.types → arc_to (arcs_at g k) f ≡ Some m →
-      Follows s t' full' (is_under (t.size + k) [] (s.introducer f))
-  well_introduces well k f m h e =
-      let p = graph.least k in
-      let one = walk-append (table_of g) graph.numbered.table 0 k p (f ∷ []) (leads k h) ∙ walk-step (table_of g) k m f [] e in
-      let exists = given_claim (exists_at (p ++ f ∷ [])) (tells_exists (p ++ f ∷ []) m one) in
-      type_follows k (s.introducer f) h (well.types_above p k (s.introducer f) (leads k h) (introduced p f exists))
-
-  well_constrains : IsWellFormed s (reader_of g) → (k u : ℕ) (c : Claim) → k < length g.types → s.is_below (type_at g k) u ≡ true → Has c (s.facts_of u) →
-      Follows s t' full' (from (t.size + k) c)
-  well_constrains well k u c h b i =
-      let p = graph.least k in
-      let here_is = given_claim (below p (type_at g k)) (tells_below p k (leads k h)) in
-      go c (constrained p u c (raised p (type_at g k) u here_is b) i)
-    where
-      go : (c : Claim) → Closure s (Tells (reader_of g)) (at (graph.least k) c) → Follows s t' full' (from (t.size + k) c)
-      go (exists_at q) x =
-          let end = (well.paths (graph.least k ++ q)).0 x in
-          there_left _ _ _ _ (path_follows k q end.0 h end.1)
-      go (same q r) x =
-          let end = (well.equalities (graph.least k ++ q) (graph.least k ++ r)).0 x in
-          same_on _ _ _ _ _ _ (path_follows k q end.0 h end.1) (same_back _ _ _ _ (path_follows k r end.0 h end.2))
-      go (below q v) x =
-          let end = (well.paths (graph.least k ++ q)).0 (below_exists _ _ x) in
-          under_same (t.size + end.0) (t.size + k) v [] q (same_back _ _ _ _ (path_follows k q end.0 h end.1))
-          (type_follows end.0 v (end_in k q end.0 h end.1) (well.types_above (graph.least k ++ q) end.0 v end.1 x))
+  seen_follows : (k : ℕ) (c : Claim) → k < length g.types → Seen s (table_of g) (from k c) → Follows s t' full' (from (t.size + k) c)
+  seen_follows k (exists_at q) h x = there_left _ _ _ _ (path_follows k q x.0 h x.1)
+  seen_follows k (same q r) h x = same_on _ _ _ _ _ _ (path_follows k q x.0 h x.1) (same_back _ _ _ _ (path_follows k r x.0 h x.2))
+  seen_follows k (below q v) h x =
+      under_same (t.size + x.0) (t.size + k) v [] q (same_back _ _ _ _ (path_follows k q x.0 h x.1)) (type_follows x.0 v (walk_ends_in q k x.0 h x.1) x.2)
 
   read_new : (c : NodeClaim) → InTable t.size c → Closure s (Told source) (read w c) → Closure s (Told source) (read (extended w t.size place graph.least) c)
   read_new c h r = subst (Closure s (Told source)) (sym (read-agree w (extended w t.size place graph.least) t.size agrees c h)) r
@@ -366,7 +328,7 @@ module _ (s : System) (source : Source) (place : Path) (g : GraphMap) (graph : I
       introduces : (n f m : ℕ) → t'.arc n f ≡ Some m → (n < t.size) ⊎ ((j : ℕ) × (j < length g.types) × (n ≡ t.size + j)) →
           Follows s t' full' (is_under n [] (s.introducer f))
       introduces n f m e (inl a) = grows _ (old.introduces n f m a (sym (enters.arc_old n f a) ∙ e))
-      introduces n f m e (inr (j, a, is)) = subst (λ i. Follows s t' full' (is_under i [] (s.introducer f))) (sym is) (go owed)
+      introduces n f m e (inr (j, a, is)) = subst (λ i. Follows s t' full' (is_under i [] (s.introducer f))) (sym is) (go (owed.introduces j listed.0 a listed.1))
         where
           arc : (i : ℕ) × (arc_to (arcs_at g j) f ≡ Some i) × (m ≡ t.size + i)
           arc = new_arc j f m a (ap (λ i. t'.arc i f) (sym is) ∙ e)
@@ -374,34 +336,38 @@ module _ (s : System) (source : Source) (place : Path) (g : GraphMap) (graph : I
           listed : (x : GraphArc) × Has x (arcs_at g j) × (x.feat.0 ≡ f) × (x.to.0 ≡ arc.0)
           listed = arc_to_has (arcs_at g j) f arc.0 arc.1
 
-          go : IsOwed s t.size g joined full' → Follows s t' full' (is_under (t.size + j) [] (s.introducer f))
-          go (inl (well, _)) = well_introduces well j f arc.0 a arc.1
-          go (inr o) =
-              subst (λ i. Follows s t' full' (is_under (t.size + j) [] (s.introducer i))) listed.2 (stated _ (by_work _ (o.introduces j listed.0 a listed.1)))
+          go : Has (is_under (t.size + j) [] (s.introducer listed.0.feat.0)) full' ⊎ (s.is_below (type_at g j) (s.introducer listed.0.feat.0) ≡ true) →
+              Follows s t' full' (is_under (t.size + j) [] (s.introducer f))
+          go (inl h) = subst (λ i. Follows s t' full' (is_under (t.size + j) [] (s.introducer i))) listed.2 (stated _ (by_work _ h))
+          go (inr h) = subst (λ i. Follows s t' full' (is_under (t.size + j) [] (s.introducer i))) listed.2 (type_follows j (s.introducer listed.0.feat.0) a h)
 
       constrains : (n u : ℕ) (c : Claim) → s.is_below (t'.type_of n) u ≡ true → Has c (s.facts_of u) → (n < t.size) ⊎ ((j : ℕ) × (j < length g.types) × (n ≡ t.size + j)) →
           Follows s t' full' (from n c)
       constrains n u c b i (inl a) = grows _ (old.constrains n u c a (ap (λ y. s.is_below y u) (sym (enters.type_old n a)) ∙ b) i)
       constrains n u c b i (inr (j, a, is)) =
-          subst (λ k. Follows s t' full' (from k c)) (sym is) (go owed)
+          subst (λ k. Follows s t' full' (from k c)) (sym is) (go (owed.facts j u c a at_type i))
         where
           at_type : s.is_below (type_at g j) u ≡ true
           at_type = ap (λ y. s.is_below y u) (sym (ap t'.type_of is ∙ enters.type_new j a)) ∙ b
 
-          go : IsOwed s t.size g joined full' → Follows s t' full' (from (t.size + j) c)
-          go (inl (well, _)) = well_constrains well j u c a at_type i
-          go (inr o) = stated _ (by_work _ (o.facts j u c a at_type i))
+          go : Has (from (t.size + j) c) full' ⊎ Seen s (table_of g) (from j c) → Follows s t' full' (from (t.size + j) c)
+          go (inl h) = stated _ (by_work _ h)
+          go (inr h) = seen_follows j c a h
 
 -- other work beside it
 pub Owes-beside : (s : System) (offset : ℕ) (g : GraphMap) (count : ℕ) (more work work' : List NodeClaim) → Owes s offset g count work work' →
     Owes s offset g count (more ++ work) (more ++ work')
 Owes-beside s offset g count more work work' o = record {
-  facts = λ k x c h b i. Has-right _ more work' (o.facts k x c h b i);
-  introduces = λ k a h i. Has-right _ more work' (o.introduces k a h i);
+  facts = λ k x c h b i. beside (o.facts k x c h b i);
+  introduces = λ k a h i. beside (o.introduces k a h i);
   rest = λ c h. rest c (Has-either c more work h);
   only = λ c h. only c (Has-either c more work' h);
 }
   where
+    beside : {c : NodeClaim} {X : Type 0} → Has c work' ⊎ X → Has c (more ++ work') ⊎ X
+    beside (inl h) = inl (Has-right _ more work' h)
+    beside (inr h) = inr h
+
     rest : (c : NodeClaim) → Has c more ⊎ Has c work → Has c (more ++ work')
     rest c (inl h) = Has-left c more work' h
     rest c (inr h) = Has-right c more work' (o.rest c h)
@@ -421,8 +387,7 @@ Owes-beside s offset g count more work work' o = record {
         go (inr (inr x)) = inr (inr (Has-right c more work x))
 
 pub Owed-beside : (s : System) (offset : ℕ) (g : GraphMap) (more work work' : List NodeClaim) → IsOwed s offset g work work' → IsOwed s offset g (more ++ work) (more ++ work')
-Owed-beside s offset g more work work' (inl (well, e)) = inl (well, ap (λ l. more ++ l) e)
-Owed-beside s offset g more work work' (inr o) = inr (Owes-beside s offset g (length g.types) more work work' o)
+Owed-beside s offset g more work work' o = Owes-beside s offset g (length g.types) more work work' o
 
 -- the root alone, where there is a part
 pub Entered-none : (s : System) (source : Source) (t : Table) → IsBare s → Starts s t → Closure s (Told source) (exists_at []) → Entered s source [] t [] (λ _. [])

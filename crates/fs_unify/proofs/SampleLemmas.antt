@@ -13,6 +13,7 @@ use Rattle.fs_closing.specs.Rules.{Rule, no_rule, Grammar, IsGrammar, IsClaimIn,
 use Rattle.fs_closing.specs.Systems.{grammar_of, rule_of, rules_of}
 use Rattle.fs_closing.proofs.HasLemmas.{Has-of_map, each_push}
 use Rattle.fs_graph.specs.GraphMap.{GraphMap}
+use Rattle.fs_unify.specs.Owing.{owes_all, owes_nothing}
 use Rattle.fs_unify.specs.Placing.{PlacedGraph, IsPlacedIn, IsAnswerIn}
 
 -- all elements were looked at
@@ -68,10 +69,10 @@ sample_bare types introducers constraints limit fit t c top h =
 
 -- two answers, the second one at a path and known to be well-formed
 pub two_placed : (g : Grammar) (p q : Path) (a b : GraphMap) (none one two : List PlacedGraph) → none ≡ [] →
-    one ≡ none ++ record { place = p; graph = a; closed = false } ∷ [] → two ≡ one ++ record { place = q; graph = b; closed = true } ∷ [] →
+    one ≡ none ++ record { place = p; graph = a; owes = owes_all } ∷ [] → two ≡ one ++ record { place = q; graph = b; owes = owes_nothing } ∷ [] →
     p ≡ [] → All (λ f. f < length g.introducers) q → IsAnswerIn g a → IsAnswerIn g b → (x : PlacedGraph) → Has x two → IsPlacedIn g x
 two_placed g p q a b none one two nothing first second root in_range known_a known_b =
-    each_push (IsPlacedIn g) one two (record { place = q; graph = b; closed = true }) second
-    (each_push (IsPlacedIn g) none one (record { place = p; graph = a; closed = false }) first (λ x h. elim (subst (Has x) nothing h) [ ])
-    (record { place_in = subst (All (λ f. f < length g.introducers)) (sym root) (λ k d h. absurd (omega (arith, h))); graph_in = known_a.graph_in; closed_in = λ e. absurd cc }))
-    (record { place_in = in_range; graph_in = known_b.graph_in; closed_in = λ _. known_b.well_formed })
+    each_push (IsPlacedIn g) one two (record { place = q; graph = b; owes = owes_nothing }) second
+    (each_push (IsPlacedIn g) none one (record { place = p; graph = a; owes = owes_all }) first (λ x h. elim (subst (Has x) nothing h) [ ])
+    (record { place_in = subst (All (λ f. f < length g.introducers)) (sym root) (λ k d h. absurd (omega (arith, h))); graph_in = known_a.graph_in; owed_in = tt }))
+    (record { place_in = in_range; graph_in = known_b.graph_in; owed_in = known_b.well_formed })

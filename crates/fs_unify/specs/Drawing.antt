@@ -1,13 +1,17 @@
 -- Graphs of closed nodes.
-use Rattle.std.specs.Prelude.{ℕ, ◌≡◌, ◌≢◌, ◌<◌, Option, Some, option_map, List, [], length, slice_index}
+use Rattle.std.specs.Prelude.{ℕ, ◌≡◌, ◌≢◌, ◌<◌, ◌≤◌, Bool, true, false, Option, Some, None, option_map, List, [], length, slice_index}
 use Rattle.fs_model.specs.Claims.{Path, System, IsOrder}
 use Rattle.fs_model.specs.Sources.{Reader, Source, Told, IsUnified}
-use Rattle.fs_model.specs.Table.{Table}
+use Rattle.fs_model.specs.Table.{Table, walk}
 use Rattle.fs_graph.specs.declared.graph.GraphArc.{GraphArc}
 use Rattle.fs_graph.specs.GraphMap.{GraphMap, table_of, type_at, arc_to, Rises}
-use Rattle.fs_graph.specs.Inside.{AreRows, row}
+use Rattle.fs_graph.specs.Inside.{AreRows, row, graph_map}
+use Rattle.fs_graph.specs.Orders.{ArePlan, IsOrderOf}
+use Rattle.fs_unify.specs.declared.draw.Picture.{Picture}
 use Rattle.fs_graph.specs.Visits.{targets_of}
-use Rattle.fs_closing.specs.Keeps.{Deep, Stands}
+use Rattle.fs_closing.specs.Keeps.{Deep, Stands, deep_of}
+use Rattle.fs_closing.specs.declared.nodes.Nodes.{Nodes}
+use Rattle.fs_closing.specs.NodeTable.{table_of as nodes_table}
 
 -- a row gets one arc more
 pub record PutsArc (feat to : ℕ) (old new : List GraphArc) : Type 0 where
@@ -34,7 +38,23 @@ pub record IsPicture (t : Table) (g : GraphMap) : Type 0 where
   pub types : (n : ℕ) → type_at g n ≡ t.type_of n
   pub arcs : (n f : ℕ) → n < t.size → t.live n ≡ n → (table_of g).arc n f ≡ option_map t.live (t.arc n f)
 
+-- the picture of a table: no path in it is longer than the limit
+pub record IsPictureIn (t : Table) (limit : ℕ) (p : Picture) : Type 0 where
+  pub plan : ArePlan p.types.items p.starts.items p.arcs.items
+  pub shows : IsPicture t (graph_map p.types.items p.starts.items p.arcs.items)
+  pub order : IsOrderOf p.types.items p.starts.items p.arcs.items p.order.numbers.items p.order.order.items p.order.longest
+  pub short : p.order.longest ≤ limit
+
 -- the answer of unification, for all given claims for which nodes without work stand
 abbrev pub Answers : Deep → ℕ → Option Reader → Type 0
 Answers x limit o =
     (s : System) (source : Source) (w : ℕ → Path) → IsOrder s → s.path_limit ≡ limit → Stands s (Told source) x [] w → IsUnified s source o
+
+-- no path is longer than the limit
+abbrev pub BoundsPaths : Table → ℕ → Type 0
+BoundsPaths t limit = (p : Path) (n : ℕ) → walk t 0 p ≡ Some n → length p ≤ limit
+
+-- whether closed nodes have a picture within the limit; where not, what they stand for is inconsistent
+abbrev pub Shows : Nodes → ℕ → Picture → Bool → Type 0
+Shows nodes limit p true = IsPictureIn (nodes_table nodes) limit p
+Shows nodes limit p false = Answers (deep_of nodes) limit None

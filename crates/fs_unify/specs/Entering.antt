@@ -1,11 +1,13 @@
 -- Graphs that enter a table.
-use Rattle.std.specs.Prelude.{ℕ, ◌≡◌, ◌≢◌, ◌<◌, ◌≤◌, ◌+◌, ◌⊎◌, true, Some, None, List, [], All, length, map, option_map, slice_index_or}
+use Rattle.std.specs.Prelude.{ℕ, ◌≡◌, ◌≢◌, ◌<◌, ◌≤◌, ◌+◌, ◌⊎◌, true, Some, None, List, [], All, length, map, option_map, slice_index_or, flat_map}
 use Rattle.fs_model.specs.Claims.{Path, Claim, at, System, Has}
 use Rattle.fs_model.specs.Sources.{Reader, Part, Source, Told, Tells, IsGraphOf}
 use Rattle.fs_model.specs.Steps.{InTable}
-use Rattle.fs_model.specs.Table.{Table, IsTable, NodeClaim, is_under, from, Follows, IsSound}
+use Rattle.fs_model.specs.Table.{Table, IsTable, NodeClaim, is_under, from, Seen, Follows, IsSound}
+use Rattle.fs_closing.specs.Rules.{Rule}
+use Rattle.fs_closing.specs.Work.{entry_claims}
 use Rattle.fs_graph.specs.declared.graph.GraphArc.{GraphArc}
-use Rattle.fs_graph.specs.GraphMap.{GraphMap, type_at, arc_to, arcs_at, reader_of}
+use Rattle.fs_graph.specs.GraphMap.{GraphMap, type_at, arc_to, arcs_at, table_of}
 
 -- no depth is above 0
 abbrev pub AreFlat : List ℕ → Type 0
@@ -51,10 +53,16 @@ pub record EntersTable (g : GraphMap) (t t' : Table) : Type 0 where
 abbrev pub introducer_claims : System → ℕ → List GraphArc → List NodeClaim
 introducer_claims s n arcs = map (λ a. is_under n [] (s.introducer a.feat.0)) arcs
 
--- what the types and arcs of a graph's first nodes force becomes work
+-- the facts of rules, at a node
+abbrev pub rules_claims : List Rule → ℕ → List ℕ → List NodeClaim
+rules_claims rules n js = flat_map (λ j. entry_claims rules (record { node = n; rule = j; from = 0 })) js
+
+-- what the types and arcs of a graph's first nodes force becomes work, where it isn't seen in the graph
 pub record Owes (s : System) (offset : ℕ) (g : GraphMap) (count : ℕ) (work work' : List NodeClaim) : Type 0 where
-  pub facts : (k x : ℕ) (c : Claim) → k < count → s.is_below (type_at g k) x ≡ true → Has c (s.facts_of x) → Has (from (offset + k) c) work'
-  pub introduces : (k : ℕ) (a : GraphArc) → k < count → Has a (arcs_at g k) → Has (is_under (offset + k) [] (s.introducer a.feat.0)) work'
+  pub facts : (k x : ℕ) (c : Claim) → k < count → s.is_below (type_at g k) x ≡ true → Has c (s.facts_of x) →
+      Has (from (offset + k) c) work' ⊎ Seen s (table_of g) (from k c)
+  pub introduces : (k : ℕ) (a : GraphArc) → k < count → Has a (arcs_at g k) →
+      Has (is_under (offset + k) [] (s.introducer a.feat.0)) work' ⊎ (s.is_below (type_at g k) (s.introducer a.feat.0) ≡ true)
   pub rest : (c : NodeClaim) → Has c work → Has c work'
   pub only : (c : NodeClaim) → Has c work' →
       ((k : ℕ) × (x : ℕ) × (d : Claim) × (k < count) × (s.is_below (type_at g k) x ≡ true) × Has d (s.facts_of x) × (c ≡ from (offset + k) d)) ⊎
@@ -65,9 +73,9 @@ pub record Owes (s : System) (offset : ℕ) (g : GraphMap) (count : ℕ) (work w
 abbrev pub IsWellFormed : System → Reader → Type 0
 IsWellFormed s r = IsGraphOf s (Tells r) r
 
--- what a graph's nodes force becomes work, which is nothing where it is well-formed
+-- what all nodes of a graph force becomes work, where it isn't seen in the graph
 abbrev pub IsOwed : System → ℕ → GraphMap → List NodeClaim → List NodeClaim → Type 0
-IsOwed s offset g work work' = (IsWellFormed s (reader_of g) × (work' ≡ work)) ⊎ Owes s offset g (length g.types) work work'
+IsOwed s offset g work work' = Owes s offset g (length g.types) work work'
 
 -- no type and no feature of a graph is out of range
 pub record IsGraphIn (types feats : ℕ) (g : GraphMap) : Type 0 where

@@ -9,7 +9,8 @@ use Rattle.fs_closing.specs.declared.tasks.Tasks.{Tasks}
 use Rattle.fs_closing.specs.Rules.{Grammar, system_of}
 use Rattle.fs_closing.specs.Work.{work_of}
 use Rattle.fs_closing.specs.NodeTable.{table_of, IsWhole, IsWithin}
-use Rattle.fs_closing.specs.Levels.{BoundsPaths}
+use Rattle.fs_unify.specs.Drawing.{BoundsPaths, IsPictureIn}
+use Rattle.fs_unify.specs.declared.draw.Picture.{Picture}
 use Rattle.fs_closing.specs.Keeps.{AreSound, deep_of, Stands, Leads}
 
 abbrev pub facts_source : List Claim → Source
@@ -33,9 +34,14 @@ Gathers g source nodes tasks false = IsConsistent (system_of g) (Told source) �
 abbrev pub Decides : Grammar → Nodes → Tasks → Nodes → Bool → Type 0
 Decides g nodes tasks nodes' true =
     Leads g nodes (work_of g.rules tasks) nodes' [] × IsWhole nodes' × IsWithin (count_of g.types) (length g.introducers) nodes'
-    × BoundsPaths (table_of nodes') g.path_limit true × (0 < length nodes'.types.items)
+    × BoundsPaths (table_of nodes') g.path_limit × (0 < length nodes'.types.items)
 Decides g nodes tasks nodes' false =
     (source : Source) → StandsFor g source nodes tasks → IsConsistent (system_of g) (Told source) → ⊥
+
+-- nodes were closed with their tasks and drawn, or all claims for which they stand are inconsistent
+abbrev pub Pictured : Grammar → Nodes → Tasks → Nodes → Picture → Bool → Type 0
+Pictured g nodes tasks nodes' p true = Decides g nodes tasks nodes' true × IsPictureIn (table_of nodes') g.path_limit p
+Pictured g nodes tasks nodes' p false = Decides g nodes tasks nodes' false
 
 -- the answer of unification, for all claims for which nodes with tasks stand
 abbrev pub Settles : Grammar → Nodes → Tasks → Option Reader → Type 0

@@ -4,4 +4,5 @@ pub mod Room
 pub mod Drawing
 pub mod Given
 pub mod Entering
+pub mod Owing
 pub mod Placing

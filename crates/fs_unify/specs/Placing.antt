@@ -1,5 +1,5 @@
 -- Graphs at paths, as the parts of a source.
-use Rattle.std.specs.Prelude.{ℕ, ◌≡◌, ◌<◌, Bool, true, List, [], ◌∷◌, ◌++◌, All, length, map}
+use Rattle.std.specs.Prelude.{ℕ, ◌≡◌, ◌<◌, List, [], ◌∷◌, ◌++◌, All, length, map}
 use Rattle.type_hierarchy.specs.Table.{count_of}
 use Rattle.fs_model.specs.Claims.{Path, Has}
 use Rattle.fs_model.specs.Sources.{Part, Source}
@@ -12,16 +12,24 @@ use Rattle.fs_unify.specs.declared.parts.Placed.{Placed}
 use Rattle.fs_closing.specs.NodeTable.{table_of}
 use Rattle.fs_closing.specs.Rules.{Grammar, system_of}
 use Rattle.fs_closing.specs.Work.{work_of}
+use Rattle.fs_unify.specs.declared.parts.Standing.{Standing}
+use Rattle.fs_unify.specs.declared.parts.Standing.TheVariants.{Open, Closed, Cut}
 use Rattle.fs_unify.specs.Entering.{AreFlat, Entered, IsGraphIn, IsWellFormed}
+use Rattle.fs_unify.specs.Owing.{Owing, owes_all, owes_nothing, owes_rules, OwesOnly}
 
--- a graph at a path, and whether it is said to be well-formed
+-- a graph at a path, and what it is said to owe
 pub record PlacedGraph : Type 0 where
   pub place : Path
   pub graph : GraphMap
-  pub closed : Bool
+  pub owes : Owing
+
+abbrev pub owing_of : Standing → Owing
+owing_of Open = owes_all
+owing_of Closed = owes_nothing
+owing_of (Cut owed) = owes_rules owed.now
 
 abbrev pub placed : Placed → PlacedGraph
-placed p = record { place = path_of p.place.items; graph = p.graph.now; closed = p.closed }
+placed p = record { place = path_of p.place.items; graph = p.graph.now; owes = owing_of p.standing }
 
 abbrev pub part_of : PlacedGraph → Part
 part_of p = record { place = p.place; reader = reader_of p.graph }
@@ -43,11 +51,11 @@ joints [] os = []
 joints (p ∷ ps) [] = []
 joints (p ∷ ps) (o ∷ os) = is_same 0 p.place o [] ∷ joints ps os
 
--- no type and no feature of a part is out of range, and it is well-formed where it is said to be so
+-- no type and no feature of a part is out of range, and it owes no more than is said
 pub record IsPlacedIn (g : Grammar) (p : PlacedGraph) : Type 0 where
   pub place_in : All (λ f. f < length g.introducers) p.place
   pub graph_in : IsGraphIn (count_of g.types) (length g.introducers) p.graph
-  pub closed_in : p.closed ≡ true → IsWellFormed (system_of g) (reader_of p.graph)
+  pub owed_in : OwesOnly g p.graph p.owes
 
 -- what is known of a graph that unification answers
 pub record IsAnswerIn (g : Grammar) (graph : GraphMap) : Type 0 where

@@ -1,17 +1,16 @@
 //! The graph of closed nodes.
 
-ghost use Rattle.std.specs.Prelude.{◌≡◌, ℕ, ◌<◌, ◌≤◌, ◌∷◌, [], length, map, true, None, IfOk, IfSome, OnOk, option_map, slice_index};
+ghost use Rattle.std.specs.Prelude.{◌≡◌, ℕ, ◌<◌, ◌≤◌, ◌∷◌, [], length, map, None, Some, IfOk, OnOk, option_map, slice_index};
 ghost use Rattle.fs_graph.specs.GraphMap.{arc_to, Rises, reader_of};
 ghost use Rattle.fs_graph.specs.Visits.{feats_of, targets_of};
 ghost use Rattle.fs_closing.specs.NodeTable.{table_of, IsWhole, IsWithin};
-ghost use Rattle.fs_closing.specs.Levels.{BoundsPaths};
 ghost use Rattle.fs_closing.specs.Keeps.{deep_of};
 ghost use Rattle.fs_unify.specs.Entering.{IsGraphIn};
-ghost use Rattle.fs_unify.specs.Drawing.{PutsArc, DrawsRow, DrawsRows, Answers};
+ghost use Rattle.fs_unify.specs.Drawing.{PutsArc, DrawsRow, DrawsRows, IsPictureIn, Shows, Answers};
 
 use crate::NoMemory;
 use fs_closing::nodes::{Nodes, live};
-use fs_graph::{Clash, Graph, GraphArc, Node, ordered};
+use fs_graph::{Clash, Graph, GraphArc, Node, Order, graph_of, order_in};
 use fs_paths::Feat;
 use std::alloc::Global;
 use type_hierarchy::Ty;
@@ -80,10 +79,10 @@ fn place(arcs: &Vec<GraphArc>) -> Result<u32, NoMemory>
     u32::try_from(arcs.len()).map_err(|_| NoMemory)
 }
 
-// The rows of all nodes, one after another. Each row's arcs end where those of the next begin.
+// The rows of all nodes, one after another. Each row's arcs end where those of the next begin. `row` is a place to draw in.
 fn draw_rows(
-    alloc: Global,
     nodes: &Nodes,
+    row: &mut Vec<GraphArc>,
     starts: &mut Vec<u32>,
     arcs: &mut Vec<GraphArc>,
 ) -> Result<(), NoMemory>
@@ -92,43 +91,107 @@ fn draw_rows(
     requires arcs { arcs.old.items ≡ [] }
     ensures { OnOk result (DrawsRows (table_of nodes.now) (length nodes.now.types.items) starts.new.items arcs.new.items) }
 {
-    let mut row = Vec::new(alloc);
     for n in 0..nodes.types.len() as u32 {
-        draw_row(&mut row, nodes, n)?;
-        arcs.extend_from_slice(&row)?;
+        draw_row(row, nodes, n)?;
+        arcs.extend_from_slice(row)?;
         starts.push(place(arcs)?)?;
     }
     Ok(())
 }
 
 // The types of all nodes.
-fn draw_types(alloc: Global, nodes: &Nodes) -> Result<Vec<Ty>, NoMemory>
-    ensures { IfOk result (λ types. map (λ t. t.0) types.items ≡ nodes.now.types.items) }
+fn draw_types(types: &mut Vec<Ty>, nodes: &Nodes) -> Result<(), NoMemory>
+    requires { types.old.items ≡ [] }
+    ensures { OnOk result (map (λ t. t.0) types.new.items ≡ nodes.now.types.items) }
 {
-    let mut types = Vec::with_capacity(alloc, nodes.types.len())?;
     for ty in &nodes.types {
         types.push(Ty(*ty))?;
     }
-    Ok(types)
+    Ok(())
 }
 
-/// What closed nodes answer, where no path is longer than the limit: their graph.
-pub fn answer(alloc: Global, nodes: &Nodes) -> Result<Option<Graph>, NoMemory>
+/// Closed nodes as rows of arcs, and the order of those that the root reaches. One is drawn in the memory of another.
+#[derive(Debug, Drop)]
+pub struct Picture {
+    pub types: Vec<Ty>,
+    pub starts: Vec<u32>,
+    pub arcs: Vec<GraphArc>,
+    pub order: Order,
+    pub row: Vec<GraphArc>,
+}
+
+impl Picture {
+    /// A picture of nothing, without memory.
+    pub fn new(alloc: Global) -> Picture {
+        Picture {
+            types: Vec::new(alloc),
+            starts: Vec::new(alloc),
+            arcs: Vec::new(alloc),
+            order: Order::new(alloc),
+            row: Vec::new(alloc),
+        }
+    }
+}
+
+/// Draws closed nodes, whatever was drawn before. The answer is false where a node reaches itself or a path from the root is
+/// longer than the limit.
+pub fn draw(picture: &mut Picture, nodes: &Nodes, limit: u32) -> Result<bool, NoMemory>
     requires whole { IsWhole nodes.now }
     requires filled { 0 < length nodes.now.types.items }
-    ensures answers { IfOk result (λ o. (limit : ℕ) → BoundsPaths (table_of nodes.now) limit true → Answers (deep_of nodes.now) limit (option_map reader_of o)) }
-    ensures inside { IfOk result (λ o. IfSome o (λ g. (types feats : ℕ) → IsWithin types feats nodes.now → IsGraphIn types feats g)) }
+    ensures { IfOk result (Shows nodes.now limit picture.new) }
 {
-    let types = draw_types(alloc, nodes)?;
-    let mut starts = vec![in alloc; 0u32]?;
-    let mut arcs = Vec::new(alloc);
-    draw_rows(alloc, nodes, &mut starts, &mut arcs)?;
-    match ordered(alloc, &types, &starts, &arcs) {
-        Ok(graph) => {
-            let _ = graph.nodes();
-            Ok(Some(graph))
+    picture.types.clear();
+    picture.starts.clear();
+    picture.arcs.clear();
+    picture.starts.push(0)?;
+    draw_types(&mut picture.types, nodes)?;
+    draw_rows(
+        nodes,
+        &mut picture.row,
+        &mut picture.starts,
+        &mut picture.arcs,
+    )?;
+    match order_in(
+        &mut picture.order,
+        &picture.types,
+        &picture.starts,
+        &picture.arcs,
+    ) {
+        Ok(()) => {
+            if picture.order.longest > limit {
+                return Ok(false);
+            }
+            Ok(true)
         }
-        Err(Clash::Cycle { node: _ }) => Ok(None),
+        Err(Clash::Cycle { node: _ }) => Ok(false),
         Err(Clash::NoMemory) => Err(NoMemory),
+    }
+}
+
+/// The graph of closed nodes from their picture.
+pub fn graph_from(
+    alloc: Global,
+    nodes: &Nodes,
+    limit: u32,
+    picture: &Picture,
+) -> Result<Graph, NoMemory>
+    requires whole { IsWhole nodes.now }
+    requires filled { 0 < length nodes.now.types.items }
+    requires picture { IsPictureIn (table_of nodes.now) limit picture.now }
+    ensures answers { IfOk result (λ g. Answers (deep_of nodes.now) limit (Some (reader_of g))) }
+    ensures inside { IfOk result (λ g. (types feats : ℕ) → IsWithin types feats nodes.now → IsGraphIn types feats g) }
+{
+    match graph_of(
+        alloc,
+        &picture.types,
+        &picture.starts,
+        &picture.arcs,
+        &picture.order,
+    ) {
+        Ok(graph) => {
+            graph.laws();
+            Ok(graph)
+        }
+        Err(_) => Err(NoMemory),
     }
 }

@@ -3,12 +3,14 @@
 
 pub mod draw;
 pub mod entering;
+pub mod owed;
 pub mod parts;
 pub mod scratch;
 pub mod structure;
 pub mod unifier;
 
 pub use fs_closing::{NoMemory, TypeFacts, TypeSystem};
+pub use owed::Owed;
 pub use parts::Parts;
 pub use scratch::Scratch;
 pub use structure::structure_of;

@@ -1,20 +1,33 @@
 //! Graphs at paths.
 
-ghost use Rattle.std.specs.Prelude.{◌≡◌, ◌∷◌, ◌++◌, [], true, false, OnOk, OnErr};
+ghost use Rattle.std.specs.Prelude.{◌≡◌, ◌∷◌, ◌++◌, [], OnOk, OnErr};
 ghost use Rattle.fs_paths.specs.Facts.{path_of};
+ghost use Rattle.fs_unify.specs.Owing.{owes_all, owes_nothing, owes_rules};
 
 use crate::NoMemory;
+use crate::owed::Owed;
 use fs_graph::Graph;
 use fs_paths::Feat;
 use std::alloc::Global;
 use std::marker::Model;
 
-/// A graph at a path, and whether it is said to be well-formed.
+/// What a graph is said to owe of what its types and features force.
+#[derive(Clone, Copy)]
+pub enum Standing<'a> {
+    /// All of it.
+    Open,
+    /// Nothing: it is well-formed.
+    Closed,
+    /// The facts of some rules, since it was cut out of a well-formed graph.
+    Cut(&'a Owed),
+}
+
+/// A graph at a path, and what it is said to owe.
 #[derive(Drop)]
 pub struct Placed<'a> {
     pub place: Vec<Feat>,
     pub graph: &'a Graph,
-    pub closed: bool,
+    pub standing: Standing<'a>,
 }
 
 /// Graphs at paths, which are to be unified.
@@ -44,13 +57,13 @@ impl<'a> Parts<'a> {
 
     /// One graph more, at a path. `NoMemory` comes only for want of memory; the parts are as before then.
     pub fn add(&mut self, at: Vec<Feat>, graph: &'a Graph) -> Result<(), NoMemory>
-        ensures ok { OnOk result (self.new ≡ self.old ++ record { place = path_of at.items; graph = graph.now; closed = false } ∷ []) }
+        ensures ok { OnOk result (self.new ≡ self.old ++ record { place = path_of at.items; graph = graph.now; owes = owes_all } ∷ []) }
         ensures err { OnErr result (self.new ≡ self.old) }
     {
         self.items.push(Placed {
             place: at,
             graph,
-            closed: false,
+            standing: Standing::Open,
         })?;
         Ok(())
     }
@@ -58,13 +71,32 @@ impl<'a> Parts<'a> {
     /// The same for a graph that is known to be well-formed under the type system that the parts are unified with, as each
     /// answer of a unification is. It costs its nodes and arcs alone, and nothing for what its types force.
     pub fn add_closed(&mut self, at: Vec<Feat>, graph: &'a Graph) -> Result<(), NoMemory>
-        ensures ok { OnOk result (self.new ≡ self.old ++ record { place = path_of at.items; graph = graph.now; closed = true } ∷ []) }
+        ensures ok { OnOk result (self.new ≡ self.old ++ record { place = path_of at.items; graph = graph.now; owes = owes_nothing } ∷ []) }
         ensures err { OnErr result (self.new ≡ self.old) }
     {
         self.items.push(Placed {
             place: at,
             graph,
-            closed: true,
+            standing: Standing::Closed,
+        })?;
+        Ok(())
+    }
+
+    /// The same for a graph that is known to be well-formed under that type system but for facts of these rules, as what a cut
+    /// keeps of a well-formed graph is. It costs its nodes and arcs, and these facts at the nodes that owe them.
+    pub fn add_cut(
+        &mut self,
+        at: Vec<Feat>,
+        graph: &'a Graph,
+        owed: &'a Owed,
+    ) -> Result<(), NoMemory>
+        ensures ok { OnOk result (self.new ≡ self.old ++ record { place = path_of at.items; graph = graph.now; owes = owes_rules owed.now } ∷ []) }
+        ensures err { OnErr result (self.new ≡ self.old) }
+    {
+        self.items.push(Placed {
+            place: at,
+            graph,
+            standing: Standing::Cut(owed),
         })?;
         Ok(())
     }

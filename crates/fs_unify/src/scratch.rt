@@ -4,17 +4,20 @@ ghost use Rattle.std.specs.Prelude.{◌≡◌, ◌≤◌, length, OnOk, OnErr};
 ghost use Rattle.std.specs.Borrow.{sem};
 ghost use Rattle.fs_unify.specs.Room.{room_of, LendsMarks};
 
+use crate::draw::Picture;
 use fs_closing::fault::NoMemory;
 use fs_closing::nodes::Nodes;
 use fs_closing::tasks::Tasks;
 use std::alloc::Global;
 
-/// Room in which nodes are closed. A call empties it and keeps its memory; no answer depends on what it holds. It has spare
-/// room for a number of nodes, a mark for each.
+/// Room in which nodes are closed and drawn. A call empties it and keeps its memory; no answer depends on what it holds. It
+/// has spare room for a number of nodes, a mark for each.
 #[derive(Debug, Drop)]
 pub struct Scratch {
     pub(crate) nodes: Nodes,
     pub(crate) tasks: Tasks,
+    pub(crate) offsets: Vec<u32>,
+    pub(crate) picture: Picture,
     pub(crate) marks: Vec<u32>,
 }
 
@@ -26,6 +29,8 @@ impl Scratch {
         Scratch {
             nodes: Nodes::new(alloc),
             tasks: Tasks::new(alloc),
+            offsets: Vec::new(alloc),
+            picture: Picture::new(alloc),
             marks: Vec::new(alloc),
         }
     }

@@ -13,14 +13,13 @@ ghost use Rattle.fs_closing.specs.Work.{work_of, AreReady};
 ghost use Rattle.fs_closing.specs.Keeps.{AreSound, StepsTo};
 ghost use Rattle.fs_unify.specs.Entering.{IsGraphIn};
 ghost use Rattle.fs_unify.specs.Placing.{IsAnswerIn};
-ghost use Rattle.fs_unify.specs.Given.{facts_source, StandsForSome, Gathers, Decides, Settles};
+ghost use Rattle.fs_unify.specs.Given.{facts_source, StandsForSome, Gathers, Pictured, Settles};
 ghost use Rattle.fs_unify.specs.Room.{room_of};
 
-use crate::draw::answer;
+use crate::draw::{Picture, draw, graph_from};
 use crate::scratch::Scratch;
 use fs_closing::closing::{apply, close};
 use fs_closing::fault::NoMemory;
-use fs_closing::levels::is_within;
 use fs_closing::nodes::{Nodes, add_node};
 use fs_closing::system::TypeSystem;
 use fs_closing::tasks::Tasks;
@@ -68,30 +67,31 @@ fn gather_facts(
     requires facts { (c : Claim) → Has c (claims_of facts.now) → IsClaimIn (count_of system.now.types) (length system.now.introducers) c }
     ensures { IfOk result (Gathers system.now (facts_source (claims_of facts.now)) nodes.new tasks.new) }
 {
-    let _ = system.path_limit();
+    system.laws();
     add_node(nodes, 0, 0)?;
     let applied = apply_all(nodes, tasks, system, facts)?;
     Ok(applied)
 }
 
-/// Closes nodes with their tasks. The answer is true exactly where what they stand for is consistent.
+/// Closes nodes with their tasks, and draws them, whatever was drawn before. The answer is true exactly where what they stand
+/// for is consistent.
 pub fn close_within(
-    alloc: Global,
     nodes: &mut Nodes,
     tasks: &mut Tasks,
+    picture: &mut Picture,
     system: &TypeSystem,
 ) -> Result<bool, NoMemory>
     requires order { IsOrder (system_of system.now) }
     requires bare { IsBare (system_of system.now) }
     requires sound { AreSound system.now nodes.old tasks.old }
     requires stands { StandsForSome system.now nodes.old tasks.old }
-    ensures { IfOk result (Decides system.now nodes.old tasks.old nodes.new) }
+    ensures { IfOk result (Pictured system.now nodes.old tasks.old nodes.new picture.new) }
 {
     let limit = system.path_limit();
     let closed = close(nodes, tasks, system)?;
     if closed {
-        let within = is_within(alloc, nodes, limit)?;
-        return Ok(within);
+        let drawn = draw(picture, nodes, limit)?;
+        return Ok(drawn);
     }
     Ok(false)
 }
@@ -102,6 +102,7 @@ pub fn settle(
     alloc: Global,
     nodes: &mut Nodes,
     tasks: &mut Tasks,
+    picture: &mut Picture,
     system: &TypeSystem,
 ) -> Result<Option<Graph>, NoMemory>
     requires order { IsOrder (system_of system.now) }
@@ -111,10 +112,10 @@ pub fn settle(
     ensures answer { IfOk result (λ o. Settles system.now nodes.old tasks.old (option_map reader_of o)) }
     ensures inside { IfOk result (λ o. IfSome o (IsGraphIn (count_of system.now.types) (length system.now.introducers))) }
 {
-    let consistent = close_within(alloc, nodes, tasks, system)?;
+    let consistent = close_within(nodes, tasks, picture, system)?;
     if consistent {
-        let graph = answer(alloc, nodes)?;
-        return Ok(graph);
+        let graph = graph_from(alloc, nodes, system.path_limit(), picture)?;
+        return Ok(Some(graph));
     }
     Ok(None)
 }
@@ -124,6 +125,7 @@ fn structure(
     alloc: Global,
     nodes: &mut Nodes,
     tasks: &mut Tasks,
+    picture: &mut Picture,
     system: &TypeSystem,
     facts: &[Fact],
 ) -> Result<Option<Graph>, NoMemory>
@@ -142,7 +144,7 @@ fn structure(
 {
     let gathered = gather_facts(nodes, tasks, system, facts)?;
     if gathered {
-        let graph = settle(alloc, nodes, tasks, system)?;
+        let graph = settle(alloc, nodes, tasks, picture, system)?;
         return Ok(graph);
     }
     Ok(None)
@@ -169,5 +171,12 @@ pub fn structure_of(
     scratch.tasks.clear();
     let types = system.types();
     types.laws();
-    structure(alloc, &mut scratch.nodes, &mut scratch.tasks, system, facts)
+    structure(
+        alloc,
+        &mut scratch.nodes,
+        &mut scratch.tasks,
+        &mut scratch.picture,
+        system,
+        facts,
+    )
 }

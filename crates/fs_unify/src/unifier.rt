@@ -14,6 +14,7 @@ ghost use Rattle.fs_unify.specs.Given.{Gathers};
 ghost use Rattle.fs_unify.specs.Placing.{PlacedGraph, placed, part_in, source_of, source_in, joints, HasEntered, IsPlacedIn, IsAnswerIn};
 ghost use Rattle.fs_unify.specs.Room.{room_of};
 
+use crate::draw::Picture;
 use crate::entering::enter;
 use crate::parts::{Parts, Placed};
 use crate::scratch::Scratch;
@@ -42,8 +43,8 @@ fn enter_all(
     ensures sound { OnOk result (AreSound system.now nodes.new tasks.new) }
 {
     for part in parts {
-        let _ = part.graph.nodes();
-        let offset = enter(nodes, tasks, system, part.graph, part.closed)?;
+        part.graph.laws();
+        let offset = enter(nodes, tasks, system, part.graph, part.standing)?;
         offsets.push(offset)?;
     }
     Ok(())
@@ -76,9 +77,9 @@ fn connect(
 
 // All graphs enter, from no nodes on, and each is put at its path. The answer is false where a path gets too long.
 fn gather(
-    alloc: Global,
     nodes: &mut Nodes,
     tasks: &mut Tasks,
+    offsets: &mut Vec<u32>,
     system: &TypeSystem,
     parts: &[Placed<'_>],
 ) -> Result<bool, NoMemory>
@@ -93,13 +94,13 @@ fn gather(
     requires parts { (p : Placed) → Has p parts.now → IsPlacedIn system.now (placed p) }
     ensures { IfOk result (Gathers system.now (source_in parts.now) nodes.new tasks.new) }
 {
-    let _ = system.path_limit();
+    system.laws();
     let first = &parts[0];
-    let _ = first.graph.nodes();
+    first.graph.laws();
     add_node(nodes, 0, 0)?;
-    let mut offsets = Vec::new(alloc);
-    enter_all(nodes, tasks, system, parts, &mut offsets)?;
-    let connected = connect(nodes, tasks, system, parts, &offsets)?;
+    offsets.clear();
+    enter_all(nodes, tasks, system, parts, offsets)?;
+    let connected = connect(nodes, tasks, system, parts, offsets)?;
     Ok(connected)
 }
 
@@ -108,6 +109,8 @@ fn unified(
     alloc: Global,
     nodes: &mut Nodes,
     tasks: &mut Tasks,
+    offsets: &mut Vec<u32>,
+    picture: &mut Picture,
     system: &TypeSystem,
     parts: &[Placed<'_>],
 ) -> Result<Option<Graph>, NoMemory>
@@ -124,9 +127,9 @@ fn unified(
     ensures answer { IfOk result (λ o. IsUnified (system_of system.now) (source_in parts.now) (option_map reader_of o)) }
     ensures known { IfOk result (λ o. IfSome o (IsAnswerIn system.now)) }
 {
-    let gathered = gather(alloc, nodes, tasks, system, parts)?;
+    let gathered = gather(nodes, tasks, offsets, system, parts)?;
     if gathered {
-        let graph = settle(alloc, nodes, tasks, system)?;
+        let graph = settle(alloc, nodes, tasks, picture, system)?;
         return Ok(graph);
     }
     Ok(None)
@@ -134,9 +137,10 @@ fn unified(
 
 // Whether graphs unify, from no nodes on.
 fn consistent(
-    alloc: Global,
     nodes: &mut Nodes,
     tasks: &mut Tasks,
+    offsets: &mut Vec<u32>,
+    picture: &mut Picture,
     system: &TypeSystem,
     parts: &[Placed<'_>],
 ) -> Result<bool, NoMemory>
@@ -152,9 +156,9 @@ fn consistent(
     requires parts { (p : Placed) → Has p parts.now → IsPlacedIn system.now (placed p) }
     ensures { IfOk result (λ b. IsTrue b ↔ IsConsistent (system_of system.now) (Told (source_in parts.now))) }
 {
-    let gathered = gather(alloc, nodes, tasks, system, parts)?;
+    let gathered = gather(nodes, tasks, offsets, system, parts)?;
     if gathered {
-        let consistent = close_within(alloc, nodes, tasks, system)?;
+        let consistent = close_within(nodes, tasks, picture, system)?;
         return Ok(consistent);
     }
     Ok(false)
@@ -185,6 +189,8 @@ pub fn unify(
         alloc,
         &mut scratch.nodes,
         &mut scratch.tasks,
+        &mut scratch.offsets,
+        &mut scratch.picture,
         system,
         &parts.items,
     )
@@ -194,7 +200,7 @@ pub fn unify(
 /// graph at least. Whatever the scratch holds, the answer is the same. No graph is made. `NoMemory` comes only for want of
 /// memory, or of numbers for nodes, arcs and turns.
 pub fn unifies(
-    alloc: Global,
+    _alloc: Global,
     scratch: &mut Scratch,
     system: &TypeSystem,
     parts: &Parts<'_>,
@@ -210,9 +216,10 @@ pub fn unifies(
     let types = system.types();
     types.laws();
     consistent(
-        alloc,
         &mut scratch.nodes,
         &mut scratch.tasks,
+        &mut scratch.offsets,
+        &mut scratch.picture,
         system,
         &parts.items,
     )

@@ -9,6 +9,7 @@ use Rattle.fs_paths.specs.Facts.{path_of}
 use Rattle.fs_closing.proofs.HasLemmas.{each_push}
 use Rattle.fs_graph.specs.GraphMap.{GraphMap}
 use Rattle.fs_unify.specs.Rules.{Grammar}
+use Rattle.fs_unify.specs.Owing.{owes_nothing}
 use Rattle.fs_unify.specs.Placing.{PlacedGraph, IsPlacedIn, IsAnswerIn}
 use Rattle.constraint_expand.specs.declared.books.Book.{Book}
 use Rattle.constraint_expand.specs.declared.books.Instance.{Instance}
@@ -77,8 +78,8 @@ no_parts g ps is x h = nobody (subst (Has x) is h)
 
 -- one answer more
 pub more_placed : (g : Grammar) (q : Path) (graph : GraphMap) (old new : List PlacedGraph) →
-    new ≡ old ++ record { place = q; graph = graph; closed = true } ∷ [] → All (λ f. f < length g.introducers) q → IsAnswerIn g graph →
+    new ≡ old ++ record { place = q; graph = graph; owes = owes_nothing } ∷ [] → All (λ f. f < length g.introducers) q → IsAnswerIn g graph →
     ((x : PlacedGraph) → Has x old → IsPlacedIn g x) → (x : PlacedGraph) → Has x new → IsPlacedIn g x
 more_placed g q graph old new is in_range known before =
-    each_push (IsPlacedIn g) old new (record { place = q; graph = graph; closed = true }) is before
-    (record { place_in = in_range; graph_in = known.graph_in; closed_in = λ _. known.well_formed })
+    each_push (IsPlacedIn g) old new (record { place = q; graph = graph; owes = owes_nothing }) is before
+    (record { place_in = in_range; graph_in = known.graph_in; owed_in = known.well_formed })

@@ -1,7 +1,6 @@
-use Rattle.std.proofs.Common.{slice_index_or, refl, ◌∙◌, subst}
+use Rattle.std.proofs.Common.{slice_index_or, refl, subst}
 use Rattle.std.proofs.lemmas.List.{take_more, take_all}
 use Rattle.type_hierarchy.specs.Table.{is_below}
-use Rattle.fs_model.specs.Claims.{Has}
 use Rattle.fs_closing.specs.declared.tasks.Entry.{Entry}
 use Rattle.fs_closing.specs.Rules.{no_rule, rules_with_facts}
 use Rattle.fs_closing.specs.Work.{work_of}

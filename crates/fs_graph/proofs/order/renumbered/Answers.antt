@@ -3,7 +3,13 @@ use Rattle.fs_graph.proofs.OrderLemmas.{renumbers_more, row_targets, renumbers_a
 use Rattle.fs_graph.proofs.order.renumbered.Goals as goal
 
 pub loop-node-init : goal.loop-node-init
-loop-node-init c = record { types_are = c.in_ok-new_types.ensures.items; starts_are = c.in_ok-new_starts.ensures.items; arcs_are = c.new-new_arcs.ensures.items }
+loop-node-init c = record { types_are = c.in_ok-new_types.ensures.items; starts_are = c.in_ok-new_starts.ensures.items; arcs_are = c.in_ok-new_arcs.ensures.items }
+
+pub count_arcs-requires : goal.count_arcs-requires
+count_arcs-requires c = λ k h.
+    let node = (c.requires.settled.ordered k h).0 in
+    let more = c.requires.plan.rows.one_more in
+    omega arith
 
 pub push_row-requires : goal.push_row-requires
 push_row-requires c = λ k h.

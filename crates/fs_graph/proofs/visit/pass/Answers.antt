@@ -1,4 +1,7 @@
-use Rattle.std.proofs.Common.{◌+◌, length, arith}
+use Rattle.std.proofs.Common.{◌+◌, length, slice_index, sym, ◌∙◌, ap, subst, arith}
+use Rattle.fs_graph.specs.Visits.{plan_of, IsVisitable}
+use Rattle.fs_graph.specs.Inner.Heights.{IsAbove}
+use Rattle.fs_graph.proofs.HeightLemmas.{heights_close}
 use Rattle.fs_graph.proofs.VisitCode.{frame_in, next_in, target_in, visit_closes, less_closes, pass_enters, pass_goes_on, pass_clashes}
 use Rattle.fs_graph.proofs.visit.pass.Goals as goal
 
@@ -69,3 +72,32 @@ returns-clause-going c =
 pub returns-clause-falls : goal.returns-clause-falls
 returns-clause-falls c =
     (pass_goes_on (length c.args.visit.now.numbers.items) c.args.starts.now c.args.arcs.now c.requires.able c.args.visit.now.numbers.items c.args.visit.now.order.items c.args.visit.now.closed.items c.args.visit.now.open.items c.args.frame c.requires.going c.if-next-starts.false c.index-2.result.now c.index-2.ensures c.if-not-index.false _ c.in_ok-push-2.ensures.items).1
+
+pub height_above-requires-clause-able : goal.height_above-requires-clause-able
+height_above-requires-clause-able c =
+    let same = ap length c.deref.ensures.value ∙ c.requires.heights.each in
+    subst (λ n. IsVisitable n c.args.starts.now c.args.arcs.now) (sym same) c.requires.able
+
+pub height_above-requires-clause-node : goal.height_above-requires-clause-node
+height_above-requires-clause-node c =
+    let node = (frame_in (length c.args.visit.now.numbers.items) c.args.starts.now c.args.arcs.now c.requires.able c.args.visit.now.numbers.items c.args.visit.now.order.items c.args.visit.now.closed.items c.args.visit.now.open.items c.args.frame c.requires.going).0 in
+    omega (arith, node, ap length c.deref.ensures.value, c.requires.heights.each)
+
+pub returns-then-next-starts-clause-heights : goal.returns-then-next-starts-clause-heights
+returns-then-next-starts-clause-heights c =
+    let v = c.args.visit.now in
+    let starts = c.args.starts.now in
+    let arcs = c.args.arcs.now in
+    let h = c.in_ok-height.height in
+    let node = c.args.frame.node in
+    let above = subst (λ l. IsAbove (plan_of (length l) starts arcs) (slice_index l) node (slice_index starts (node + 1)) h) c.deref.ensures.value c.in_ok-height.ensures in
+    heights_close (length v.numbers.items) starts arcs c.requires.able v.numbers.items v.order.items v.closed.items v.open.items c.args.frame c.requires.going
+    c.if-next-starts.true v.heights.items h c.requires.heights
+    (subst (λ n. IsAbove (plan_of n starts arcs) (slice_index v.heights.items) node (slice_index starts (node + 1)) h) c.requires.heights.each above)
+
+pub index_mut-requires-then-next-starts : goal.index_mut-requires-then-next-starts
+index_mut-requires-then-next-starts c =
+    let node = (frame_in (length c.args.visit.now.numbers.items) c.args.starts.now c.args.arcs.now c.requires.able c.args.visit.now.numbers.items c.args.visit.now.order.items c.args.visit.now.closed.items c.args.visit.now.open.items c.args.frame c.requires.going).0 in
+    let all = c.requires.going.closed_all in
+    let ok = c.args.visit.now.closed.ok in
+    omega arith

@@ -8,7 +8,8 @@ use Rattle.fs_closing.specs.Work.{work_of}
 use Rattle.fs_closing.specs.Keeps.{Turns, StepsTo, deep_of}
 use Rattle.fs_closing.proofs.ClosingLemmas.{fact_at, fact_has}
 use Rattle.fs_closing.proofs.StepLemmas.{turn_one}
-use Rattle.fs_unify.proofs.GivenLemmas.{claims_step, refute_one}
+use Rattle.fs_closing.proofs.StepLemmas.{refute_one}
+use Rattle.fs_unify.proofs.GivenLemmas.{claims_step}
 use Rattle.fs_unify.proofs.structure.apply_all.Goals as goal
 
 pub apply-requires-clause-fact : goal.apply-requires-clause-fact

@@ -12,7 +12,7 @@ use Rattle.fs_closing.proofs.HasLemmas.{Has-at}
 use Rattle.fs_closing.proofs.KeepsLemmas.{Turns-order, same_itself, joined_same}
 use Rattle.fs_closing.proofs.ClosingLemmas.{reaches_by}
 use Rattle.fs_closing.proofs.StepLemmas.{turn_one}
-use Rattle.fs_unify.proofs.GivenLemmas.{refute_one}
+use Rattle.fs_closing.proofs.StepLemmas.{refute_one}
 use Rattle.fs_unify.proofs.PlaceLemmas.{item_has, joints_step}
 use Rattle.fs_unify.proofs.unifier.connect.Goals as goal
 

@@ -8,9 +8,9 @@ pub enter-requires-clause-graph : goal.enter-requires-clause-graph
 enter-requires-clause-graph c =
     (c.requires.parts c.part-item.result (item_has c.args.parts.now c.loop-part.part-index c.part-item.result c.loop-part-test.true c.part-item.is)).graph_in
 
-pub enter-requires-clause-closed : goal.enter-requires-clause-closed
-enter-requires-clause-closed c =
-    (c.requires.parts c.part-item.result (item_has c.args.parts.now c.loop-part.part-index c.part-item.result c.loop-part-test.true c.part-item.is)).closed_in
+pub enter-requires-clause-owes : goal.enter-requires-clause-owes
+enter-requires-clause-owes c =
+    (c.requires.parts c.part-item.result (item_has c.args.parts.now c.loop-part.part-index c.part-item.result c.loop-part-test.true c.part-item.is)).owed_in
 
 pub loop-part-preserved : goal.loop-part-preserved
 loop-part-preserved c =
@@ -21,7 +21,7 @@ loop-part-preserved c =
     record {
       entered = entered_more c.args.system.now parts (take i parts) _ p c.loop-part.offsets.items c.push.new.self.items c.in_ok-offset.offset c.loop-part.nodes c.loop-part.tasks
           c.enter.new.nodes c.enter.new.tasks more c.in_ok-push.ensures.items c.in_ok-offset.ensures.place
-          (item_has parts i p c.loop-part-test.true c.part-item.is) c.nodes.ensures.graph c.in_ok-offset.ensures.enters c.in_ok-offset.ensures.owed
+          (item_has parts i p c.loop-part-test.true c.part-item.is) c.laws.ensures c.in_ok-offset.ensures.enters c.in_ok-offset.ensures.owed
           c.in_ok-offset.ensures.flat c.loop-part.invariant.entered;
       sound = c.in_ok-offset.ensures.sound;
     }

@@ -14,9 +14,9 @@ enter_all-requires-clause-begun c =
     let parts = c.args.parts.now in
     let p = c.index-parts-0.result in
     let starts = starts_one (system_of g) (table_of c.args.nodes.now) (table_of c.add_node.new.nodes) (ap length c.requires.no_nodes) refl c.in_ok-add_node.ensures.adds in
-    begun g parts p c.new-offsets.result.items c.add_node.new.nodes c.args.tasks.now c.requires.bare starts
+    begun g parts p c.clear.new.self.items c.add_node.new.nodes c.args.tasks.now c.requires.bare starts
     (flat_by c.args.nodes.now.depths.items c.add_node.new.nodes.depths.items c.in_ok-add_node.ensures.depths c.requires.no_depths)
-    (item_has parts 0 c.index-parts-0.result c.requires.some c.index-parts-0.is) c.nodes.ensures.graph c.new-offsets.ensures.items c.requires.no_work
+    (item_has parts 0 c.index-parts-0.result c.requires.some c.index-parts-0.is) c.laws-2.ensures c.clear.ensures.items c.requires.no_work
 
 pub returns : goal.returns
 returns c =

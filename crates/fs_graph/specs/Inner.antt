@@ -1,0 +1,2 @@
+-- What the visit knows of heights as it goes.
+pub mod Heights
