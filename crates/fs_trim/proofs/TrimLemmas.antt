@@ -1,19 +1,21 @@
 -- What the calls of unification give.
-use Rattle.std.specs.Prelude.{ℕ, ◌≡◌, ◌<◌, ◌==◌, Option, Some, None, List, [], ◌∷◌, All, length, slice_index_or}
+use Rattle.std.specs.Prelude.{ℕ, ◌≡◌, ◌<◌, ◌==◌, Option, Some, None, List, [], ◌∷◌, All, IfSome, length, option_map, slice_index_or}
 use Rattle.std.proofs.Common.{refl, sym, ◌∙◌, subst, zero, suc, arith, eqb-true, true, false, Bool}
 use Rattle.fs_model.specs.Claims.{Path, Has, here, there}
-use Rattle.fs_model.specs.Sources.{Source}
+use Rattle.fs_model.specs.Sources.{Source, IsUnified}
 use Rattle.fs_model.specs.Table.{walk}
 use Rattle.type_hierarchy.specs.Table.{count_of}
 use Rattle.fs_graph.specs.declared.graph.GraphArc.{GraphArc}
 use Rattle.fs_graph.specs.GraphMap.{GraphMap, IsGraph, table_of, arcs_at, arc_to, reader_of}
 use Rattle.fs_closing.specs.Rules.{Grammar, system_of}
 use Rattle.fs_unify.specs.Entering.{IsGraphIn}
+use Rattle.fs_unify.specs.Owing.{IsWellFormedBut, OwedRules, ListsOwed, owes_all, owes_rules}
 use Rattle.fs_unify.specs.Placing.{PlacedGraph, IsPlacedIn}
 use Rattle.rule_model.specs.Cuts.{Cut}
-use Rattle.rule_model.specs.Views.{IsTrimmed}
-use Rattle.rule_model.proofs.Steps.{answers_are_short}
-use Rattle.fs_trim.specs.Cutting.{IsShort}
+use Rattle.rule_model.specs.Views.{IsTrimmed, source_alone}
+use Rattle.rule_model.proofs.Steps.{answers_are_short, cut_trims, steps_trim}
+use Rattle.fs_trim.specs.Cutting.{owed_of, IsShort}
+use Rattle.fs_trim.specs.Inner.Keeping.{KeepsUnified}
 
 found : (arcs : List GraphArc) (f m : ℕ) → arc_to arcs f ≡ Some m → (a : GraphArc) × Has a arcs × (a.feat.0 ≡ f)
 found [] f m e = absurd (cc)
@@ -53,6 +55,46 @@ short_of g source cuts last graph shape is made = record {
   feats_in = λ p n e. paths_in (count_of g.types) (length g.introducers) graph is (λ k a h. let z = no_arcs graph.arcs k a h in let y = shape.even in omega (arith, z, y)) p 0 n e;
 }
 
-pub alone_in : (g : Grammar) (graph : GraphMap) → IsGraphIn (count_of g.types) (length g.introducers) graph → (p : PlacedGraph) → Has p (record { place = []; graph = graph; closed = false } ∷ []) → IsPlacedIn g p
-alone_in g graph is p here = record { place_in = λ i d l. absurd (omega (arith, l)); graph_in = is; closed_in = λ e. absurd (cc) }
+pub alone_in : (g : Grammar) (graph : GraphMap) → IsGraphIn (count_of g.types) (length g.introducers) graph → (p : PlacedGraph) → Has p (record { place = []; graph = graph; owes = owes_all } ∷ []) → IsPlacedIn g p
+alone_in g graph is p here = record { place_in = λ i d l. absurd (omega (arith, l)); graph_in = is; owed_in = tt }
 alone_in g graph is p (there h) = elim h [ ]
+
+-- what a cut keeps, in the words of the model
+pub without_answer : (g : Grammar) (source : Source) (cut : Cut) (o : Option GraphMap) → KeepsUnified g source cut o → IsTrimmed (system_of g) source [] cut (option_map reader_of o)
+without_answer g source cut None x = x
+without_answer g source cut (Some k) x = cut_trims (system_of g) source cut (reader_of x.whole) (reader_of k) x.unified x.keeps
+
+pub without_known : (g : Grammar) (source : Source) (cut : Cut) (o : Option GraphMap) → KeepsUnified g source cut o → IfSome o (IsShort g)
+without_known g source cut None x = tt
+without_known g source cut (Some k) x = short_of g source [] cut k x.graph x.graph_in (without_answer g source cut (Some k) x)
+
+pub without_owes : (g : Grammar) (source : Source) (cut : Cut) (o : Option GraphMap) → KeepsUnified g source cut o →
+    IfSome o (λ k. IsWellFormedBut (system_of g) (reader_of k) (owed_of cut))
+without_owes g source cut None x = tt
+without_owes g source cut (Some k) x = x.owes
+
+-- and where what an earlier cut left was unified alone
+pub again_answer : (g : Grammar) (source alone : Source) (cut last : Cut) (bare : GraphMap) (o : Option GraphMap) → alone ≡ source_alone (reader_of bare) →
+    IsTrimmed (system_of g) source [] cut (Some (reader_of bare)) → KeepsUnified g alone last o → IsTrimmed (system_of g) source (cut ∷ []) last (option_map reader_of o)
+again_answer g source alone cut last bare None e made x =
+    absurd ((steps_trim (system_of g) source cut last (reader_of bare) made).1 (subst (λ a. IsUnified (system_of g) a None) e x))
+again_answer g source alone cut last bare (Some k) e made x =
+    (steps_trim (system_of g) source cut last (reader_of bare) made).0 (reader_of x.whole) (reader_of k)
+    (subst (λ a. IsUnified (system_of g) a (Some (reader_of x.whole))) e x.unified) x.keeps
+
+pub again_known : (g : Grammar) (source alone : Source) (cut last : Cut) (bare : GraphMap) (o : Option GraphMap) → alone ≡ source_alone (reader_of bare) →
+    IsTrimmed (system_of g) source [] cut (Some (reader_of bare)) → KeepsUnified g alone last o → IfSome o (IsShort g)
+again_known g source alone cut last bare None e made x = tt
+again_known g source alone cut last bare (Some k) e made x =
+    short_of g source (cut ∷ []) last k x.graph x.graph_in (again_answer g source alone cut last bare (Some k) e made x)
+
+-- what such a cut left is a part
+pub cut_in : (g : Grammar) (graph : GraphMap) (rules : OwedRules) (cut : Cut) → IsGraphIn (count_of g.types) (length g.introducers) graph →
+    IsWellFormedBut (system_of g) (reader_of graph) (owed_of cut) → ListsOwed g (owed_of cut) rules →
+    (p : PlacedGraph) → Has p (record { place = []; graph = graph; owes = owes_rules rules } ∷ []) → IsPlacedIn g p
+cut_in g graph rules cut is well lists p here = record {
+  place_in = λ i d l. absurd (omega (arith, l));
+  graph_in = is;
+  owed_in = record { facts = owed_of cut; lists = lists; well_formed = well };
+}
+cut_in g graph rules cut is well lists p (there h) = elim h [ ]

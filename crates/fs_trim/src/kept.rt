@@ -1,13 +1,15 @@
 //! What a cut keeps of a graph.
 
 ghost use Rattle.std.specs.Prelude.{◌≡◌, ◌++◌, ℕ, length, IfOk, OnOk};
+ghost use Rattle.fs_model.specs.Claims.{System};
 ghost use Rattle.fs_paths.specs.Facts.{path_of};
 ghost use Rattle.fs_graph.specs.GraphMap.{reader_of};
 ghost use Rattle.fs_closing.specs.Rules.{Grammar};
-ghost use Rattle.fs_unify.specs.Entering.{IsGraphIn};
+ghost use Rattle.fs_unify.specs.Entering.{IsGraphIn, IsWellFormed};
+ghost use Rattle.fs_unify.specs.Owing.{IsWellFormedBut};
 ghost use Rattle.rule_model.specs.Cuts.{has_feature};
 ghost use Rattle.rule_model.specs.Views.{IsKeptOf};
-ghost use Rattle.fs_trim.specs.Cutting.{cut_of, IsShort};
+ghost use Rattle.fs_trim.specs.Cutting.{cut_of, owed_of, IsShort};
 ghost use Rattle.fs_trim.specs.Inner.Rows.{leaves, left, IsCutPlan};
 
 use crate::Cut;
@@ -90,18 +92,19 @@ fn rows_of(alloc: Global, graph: &Graph, cut: &Cut) -> Result<Rows, NoMemory>
 
 /// What a cut keeps of a graph: its paths that don't begin with a feature that is cut off at the root and hold none that is
 /// cut off anywhere, with their equalities and types. Where the cut cuts nothing off, this is the same structure. What is in
-/// range stays so, and no path gets longer.
+/// range stays so, and no path gets longer. What was well-formed owes only facts that speak of features which are cut off.
 /// `NoMemory` comes only for want of memory, or of numbers for arcs.
 pub fn keep(alloc: Global, graph: &Graph, cut: &Cut) -> Result<Graph, NoMemory>
     ensures kept { IfOk result (λ k. IsKeptOf (cut_of cut.now) (reader_of graph.now) (reader_of k)) }
     ensures inside { IfOk result (λ k. (types feats : ℕ) → IsGraphIn types feats graph.now → IsGraphIn types feats k) }
     ensures short { IfOk result (λ k. (system : Grammar) → IsShort system graph.now → IsShort system k) }
+    ensures owes { IfOk result (λ k. (s : System) → IsWellFormed s (reader_of graph.now) → IsWellFormedBut s (reader_of k) (owed_of (cut_of cut.now))) }
 {
-    let _ = graph.nodes();
+    graph.laws();
     let rows = rows_of(alloc, graph, cut)?;
     match ordered(alloc, &rows.types, &rows.starts, &rows.arcs) {
         Ok(kept) => {
-            let _ = kept.nodes();
+            kept.laws();
             Ok(kept)
         }
         // With fewer arcs no node reaches itself either.

@@ -6,8 +6,9 @@ use Rattle.fs_model.specs.Sources.{Subsumes}
 use Rattle.fs_graph.specs.GraphMap.{GraphMap, reader_of}
 use Rattle.fs_closing.specs.Rules.{Grammar, system_of}
 use Rattle.fs_unify.specs.Entering.{IsWellFormed}
+use Rattle.fs_unify.specs.Owing.{OwedRules, ListsOwed}
 use Rattle.fs_unify.specs.Placing.{PlacedGraph, source_of, IsPlacedIn}
-use Rattle.fs_trim.specs.Cutting.{IsShort}
+use Rattle.fs_trim.specs.Cutting.{owed_of, IsShort}
 use Rattle.rule_model.specs.Cuts.{Cut}
 use Rattle.rule_model.specs.Structures.{over}
 use Rattle.rule_model.specs.Mothers.{IsShapeAt}
@@ -19,18 +20,21 @@ use Rattle.grammar_shapes.specs.Inner.Parts.{parts_for, daughters_at}
 use Rattle.grammar_shapes.specs.Shaped.{Shape, graph_of, meaning_in, BelongsIn}
 use Rattle.grammar_shapes.proofs.ShapeLemmas.{inside, made}
 
-daughters_in : (g : Grammar) (checks ps : List Path) (ss : List Shape) → All (λ p. All (λ f. f < length g.introducers) p) ps → All (BelongsIn g checks) ss →
-    (p : PlacedGraph) → Has p (daughters_at ps (map graph_of ss)) → IsPlacedIn g p
-daughters_in g checks [] ss h k p m = elim m [ ]
-daughters_in g checks (q ∷ ps) [] h k p m = elim m [ ]
-daughters_in g checks (q ∷ ps) (s ∷ ss) h k p here =
-    record { place_in = h 0 q (omega arith); graph_in = (k 0 s (omega arith)).short.graph_in; closed_in = λ e. absurd (cc) }
-daughters_in g checks (q ∷ ps) (s ∷ ss) h k p (there m) = daughters_in g checks ps ss (λ i d l. h (suc i) d (omega (arith, l))) (λ i d l. k (suc i) d (omega (arith, l))) p m
+module _ (g : Grammar) (cut : Cut) (checks : List Path) (owed : OwedRules) (lists : ListsOwed g (owed_of cut) owed) where
+  -- a daughter owes no more than what restrictors cut off
+  daughters_in : (ps : List Path) (ss : List Shape) → All (λ p. All (λ f. f < length g.introducers) p) ps → All (BelongsIn g cut checks) ss →
+      (p : PlacedGraph) → Has p (daughters_at owed ps (map graph_of ss)) → IsPlacedIn g p
+  daughters_in [] ss h k p m = elim m [ ]
+  daughters_in (q ∷ ps) [] h k p m = elim m [ ]
+  daughters_in (q ∷ ps) (s ∷ ss) h k p here =
+      let is = k 0 s (omega arith) in
+      record { place_in = h 0 q (omega arith); graph_in = is.short.graph_in; owed_in = record { facts = owed_of cut; lists = lists; well_formed = is.well_formed } }
+  daughters_in (q ∷ ps) (s ∷ ss) h k p (there m) = daughters_in ps ss (λ i d l. h (suc i) d (omega (arith, l))) (λ i d l. k (suc i) d (omega (arith, l))) p m
 
-pub placed_in : (g : Grammar) (checks : List Path) (r : PhraseRule) → IsRuleIn g r → IsWellFormed (system_of g) (reader_of r.structure.now) → (ss : List Shape) → All (BelongsIn g checks) ss →
-    (p : PlacedGraph) → Has p (parts_for r (map graph_of ss)) → IsPlacedIn g p
-placed_in g checks r is closed ss k p here = record { place_in = λ i d l. absurd (omega (arith, l)); graph_in = is.structure_in.graph_in; closed_in = λ _. closed }
-placed_in g checks r is closed ss k p (there m) = daughters_in g checks (places_of r) ss is.places_in k p m
+  pub placed_in : (r : PhraseRule) → IsRuleIn g r → IsWellFormed (system_of g) (reader_of r.structure.now) → (ss : List Shape) → All (BelongsIn g cut checks) ss →
+      (p : PlacedGraph) → Has p (parts_for owed r (map graph_of ss)) → IsPlacedIn g p
+  placed_in r is closed ss k p here = record { place_in = λ i d l. absurd (omega (arith, l)); graph_in = is.structure_in.graph_in; owed_in = closed }
+  placed_in r is closed ss k p (there m) = daughters_in (places_of r) ss is.places_in k p m
 
 pub rule_at : {A : Type 0} (P : A → Type 0) (xs : List A) (n : ℕ) (x : A) → slice_get xs n ≡ Some x → All P xs → P x
 rule_at P [] n x e h = absurd (cc)
@@ -49,10 +53,10 @@ subsumed g rules d r a b is_over is h =
     (tests_are_subsumption (system_in g rules d r) (reader_of (graph_of a)) (reader_of (graph_of b)) (inside g (graph_of a) is))
 
 -- an answer of the call with cuts is a shape
-pub whole : (g : Grammar) (rules : List PhraseRule) (d r : Cut) (checks : List Path) (rule : ℕ) (pr : PhraseRule) → slice_get rules rule ≡ Some pr → IsRuleIn g pr → (ss : List Shape) → All (BelongsIn g checks) ss →
-    (m : Shape) (graph : GraphMap) → graph_of m ≡ graph → IsShort g graph → (placed : List PlacedGraph) → placed ≡ parts_for pr (map graph_of ss) →
+pub whole : (g : Grammar) (rules : List PhraseRule) (d r : Cut) (checks : List Path) (owed : OwedRules) (rule : ℕ) (pr : PhraseRule) → slice_get rules rule ≡ Some pr → IsRuleIn g pr → (ss : List Shape) → All (BelongsIn g r checks) ss →
+    (m : Shape) (graph : GraphMap) → graph_of m ≡ graph → IsShort g graph → (placed : List PlacedGraph) → placed ≡ parts_for owed pr (map graph_of ss) →
     IsTrimmed (system_of g) (source_of placed) (d ∷ []) r (Some (reader_of graph)) → IsShapeAt (system_in g rules d r) (slice_get (map (rule_of g) rules) rule) (map (meaning_in g) ss) (meaning_in g m)
-whole g rules d r checks rule pr at is_in ss all m graph is short placed parts t =
-    made g rules d r checks rule pr at is_in ss all m (subst (IsShort g) (sym is) short)
-    (subst (λ x. IsTrimmed (system_of g) (source_of (parts_for pr (map graph_of ss))) (d ∷ []) r (Some (reader_of x))) (sym is)
+whole g rules d r checks owed rule pr at is_in ss all m graph is short placed parts t =
+    made g rules d r checks owed rule pr at is_in ss all m (subst (IsShort g) (sym is) short)
+    (subst (λ x. IsTrimmed (system_of g) (source_of (parts_for owed pr (map graph_of ss))) (d ∷ []) r (Some (reader_of x))) (sym is)
     (subst (λ ps. IsTrimmed (system_of g) (source_of ps) (d ∷ []) r (Some (reader_of graph))) parts t))

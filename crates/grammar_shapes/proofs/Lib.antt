@@ -4,4 +4,6 @@ pub mod CallLemmas
 pub mod TableLemmas
 pub mod SketchLemmas
 pub mod CutLemmas
+pub mod OwedLemmas
 pub mod RangeLemmas
+pub mod MarkLemmas

@@ -74,7 +74,7 @@ says_along g graph is p t e = by_node (node_at graph p) refl
 
 -- where the sketch of a daughter doesn't meet that of the rule at its place, the rule applies to no tuple that begins with these daughters
 pub types_refused : (g : Grammar) (rules : List PhraseRule) (d r : Cut) (checks : List Path) (rule : ℕ) (pr : PhraseRule) → slice_get rules rule ≡ Some pr → IsRuleIn g pr →
-    (ss : List Shape) → All (BelongsIn g checks) ss → (k : ℕ) (place : Path) (s : Shape) → slice_get (places_of pr) k ≡ Some place → slice_get ss k ≡ Some s →
+    (ss : List Shape) → All (BelongsIn g r checks) ss → (k : ℕ) (place : Path) (s : Shape) → slice_get (places_of pr) k ≡ Some place → slice_get ss k ≡ Some s →
     sketches_meet g.types (sketch_below pr.structure.now checks place) (sketch_of (graph_of s) checks) ≡ false →
     (rest : List Structure) → AppliesAt (system_in g rules d r) (slice_get (map (rule_of g) rules) rule) (map (meaning_in g) ss ++ rest) → ⊥
 types_refused g rules d r checks rule pr at is ss all k place s place_at shape_at apart rest ok =
@@ -82,7 +82,7 @@ types_refused g rules d r checks rule pr at is ss all k place s place_at shape_a
     let two = found.types_clash in
     let sys = system_in g rules d r in
     let ps = paths_in g in
-    let belongs = rule_at (BelongsIn g checks) ss k s shape_at all in
+    let belongs = rule_at (BelongsIn g r checks) ss k s shape_at all in
     types_refuse sys (rule_of g pr) (map (meaning_in g) ss) place found.path (meaning_in g s) two.second two.first
     (beside_at (places_of pr) (map (meaning_in g) ss) k place (meaning_in g s) place_at (map_get (meaning_in g) ss k s shape_at))
     (says_along g (graph_of s) belongs.short found.path two.second two.second_is)

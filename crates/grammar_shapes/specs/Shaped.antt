@@ -5,10 +5,12 @@ use Rattle.std.specs.declared.sync.Arc.{Arc}
 use Rattle.std.specs.Global.{Global}
 use Rattle.fs_model.specs.Claims.{Path}
 use Rattle.fs_graph.specs.GraphMap.{GraphMap, reader_of}
-use Rattle.fs_closing.specs.Rules.{Grammar}
+use Rattle.fs_closing.specs.Rules.{Grammar, system_of}
+use Rattle.fs_unify.specs.Owing.{IsWellFormedBut}
+use Rattle.rule_model.specs.Cuts.{Cut}
 use Rattle.rule_model.specs.Structures.{Structure}
 use Rattle.rule_model.specs.Views.{view}
-use Rattle.fs_trim.specs.Cutting.{IsShort}
+use Rattle.fs_trim.specs.Cutting.{owed_of, IsShort}
 use Rattle.grammar_shapes.specs.declared.place.Place.{Place}
 use Rattle.grammar_shapes.specs.Sketches.{sketch_of, numbers_of}
 use Rattle.grammar_shapes.specs.Ruled.{paths_in}
@@ -23,7 +25,9 @@ graph_of s = (arc_value s).graph
 abbrev pub meaning_in : Grammar → Shape → Structure
 meaning_in g s = view (paths_in g) (reader_of (graph_of s))
 
--- a graph that is in range, with the types that it has at the paths that are compared
-pub record BelongsIn (g : Grammar) (checks : List Path) (s : Shape) : Type 0 where
+-- a graph that is in range and well-formed but for what restrictors cut off, with the types that it has at the paths that are
+-- compared
+pub record BelongsIn (g : Grammar) (restrictors : Cut) (checks : List Path) (s : Shape) : Type 0 where
   pub short : IsShort g (graph_of s)
+  pub well_formed : IsWellFormedBut (system_of g) (reader_of (graph_of s)) (owed_of restrictors)
   pub sketched : numbers_of (arc_value s).sketch.items ≡ sketch_of (graph_of s) checks

@@ -35,7 +35,7 @@ abbrev pub meaning_of : GrammarShapes → Shape → Structure
 meaning_of s shape = meaning_in s.rules.grammar shape
 
 abbrev pub Belongs : GrammarShapes → Shape → Type 0
-Belongs s shape = BelongsIn s.rules.grammar s.rules.checks shape
+Belongs s shape = BelongsIn s.rules.grammar (cut_of s.restrictors) s.rules.checks shape
 
 abbrev pub arity_of : GrammarShapes → ℕ → ℕ
 arity_of s rule = arity_at (rules_of s) (slice_get (rules_of s).rules rule)

@@ -5,6 +5,7 @@
 
 mod cuts;
 mod laws;
+mod marks;
 mod parts;
 mod phrase_rule;
 mod place;

@@ -1,14 +1,16 @@
 //! Phrase rules over abstract structures.
 
-ghost use Rattle.std.specs.Prelude.{◌≡◌, ◌<◌, ◌^◌, ◌∷◌, [], true, false, All, IfOk, length};
+ghost use Rattle.std.specs.Prelude.{◌≡◌, ◌<◌, ◌^◌, ◌∷◌, [], None, All, IfOk, IfSome, length};
 ghost use Rattle.fs_model.specs.Claims.{IsBare};
 ghost use Rattle.fs_closing.specs.Rules.{system_of};
-ghost use Rattle.fs_trim.specs.Cutting.{cut_of};
+ghost use Rattle.fs_unify.specs.Owing.{ListsOwed, owes_all};
+ghost use Rattle.fs_trim.specs.Cutting.{cut_of, owed_of};
 ghost use Rattle.rule_model.specs.Structures.{IsPartialOrder};
 ghost use Rattle.grammar_shapes.specs.Ruled.{IsRuleIn};
 ghost use Rattle.grammar_shapes.specs.Cutting.{CutsNoMore};
 
 use crate::cuts::cuts_no_more;
+use crate::marks::mark_of;
 use crate::parts::parts_with;
 use crate::phrase_rule::PhraseRule;
 use crate::place::Place;
@@ -17,8 +19,8 @@ use cover::{NoMemory, Tuple};
 use fs_graph::Graph;
 use fs_paths::Feat;
 use fs_subsume::subsumes;
-use fs_trim::{Cut, unify_trimmed, unify_without};
-use fs_unify::{Parts, Scratch, TypeSystem, unifies};
+use fs_trim::{Cut, owed, unify_trimmed_owing, unify_without};
+use fs_unify::{Owed, Parts, Scratch, TypeSystem, unifies};
 use std::alloc::Global;
 use std::sync::Arc;
 
@@ -30,28 +32,48 @@ pub struct GrammarShapes<'a> {
     daughters: Cut,
     // what an abstract structure lacks
     restrictors: Cut,
-    // whether what a mother loses an abstract structure lacks anyway
-    one_cut: bool,
+    // what a mother owes when she has lost that; none where an abstract structure lacks it anyway, so that one cut is enough
+    mother_owes: Option<Owed>,
+    // what an abstract structure owes
+    shape_owes: Owed,
     // what spans stay within, which is nothing
     pub(crate) unit: (),
     ghost bare: { IsBare (system_of rules.grammar) },
     ghost order: { IsPartialOrder (system_of rules.grammar) },
     ghost rules_in: { All (IsRuleIn rules.grammar) rules.rules },
     ghost few: { length rules.rules < 2 ^ 32 },
-    ghost no_more: { one_cut ≡ true → CutsNoMore (cut_of daughters) (cut_of restrictors) },
+    ghost one_cut: { mother_owes ≡ None → CutsNoMore (cut_of daughters) (cut_of restrictors) },
+    ghost mothers_owe: { ∥ IfSome mother_owes (ListsOwed rules.grammar (owed_of (cut_of daughters))) ∥₁ },
+    ghost shapes_owe: { ∥ ListsOwed rules.grammar (owed_of (cut_of restrictors)) shape_owes ∥₁ },
 }
 
 // One graph alone.
 fn alone_of(alloc: Global, graph: &Graph) -> Result<Parts<'_>, fs_unify::NoMemory>
-    ensures { IfOk result (λ ps. ps ≡ record { place = []; graph = graph.now; closed = false } ∷ []) }
+    ensures { IfOk result (λ ps. ps ≡ record { place = []; graph = graph.now; owes = owes_all } ∷ []) }
 {
     let mut alone = Parts::new(alloc);
     alone.add(Vec::new(alloc), graph)?;
     Ok(alone)
 }
 
+// What a mother owes when she has lost what the first cut cuts off; none where the second one cuts that off anyway.
+fn owed_between(
+    alloc: Global,
+    system: &TypeSystem,
+    first: &Cut,
+    second: &Cut,
+) -> Result<Option<Owed>, fs_unify::NoMemory>
+    ensures one { IfOk result (λ o. o ≡ None → CutsNoMore (cut_of first.now) (cut_of second.now)) }
+    ensures owed { IfOk result (λ o. IfSome o (ListsOwed system.now (owed_of (cut_of first.now)))) }
+{
+    if cuts_no_more(first, second) {
+        return Ok(None);
+    }
+    Ok(Some(owed(alloc, system, first)?))
+}
+
 impl<'a> GrammarShapes<'a> {
-    ghost use Rattle.std.specs.Prelude.{◌≡◌, ◌<◌, ◌↔◌, ◌∷◌, [], ℕ, true, false, IfOk, IfSome, IsTrue, MatchOption, Some, All, length, option_map, slice_get};
+    ghost use Rattle.std.specs.Prelude.{◌≡◌, ◌<◌, ◌↔◌, ◌∷◌, [], ℕ, false, IfOk, IfSome, IsTrue, MatchOption, Some, All, length, option_map, slice_get};
     ghost use Rattle.fs_model.specs.Claims.{IsBare, Has};
     ghost use Rattle.fs_model.specs.Closure.{IsConsistent};
     ghost use Rattle.fs_model.specs.Sources.{Told};
@@ -59,8 +81,9 @@ impl<'a> GrammarShapes<'a> {
     ghost use Rattle.fs_closing.specs.Rules.{system_of};
     ghost use Rattle.type_hierarchy.specs.Table.{count_of};
     ghost use Rattle.fs_unify.specs.Entering.{IsGraphIn};
+    ghost use Rattle.fs_unify.specs.Owing.{IsWellFormedBut};
     ghost use Rattle.fs_unify.specs.Placing.{PlacedGraph, source_of, IsPlacedIn};
-    ghost use Rattle.fs_trim.specs.Cutting.{cut_of, IsShort};
+    ghost use Rattle.fs_trim.specs.Cutting.{cut_of, owed_of, IsShort};
     ghost use Rattle.rule_model.specs.Laws.{rules_over, rules_applies, rules_mother};
     ghost use Rattle.rule_model.specs.Mothers.{IsAbstract, Meant};
     ghost use Rattle.rule_model.specs.Views.{view, source_alone, IsTrimmed};
@@ -91,13 +114,19 @@ impl<'a> GrammarShapes<'a> {
             return Err(NoMemory);
         }
         system.types().laws();
+        let Ok(mother_owes) = owed_between(alloc, system, &daughters, &restrictors) else {
+            return Err(NoMemory);
+        };
+        let Ok(shape_owes) = owed(alloc, system, &restrictors) else {
+            return Err(NoMemory);
+        };
         let rules = RuleTable::make(alloc, system, rules, checks)?;
-        let one_cut = cuts_no_more(&daughters, &restrictors);
         Ok(GrammarShapes {
             rules,
             daughters,
             restrictors,
-            one_cut,
+            mother_owes,
+            shape_owes,
             unit: (),
         })
     }
@@ -110,14 +139,23 @@ impl<'a> GrammarShapes<'a> {
         self.rules.get(rule).place
     }
 
-    // A shape of a graph.
+    // A shape of a graph that owes no more than what the restrictors cut off.
     fn shape_of(&self, alloc: Global, graph: Graph) -> Result<Arc<Place>, NoMemory>
-        requires { IsShort (grammar_of self.now) graph }
+        requires short { IsShort (grammar_of self.now) graph }
+        requires owes { IsWellFormedBut (system_of (grammar_of self.now)) (reader_of graph) (owed_of (cut_of self.now.restrictors)) }
         ensures graph { IfOk result (λ s. graph_of s ≡ graph) }
         ensures belongs { IfOk result (Belongs self.now) }
     {
         let sketch = self.rules.sketch(alloc, &graph)?;
-        Ok(Arc::new(alloc, Place { graph, sketch })?)
+        let mark = mark_of(&graph);
+        Ok(Arc::new(
+            alloc,
+            Place {
+                graph,
+                sketch,
+                mark,
+            },
+        )?)
     }
 
     /// The shape of a full structure: the abstraction of the closure of its facts. Its types and features are there, and that
@@ -176,7 +214,7 @@ impl<'a> GrammarShapes<'a> {
         ensures none { IfOk result (λ yes. yes ≡ false → AppliesToNone self.now rule (meanings_of self.now parts.now)) }
         ensures exact { IfOk result (λ yes. IsTrue yes ↔ rules_applies (rules_of self.now) rule (meanings_of self.now parts.now)) }
     {
-        let Ok(placed) = parts_with(alloc, self.rules.get(rule), parts) else {
+        let Ok(placed) = parts_with(alloc, self.rules.get(rule), parts, &self.shape_owes) else {
             return Err(NoMemory);
         };
         match unifies(alloc, work, self.rules.system(), &placed) {
@@ -196,21 +234,27 @@ impl<'a> GrammarShapes<'a> {
         requires parts { (p : PlacedGraph) → Has p placed.now → IsPlacedIn (grammar_of self.now) p }
         ensures answer { IfOk result (λ o. IsTrimmed (system_of (grammar_of self.now)) (source_of placed.now) (cut_of self.now.daughters ∷ []) (cut_of self.now.restrictors) (option_map reader_of o)) }
         ensures known { IfOk result (λ o. IfSome o (IsShort (grammar_of self.now))) }
+        ensures owes { IfOk result (λ o. IfSome o (λ k. IsWellFormedBut (system_of (grammar_of self.now)) (reader_of k) (owed_of (cut_of self.now.restrictors)))) }
     {
         let system = self.rules.system();
-        if self.one_cut {
-            let kept = unify_without(alloc, work, system, placed, &self.restrictors)?;
-            return Ok(kept);
+        match &self.mother_owes {
+            None => {
+                let kept = unify_without(alloc, work, system, placed, &self.restrictors)?;
+                Ok(kept)
+            }
+            Some(owed) => {
+                let mother = unify_trimmed_owing(
+                    alloc,
+                    work,
+                    system,
+                    placed,
+                    &self.daughters,
+                    owed,
+                    &self.restrictors,
+                )?;
+                Ok(mother)
+            }
         }
-        let kept = unify_trimmed(
-            alloc,
-            work,
-            system,
-            placed,
-            &self.daughters,
-            &self.restrictors,
-        )?;
-        Ok(kept)
     }
 
     /// The mother of a whole tuple, whatever the daughters cover; none exactly where the rule doesn't apply to it.
@@ -226,7 +270,7 @@ impl<'a> GrammarShapes<'a> {
         ensures mother { IfOk result (λ o. MatchOption o (rules_applies (rules_of self.now) rule (meanings_of self.now parts.now) → ⊥) (λ s. rules_mother (rules_of self.now) rule (meanings_of self.now parts.now) (meaning_of self.now s))) }
         ensures belongs { IfOk result (λ o. MatchOption o (Unit {0}) (Belongs self.now)) }
     {
-        let Ok(placed) = parts_with(alloc, self.rules.get(rule), parts) else {
+        let Ok(placed) = parts_with(alloc, self.rules.get(rule), parts, &self.shape_owes) else {
             return Err(NoMemory);
         };
         match self.trimmed(alloc, work, &placed) {

@@ -1,5 +1,5 @@
 -- What unification with a cut answers is what a rule makes of its daughters.
-use Rattle.std.proofs.Common.{ℕ, zero, suc, ◌≡◌, ◌+◌, ◌<◌, true, false, List, [], ◌∷◌, ◌++◌, length, map, drop, get_or, Option, None, Some, refl, sym, ◌∙◌, ap, subst, arith, append_assoc}
+use Rattle.std.proofs.Common.{ℕ, zero, suc, ◌≡◌, ◌+◌, ◌<◌, List, [], ◌∷◌, ◌++◌, length, map, drop, get_or, Option, None, Some, refl, sym, ◌∙◌, ap, subst, arith, append_assoc}
 use Rattle.std.specs.Prelude.{All, IfSome, option_map, slice_get}
 use Rattle.std.proofs.lemmas.List.{append-nil, drop_more}
 use Rattle.fs_model.specs.Claims.{Path, Has, here, there}
@@ -7,6 +7,7 @@ use Rattle.fs_model.specs.Closure.{IsConsistent}
 use Rattle.fs_model.specs.Sources.{Source, Told}
 use Rattle.fs_graph.specs.GraphMap.{GraphMap, reader_of}
 use Rattle.fs_unify.specs.Rules.{Grammar, system_of}
+use Rattle.fs_unify.specs.Owing.{owes_all, owes_nothing}
 use Rattle.fs_unify.specs.Placing.{PlacedGraph, IsPlacedIn, part_of, source_of}
 use Rattle.fs_trim.specs.Cutting.{IsShort}
 use Rattle.rule_model.specs.Mothers.{Rule, IsFullAt, IsFull, daughters_cut}
@@ -28,9 +29,9 @@ none_at (p ∷ ps) = refl
 
 -- one daughter more
 pub daughters_next : (ps : List Path) (gs : List GraphMap) (i : ℕ) (p : Path) (g : GraphMap) (old new all : List PlacedGraph) → i < length ps → i < length gs → p ≡ get_or ps i p → g ≡ get_or gs i g →
-    new ≡ old ++ record { place = p; graph = g; closed = false } ∷ [] → old ++ daughters_at (drop i ps) (drop i gs) ≡ all → new ++ daughters_at (drop (i + 1) ps) (drop (i + 1) gs) ≡ all
+    new ≡ old ++ record { place = p; graph = g; owes = owes_all } ∷ [] → old ++ daughters_at (drop i ps) (drop i gs) ≡ all → new ++ daughters_at (drop (i + 1) ps) (drop (i + 1) gs) ≡ all
 daughters_next ps gs i p g old new all lp lg ep eg e h =
-    let x : PlacedGraph = record { place = p; graph = g; closed = false } in
+    let x : PlacedGraph = record { place = p; graph = g; owes = owes_all } in
     let rest = daughters_at (drop (i + 1) ps) (drop (i + 1) gs) in
     let dp : drop i ps ≡ p ∷ drop (i + 1) ps = drop_more ps i p lp ∙ ap (λ q. q ∷ drop (i + 1) ps) (sym ep) in
     let dg : drop i gs ≡ g ∷ drop (i + 1) gs = drop_more gs i g lg ∙ ap (λ q. q ∷ drop (i + 1) gs) (sym eg) in
@@ -101,14 +102,14 @@ made t place structure places ds parts o facts at own short are trimmed known = 
 daughters_in : (g : Grammar) (ps : List Path) (ds : List GraphMap) → ArePathsIn g ps → All (IsShort g) ds → (p : PlacedGraph) → Has p (daughters_at ps ds) → IsPlacedIn g p
 daughters_in g [] ds h k p m = elim m [ ]
 daughters_in g (q ∷ ps) [] h k p m = elim m [ ]
-daughters_in g (q ∷ ps) (d ∷ ds) h k p (here) = record { place_in = h 0 q (omega arith); graph_in = (k 0 d (omega arith)).graph_in; closed_in = λ e. absurd (cc) }
+daughters_in g (q ∷ ps) (d ∷ ds) h k p (here) = record { place_in = h 0 q (omega arith); graph_in = (k 0 d (omega arith)).graph_in; owed_in = tt }
 daughters_in g (q ∷ ps) (d ∷ ds) h k p (there m) = daughters_in g ps ds (λ i x l. h (suc i) x (omega (arith, l))) (λ i x l. k (suc i) x (omega (arith, l))) p m
 
-pub closed_part : (g : Grammar) (structure : GraphMap) → IsClosed g structure → IsPlacedIn g (record { place = []; graph = structure; closed = true })
-closed_part g structure is = record { place_in = λ i d l. absurd (omega (arith, l)); graph_in = is.answer.graph_in; closed_in = λ e. is.answer.well_formed }
+pub closed_part : (g : Grammar) (structure : GraphMap) → IsClosed g structure → IsPlacedIn g (record { place = []; graph = structure; owes = owes_nothing })
+closed_part g structure is = record { place_in = λ i d l. absurd (omega (arith, l)); graph_in = is.answer.graph_in; owed_in = is.answer.well_formed }
 
-pub open_part : (g : Grammar) (graph : GraphMap) → IsShort g graph → IsPlacedIn g (record { place = []; graph = graph; closed = false })
-open_part g graph is = record { place_in = λ i d l. absurd (omega (arith, l)); graph_in = is.graph_in; closed_in = λ e. absurd (cc) }
+pub open_part : (g : Grammar) (graph : GraphMap) → IsShort g graph → IsPlacedIn g (record { place = []; graph = graph; owes = owes_all })
+open_part g graph is = record { place_in = λ i d l. absurd (omega (arith, l)); graph_in = is.graph_in; owed_in = tt }
 
 pub placed_in : (g : Grammar) (structure : GraphMap) (places : List Path) (ds : List GraphMap) → IsClosed g structure → ArePathsIn g places → All (IsShort g) ds → (p : PlacedGraph) → Has p (placed_with structure places ds) → IsPlacedIn g p
 placed_in g structure places ds is within short p (here) = closed_part g structure is

@@ -1,25 +1,26 @@
 -- A rule with its daughters, as parts of a unification; only private clauses cite it.
-use Rattle.std.specs.Prelude.{true, false, Option, Some, None, List, [], ◌∷◌}
+use Rattle.std.specs.Prelude.{Option, Some, None, List, [], ◌∷◌}
 use Rattle.std.specs.Global.{Global}
 use Rattle.std.specs.Arc.{arc_value}
 use Rattle.std.specs.declared.sync.Arc.{Arc}
 use Rattle.fs_model.specs.Claims.{Path}
 use Rattle.fs_graph.specs.GraphMap.{GraphMap}
+use Rattle.fs_unify.specs.Owing.{owes_all, owes_nothing}
 use Rattle.fs_unify.specs.Placing.{PlacedGraph}
 
 -- daughters at their places, from the left
 abbrev pub daughters_at : List Path → List GraphMap → List PlacedGraph
 daughters_at [] graphs = []
 daughters_at (p ∷ ps) [] = []
-daughters_at (p ∷ ps) (g ∷ graphs) = record { place = p; graph = g; closed = false } ∷ daughters_at ps graphs
+daughters_at (p ∷ ps) (g ∷ graphs) = record { place = p; graph = g; owes = owes_all } ∷ daughters_at ps graphs
 
 -- an instance's structure with daughters at their places
 abbrev pub placed_with : GraphMap → List Path → List GraphMap → List PlacedGraph
-placed_with structure places daughters = record { place = []; graph = structure; closed = true } ∷ daughters_at places daughters
+placed_with structure places daughters = record { place = []; graph = structure; owes = owes_nothing } ∷ daughters_at places daughters
 
 -- a root with a structure
 abbrev pub placed_both : GraphMap → GraphMap → List PlacedGraph
-placed_both root full = record { place = []; graph = root; closed = true } ∷ record { place = []; graph = full; closed = false } ∷ []
+placed_both root full = record { place = []; graph = root; owes = owes_nothing } ∷ record { place = []; graph = full; owes = owes_all } ∷ []
 
 -- the full structure of a daughter, if there is one
 abbrev pub full_in : {T : Type 0} → Option (Arc T Global) → List T

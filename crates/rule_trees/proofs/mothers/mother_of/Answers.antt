@@ -1,7 +1,7 @@
-use Rattle.std.proofs.Common.{◌∙◌, map, ap, sym, subst}
+use Rattle.std.proofs.Common.{◌∙◌, All, Some, map, ap, sym, subst}
 use Rattle.book_signs.specs.Trees.{signs_of}
 use Rattle.forest_unpack.specs.Parts.{parts_of}
-use Rattle.rule_trees.specs.Mothers.{IsMother}
+use Rattle.rule_trees.specs.Mothers.{IsMother, IsMotherOf, IsShortIn, view_in}
 use Rattle.rule_trees.proofs.WithinLemmas.{no_mother, views_of}
 use Rattle.rule_trees.proofs.mothers.mother_of.Goals as goal
 
@@ -11,3 +11,16 @@ returns c v m =
     let ds = map (λ d. d.now) c.deref.result.now in
     no_mother t c.args.place ds c.in_ok-graph.field-0 c.in-None.is c.in_ok-graph.ensures v
     (subst (λ fs. IsMother (signs_of t) c.args.place fs v) (sym (views_of t (λ f. f.graph) ds (parts_of c.args.parts.now) (ap (map (λ d. d.now)) c.deref.ensures.value ∙ c.in_ok-daughters.ensures.all))) m)
+
+pub made-requires-clause-short : goal.made-requires-clause-short
+made-requires-clause-short c = subst (λ xs. All (IsShortIn c.args.signs.now) (map (λ d. d.now) xs)) (sym c.deref.ensures.value) c.in_ok-daughters.ensures.short
+
+pub returns-in-Some : goal.returns-in-Some
+returns-in-Some c =
+    let t = c.args.signs.now in
+    let ds = map (λ d. d.now) c.deref.result.now in
+    let made : IsMotherOf t c.args.place ds (Some c.in-Some.graph) = subst (IsMotherOf t c.args.place ds) c.in-Some.is c.in_ok-graph.ensures in
+    let mother : IsMother (signs_of t) c.args.place (map (view_in t) ds) (view_in t c.of.result.graph) =
+    subst (λ g. IsMother (signs_of t) c.args.place (map (view_in t) ds) (view_in t g)) (sym c.of.ensures) made.0 in
+    subst (λ fs. IsMother (signs_of t) c.args.place fs (view_in t c.of.result.graph))
+    (views_of t (λ f. f.graph) ds (parts_of c.args.parts.now) (ap (map (λ d. d.now)) c.deref.ensures.value ∙ c.in_ok-daughters.ensures.all)) mother

@@ -27,7 +27,7 @@ passes-requires-clause-even _ c =
     let checks = c.args.self.now.rules.checks in
     let part = c.in-Some.part.now in
     let at = map_get (λ p. p.shape) (parts_of c.args.parts.now) (c.args.parts.now.count - 1) part (sym c.in-Some.ensures) in
-    let is = rule_at (BelongsIn g checks) (shapes_of c.args.parts.now) (c.args.parts.now.count - 1) part.shape at c.requires.shapes in
+    let is = rule_at (BelongsIn g (cut_of c.args.self.now.restrictors) checks) (shapes_of c.args.parts.now) (c.args.parts.now.count - 1) part.shape at c.requires.shapes in
     ap length (c.deref.ensures.value ∙ ap (λ p. p.sketch.items) c.deref-daughter.ensures)
     ∙ sym (same_length type_number _) ∙ ap length is.sketched ∙ same_length (type_along (graph_of part.shape)) checks
 
@@ -37,7 +37,7 @@ passes-requires-clause-types_in _ c =
     let checks = c.args.self.now.rules.checks in
     let part = c.in-Some.part.now in
     let at = map_get (λ p. p.shape) (parts_of c.args.parts.now) (c.args.parts.now.count - 1) part (sym c.in-Some.ensures) in
-    let is = rule_at (BelongsIn g checks) (shapes_of c.args.parts.now) (c.args.parts.now.count - 1) part.shape at c.requires.shapes in
+    let is = rule_at (BelongsIn g (cut_of c.args.self.now.restrictors) checks) (shapes_of c.args.parts.now) (c.args.parts.now.count - 1) part.shape at c.requires.shapes in
     let graph = subst (λ p. IsGraph p.graph) c.deref-daughter.ensures c.nodes.ensures.graph in
     subst (λ os. All (λ o. IfSome o (λ t. t.0 < count_of g.types)) os) (sym (c.deref.ensures.value ∙ ap (λ p. p.sketch.items) c.deref-daughter.ensures))
     (types_in (count_of g.types) (length g.introducers) (graph_of part.shape) graph is.short.graph_in checks _ is.sketched)
@@ -49,7 +49,7 @@ returns-clause-exact _ c r place last at place_at last_at =
     let part = c.in-Some.part.now in
     let k = c.args.parts.now.count - 1 in
     let at_last = map_get (λ p. p.shape) (parts_of c.args.parts.now) k part (sym c.in-Some.ensures) in
-    let is = rule_at (BelongsIn g checks) (shapes_of c.args.parts.now) k part.shape at_last c.requires.shapes in
+    let is = rule_at (BelongsIn g (cut_of c.args.self.now.restrictors) checks) (shapes_of c.args.parts.now) k part.shape at_last c.requires.shapes in
     let same : Some part.shape ≡ Some last = sym at_last ∙ last_at in
     let one : part.shape ≡ last = cc in
     let below = sketch_below r.structure.now checks in

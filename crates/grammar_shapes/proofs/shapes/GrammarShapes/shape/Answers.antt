@@ -5,8 +5,9 @@ use Rattle.fs_model.specs.Closure.{IsConsistent}
 use Rattle.fs_model.specs.Sources.{Told}
 use Rattle.fs_graph.specs.GraphMap.{reader_of}
 use Rattle.fs_closing.specs.Rules.{system_of}
+use Rattle.fs_unify.specs.Owing.{IsWellFormedBut}
 use Rattle.fs_unify.specs.Placing.{source_of, IsPlacedIn}
-use Rattle.fs_trim.specs.Cutting.{cut_of, IsShort}
+use Rattle.fs_trim.specs.Cutting.{cut_of, owed_of, IsShort}
 use Rattle.fs_trim.proofs.TrimLemmas.{alone_in}
 use Rattle.rule_model.specs.Mothers.{IsAbstract, Meant}
 use Rattle.rule_model.specs.Views.{view, IsTrimmed, source_alone}
@@ -23,6 +24,12 @@ unify_without-requires-clause-bare c = subst (λ g. IsBare (system_of g)) (sym c
 pub unify_without-requires-clause-parts : goal.unify_without-requires-clause-parts
 unify_without-requires-clause-parts c p h =
     subst (λ g. IsPlacedIn g p) (sym c.system-system.ensures) (alone_in c.args.self.now.rules.grammar c.args.full.now c.requires.in_range p (subst (Has p) c.in-Ok.ensures h))
+
+pub shape_of-requires-in-Ok-Some-clause-owes : goal.shape_of-requires-in-Ok-Some-clause-owes
+shape_of-requires-in-Ok-Some-clause-owes c =
+    let facts = owed_of (cut_of c.args.self.now.restrictors) in
+    let owes = subst (λ o. IfSome o (λ k. IsWellFormedBut (system_of c.system-system.result.now) (reader_of k) facts)) c.in-Ok-Some.field-0-is c.in-Ok-Some.ensures.owes in
+    subst (λ g. IsWellFormedBut (system_of g) (reader_of c.in-Ok-Some.graph) facts) c.system-system.ensures owes
 
 pub returns-in-Ok-Some-clause-shape : goal.returns-in-Ok-Some-clause-shape
 returns-in-Ok-Some-clause-shape c =
