@@ -1,0 +1,5 @@
+use Rattle.shape_memo.specs.Known.{AreTagged}
+use Rattle.shape_memo.proofs.memo.levels_of.Given as goal
+
+abbrev pub invariant-loop : goal.invariant-loop
+invariant-loop g l = AreTagged l.fn.tag.numbers l.levels.items

@@ -1,0 +1,13 @@
+//! Shapes of a chart that remember what was asked of them (Oepen and Carroll 2000: most of the time of a chart goes into
+//! unification, and most of its tuples of daughters are alike).
+#![tactic(auto)]
+
+mod answer;
+mod levels;
+mod marked;
+mod memo;
+mod remembered;
+
+pub use cover::NoMemory;
+pub use marked::Marked;
+pub use remembered::RememberedShapes;

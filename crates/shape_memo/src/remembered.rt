@@ -1,0 +1,259 @@
+//! Shapes that remember.
+
+ghost use Rattle.std.specs.Prelude.{◌≡◌, All, IfOk, IfSome, map, option_map};
+ghost use Rattle.cover.specs.Tuples.{shapes_of};
+ghost use Rattle.shape_memo.specs.Known.{IsRightFor, meant};
+
+use crate::NoMemory;
+use crate::answer::{Answer, Outcome, hash_of};
+use crate::marked::Marked;
+use crate::memo::Memo;
+use cover::{Part, Shapes, Tuple};
+use std::alloc::Global;
+use std::marker::Model;
+
+/// Shapes with the answers that they gave. In contracts they are the shapes themselves.
+///
+/// Threads share them by reference: an answer is kept in a slot that is written once, and read without a lock. There is room
+/// for a fixed number of answers; once it is used up, no further ones are kept. One is made for each line: it takes little
+/// memory until something is remembered.
+#[derive(Drop)]
+pub struct RememberedShapes<'a, S: Marked> {
+    shapes: &'a S,
+    memo: Memo<S>,
+}
+
+impl<'a, S: Marked> Model for RememberedShapes<'a, S> {
+    ghost use Rattle.std.specs.Prelude.{◌≡◌};
+
+    ghost Value = { S };
+
+    ghost coded = { S.code };
+
+    ghost view = { λ s. s.shapes.now };
+
+    ghost invariant = { λ s. s.memo.stamp.value.value ≡ s.shapes.now };
+}
+
+/// One more of a daughter, without what it covers.
+fn part_again<S: Marked, C>(
+    alloc: Global,
+    shapes: &S,
+    part: &Option<Part<S::Shape, C>>,
+) -> Result<Option<Part<S::Shape, ()>>, NoMemory>
+    requires { IfSome part.now (λ p. S.belongs shapes.now p.shape) }
+    ensures { IfOk result (λ again. option_map (meant (S.meaning shapes.now)) again ≡ option_map (meant (S.meaning shapes.now)) part.now) }
+{
+    match part {
+        Some(part) => {
+            let shape = shapes.share(alloc, &part.shape)?;
+            Ok(Some(Part { shape, cover: () }))
+        }
+        None => Ok(None),
+    }
+}
+
+/// The same daughters once more, without what they cover.
+fn parts_again<S: Marked, C>(
+    alloc: Global,
+    shapes: &S,
+    parts: &Tuple<S::Shape, C>,
+) -> Result<Tuple<S::Shape, ()>, NoMemory>
+    requires { All (S.belongs shapes.now) (shapes_of parts.now) }
+    ensures { IfOk result (λ again. map (S.meaning shapes.now) (shapes_of again) ≡ map (S.meaning shapes.now) (shapes_of parts.now)) }
+{
+    Ok(Tuple {
+        count: parts.count,
+        a: part_again(alloc, shapes, &parts.a)?,
+        b: part_again(alloc, shapes, &parts.b)?,
+        c: part_again(alloc, shapes, &parts.c)?,
+        d: part_again(alloc, shapes, &parts.d)?,
+    })
+}
+
+/// One more of a mother, where there is one.
+fn mother_again<S: Marked>(
+    alloc: Global,
+    shapes: &S,
+    mother: &Option<S::Shape>,
+) -> Result<Option<S::Shape>, NoMemory>
+    requires { IfSome mother.now (S.belongs shapes.now) }
+    ensures meaning { IfOk result (λ again. option_map (S.meaning shapes.now) again ≡ option_map (S.meaning shapes.now) mother.now) }
+    ensures belongs { IfOk result (λ again. IfSome again (S.belongs shapes.now)) }
+{
+    match mother {
+        Some(mother) => Ok(Some(shapes.share(alloc, mother)?)),
+        None => Ok(None),
+    }
+}
+
+/// The weight of a mother, and none of anything else.
+fn weight_of<S: Marked>(shapes: &S, outcome: &Outcome<S::Shape>) -> u32 {
+    match outcome {
+        Outcome::Mother(Some(mother)) => shapes.weight(mother),
+        _ => 0,
+    }
+}
+
+impl<'a, S: Marked> RememberedShapes<'a, S> {
+    /// These shapes, of which nothing is remembered yet.
+    pub fn new(alloc: Global, shapes: &'a S) -> Result<RememberedShapes<'a, S>, NoMemory>
+        ensures { IfOk result (λ s. s ≡ shapes.now) }
+    {
+        let memo = Memo::new(alloc, shapes)?;
+        Ok(RememberedShapes { shapes, memo })
+    }
+
+    /// The shapes themselves, which remember nothing.
+    pub fn shapes(&self) -> &'a S
+        ensures { result.now ≡ self.now }
+    {
+        self.shapes
+    }
+
+    // Keeps what the shapes said of a rule with these daughters, where there is room.
+    fn remember<C>(
+        &self,
+        alloc: Global,
+        hash: u64,
+        rule: u32,
+        parts: &Tuple<S::Shape, C>,
+        outcome: Outcome<S::Shape>,
+    )
+        requires belong { All (S.belongs self.now) (shapes_of parts.now) }
+        requires right { IsRightFor (S.calculus self.now) (S.meaning self.now) (S.belongs self.now) rule parts.now outcome }
+    {
+        if self.memo.is_full() {
+            return;
+        }
+        let Ok(parts) = parts_again(alloc, self.shapes, parts) else {
+            return;
+        };
+        let weight = weight_of(self.shapes, &outcome);
+        let answer = Answer {
+            stamp: self.memo.stamp.again(),
+            hash,
+            rule,
+            parts,
+            outcome,
+        };
+        if let Ok(answer) = Box::new(alloc, answer) {
+            self.memo.keep(alloc, answer, weight);
+        }
+    }
+}
+
+impl<S: Marked> Shapes for RememberedShapes<'_, S> {
+    ghost use Rattle.std.specs.Prelude.{ℕ, ◌≡◌};
+
+    type Shape = S::Shape;
+
+    type Cover = S::Cover;
+
+    type Work = S::Work;
+
+    ghost Meaning = { S.Meaning };
+
+    ghost meaning = { λ s shape. S.meaning s shape };
+
+    ghost belongs = { λ s shape. S.belongs s shape };
+
+    ghost calculus = { λ s. S.calculus s };
+
+    ghost bound_of = { λ s. S.bound_of s };
+
+    ghost Full = { S.Full };
+
+    ghost full = { λ s. S.full s };
+
+    ghost agrees = { λ s. S.agrees s };
+
+    fn rules(&self) -> u32 {
+        self.shapes.rules()
+    }
+
+    fn arity(&self, rule: u32) -> u32 {
+        self.shapes.arity(rule)
+    }
+
+    fn work(&self, alloc: Global) -> Result<S::Work, NoMemory> {
+        self.shapes.work(alloc)
+    }
+
+    fn bound(&self) -> &<S::Cover as cover::Cover>::Bound {
+        self.shapes.bound()
+    }
+
+    fn share(&self, alloc: Global, shape: &S::Shape) -> Result<S::Shape, NoMemory> {
+        self.shapes.share(alloc, shape)
+    }
+
+    fn may(&self, work: &mut S::Work, rule: u32, parts: &Tuple<S::Shape, S::Cover>) -> bool {
+        self.shapes.may(work, rule, parts)
+    }
+
+    fn fits(
+        &self,
+        alloc: Global,
+        work: &mut S::Work,
+        rule: u32,
+        parts: &Tuple<S::Shape, S::Cover>,
+    ) -> Result<bool, NoMemory> {
+        let hash = hash_of(self.shapes, false, rule, parts);
+        if let Some(Outcome::Fits(yes)) = self.memo.find(self.shapes, hash, rule, parts) {
+            return Ok(*yes);
+        }
+        let yes = self.shapes.fits(alloc, work, rule, parts)?;
+        self.remember(alloc, hash, rule, parts, Outcome::Fits(yes));
+        Ok(yes)
+    }
+
+    fn apply(
+        &self,
+        alloc: Global,
+        work: &mut S::Work,
+        rule: u32,
+        parts: &Tuple<S::Shape, S::Cover>,
+    ) -> Result<Option<S::Shape>, NoMemory> {
+        let hash = hash_of(self.shapes, true, rule, parts);
+        if let Some(Outcome::Mother(mother)) = self.memo.find(self.shapes, hash, rule, parts) {
+            return mother_again(alloc, self.shapes, mother);
+        }
+        let mother = self.shapes.apply(alloc, work, rule, parts)?;
+        if let Ok(again) = mother_again(alloc, self.shapes, &mother) {
+            self.remember(alloc, hash, rule, parts, Outcome::Mother(again));
+        }
+        Ok(mother)
+    }
+
+    fn covers(
+        &self,
+        alloc: Global,
+        rule: u32,
+        parts: &Tuple<S::Shape, S::Cover>,
+    ) -> Result<Option<S::Cover>, NoMemory> {
+        self.shapes.covers(alloc, rule, parts)
+    }
+
+    fn subsumes(
+        &self,
+        work: &mut S::Work,
+        general: &S::Shape,
+        special: &S::Shape,
+    ) -> Result<bool, NoMemory> {
+        if self.shapes.same(general, special) {
+            return Ok(true);
+        }
+        self.shapes.subsumes(work, general, special)
+    }
+
+    ghost laws = { λ s. S.laws s };
+
+    ghost agreement = { λ s. S.agreement s };
+
+    ghost joins = { λ s c d. S.joins s c d };
+
+    ghost sames = { λ s c d. S.sames s c d };
+
+    ghost sizes = { λ s c. S.sizes s c };
+}
