@@ -2,5 +2,9 @@ pub mod Steps
 pub mod Tooks
 pub mod Pours
 pub mod Empties
-pub mod Settled
+pub mod Known
 pub mod Makes
+pub mod Counts
+pub mod Posts
+pub mod Pooled
+pub mod Taken

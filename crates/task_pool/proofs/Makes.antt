@@ -10,7 +10,8 @@ use Rattle.crossbeam_deque.specs.Handles.{worker_deque, worker_flavor, worker_vi
 use Rattle.task_pool.specs.declared.seat.Door.{Door}
 use Rattle.task_pool.specs.Balance.{hand}
 use Rattle.task_pool.specs.Whole.{ArePlaced}
-use Rattle.task_pool.specs.Making.{others, Deque, IsRow, Lost}
+use Rattle.task_pool.specs.Pools.{others}
+use Rattle.task_pool.specs.Making.{Deque, IsRow, Lost}
 
 pub others_past : (j n : ℕ) → n ≢ j → others j (suc n) ≡ others j n ++ n ∷ []
 others_past j n ne = λ i. others j n ++ (if ne_eqb n j ne i then [] else n ∷ [])
@@ -131,6 +132,18 @@ module _ {A : Type 0} where
 
   pub each_push : (P : A → Type 0) (l l' : List A) (a : A) → l' ≡ l ++ a ∷ [] → P a → ((i : ℕ) (x : A) → get_elem? l i ≡ some x → P x) → (i : ℕ) (x : A) → get_elem? l' i ≡ some x → P x
   each_push P l l' a is last old i x e = push_at P l a last old i x (ap (λ (k : List A). get_elem? k i) (sym is) ∙ e)
+
+  snoc_cases : (l : List A) (a b : A) (j : ℕ) → get_elem? (l ++ a ∷ []) j ≡ some b → (get_elem? l j ≡ some b) ⊎ ((j ≡ length l) × (a ≡ b))
+  snoc_cases [] a b zero e = inr (refl, some-injective a b e)
+  snoc_cases [] a b (suc j) e = absurd (some-ne-none b (sym e))
+  snoc_cases (x ∷ xs) a b zero e = inl e
+  snoc_cases (x ∷ xs) a b (suc j) e = ⊎_elim (λ h. inl h) (λ (t : (j ≡ length xs) × (a ≡ b)). inr ((let n = t.0 in omega arith), t.1)) (snoc_cases xs a b j e)
+
+  -- the same where each stands at its place
+  pub each_placed : (P : ℕ → A → Type 0) (l l' : List A) (a : A) → l' ≡ l ++ a ∷ [] → P (length l) a → ((i : ℕ) (x : A) → get_elem? l i ≡ some x → P i x) → (i : ℕ) (x : A) → get_elem? l' i ≡ some x → P i x
+  each_placed P l l' a is last old i x e = ⊎_elim (λ h. old i x h)
+      (λ (t : (i ≡ length l) × (a ≡ x)). subst (λ (k : ℕ). P k x) (sym t.0) (subst (λ (y : A). P (length l) y) t.1 last))
+      (snoc_cases l a x i (ap (λ (k : List A). get_elem? k i) (sym is) ∙ e))
 
 -- what is left of a deque's part after a seat has its doors
 pub fresh_on : (j t : ℕ) (e d : Deque) → Lost j t e d → (worker_view e).put ≡ [] → (worker_view e).taken ≡ [] → (worker_flavor d ≡ 0) × ((worker_view d).put ≡ []) × ((worker_view d).taken ≡ [])

@@ -1,20 +1,18 @@
 -- A pool as it is made.
-use Rattle.std.specs.Prelude.{◌≡◌, ◌≢◌, ℕ, zero, suc, ◌+◌, ◌-◌, ◌==◌, if◌then◌else◌, List, [], ◌∷◌, ◌++◌, length, map}
+use Rattle.std.specs.Prelude.{◌≡◌, ◌≢◌, ℕ, ◌+◌, ◌-◌, List, [], length, map}
 use Rattle.atomic_blocks.specs.Lent.{RowsId}
 use Rattle.std.specs.declared.alloc.Global.{Global}
-use Rattle.crossbeam_deque.specs.Handles.{worker_deque, worker_flavor, worker_view}
+use Rattle.std.specs.declared.vec.Vec.{Vec}
+use Rattle.crossbeam_deque.specs.Handles.{view, worker_deque, worker_flavor, worker_view}
 use Rattle.crossbeam_deque.specs.declared.handles.Worker.{Worker}
 use Rattle.chart_core.specs.declared.TaskId.{TaskId}
 use Rattle.task_pool.specs.declared.hand.Hand.{Hand}
 use Rattle.task_pool.specs.declared.rule.Fair.{Fair}
 use Rattle.task_pool.specs.declared.seat.Door.{Door}
+use Rattle.task_pool.specs.declared.seat.PoolSeat.{PoolSeat}
 use Rattle.task_pool.specs.Balance.{hand}
+use Rattle.task_pool.specs.Pools.{others}
 use Rattle.task_pool.specs.Whole.{ArePlaced}
-
--- the numbers below n, in order, but for j
-abbrev pub others : ℕ → ℕ → List ℕ
-others j zero = []
-others j (suc n) = others j n ++ (if n == j then [] else n ∷ [])
 
 -- the doors of the seat j, one to each other deque, in order
 pub record IsRow (places : List (RowsId × Global)) (j : ℕ) (doors : List Door) : Type 0 where
@@ -37,3 +35,13 @@ pub record IsCut (n t : ℕ) (d : Deque) : Type 0 where
   pub parts : (worker_view d).parts + n ≡ 65
   pub put : (worker_view d).put ≡ []
   pub taken : (worker_view d).taken ≡ []
+
+-- a door through which nothing was taken
+abbrev pub IsNew : Door → Type 0
+IsNew d = view d.pass ≡ hand 1 [] []
+
+abbrev pub seat_own : PoolSeat → Deque
+seat_own s = s.own
+
+abbrev pub seat_doors : PoolSeat → Vec Door Global
+seat_doors s = s.doors

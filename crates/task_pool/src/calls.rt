@@ -2,6 +2,7 @@
 ghost use Rattle.std.specs.Prelude.{◌≡◌, ℕ, true, ◌+◌, ◌<◌, [], ◌∷◌, ◌++◌, Bool, map, vec_len, IfErr, IfSome, IfNone, OnOk};
 ghost use Rattle.crossbeam_deque.specs.Handles.{view, stealer_deque, worker_deque, worker_view};
 ghost use Rattle.task_pool.specs.Balance.{hand, Same};
+ghost use Rattle.task_pool.specs.Pools.{door_way, seat_post};
 ghost use Rattle.task_pool.specs.Seats.{door_hand, door_place, hands, places, Took};
 
 use crate::rule::{Puts, Takes};
@@ -38,12 +39,16 @@ impl Door {
     // Takes the first task of the deque, and tries again where another seat was faster.
     fn steal<R: Wait>(&mut self, rt: &R) -> Option<TaskId>
         ensures same { stealer_deque self.new.thief ≡ stealer_deque self.old.thief }
+        ensures number { self.new.deque ≡ self.old.deque }
         ensures some { IfSome result (λ t. view self.new.pass ≡ hand 1 (view self.old.pass).put ((view self.old.pass).taken ++ t ∷ [])) }
         ensures none { IfNone result (view self.new.pass ≡ view self.old.pass) }
     {
         for _ in rt.forever() {
             match self.thief.steal_as::<Takes>(&mut self.pass) {
-                Steal::Success(task) => return Some(task),
+                Steal::Success(task) => {
+                    self.taken = self.taken.wrapping_add(1);
+                    return Some(task);
+                }
                 Steal::Empty => return None,
                 Steal::Retry => {}
             }
@@ -57,25 +62,32 @@ impl PoolSeat {
     pub fn push(&mut self, task: TaskId) -> Result<(), TaskId>
         ensures same { worker_deque self.new.own ≡ worker_deque self.old.own }
         ensures doors { self.new.doors ≡ self.old.doors }
+        ensures post { seat_post self.new ≡ seat_post self.old }
         ensures ok { OnOk result (worker_view self.new.own ≡ hand (worker_view self.old.own).parts ((worker_view self.old.own).put ++ task ∷ []) (worker_view self.old.own).taken) }
         ensures err { IfErr result (λ t. (t ≡ task) × (worker_view self.new.own ≡ worker_view self.old.own)) }
     {
-        self.own.push_as::<Puts>(task)
+        self.own.push_as::<Puts>(task)?;
+        self.pushed = self.pushed.wrapping_add(1);
+        Ok(())
     }
 
     // Takes the first task of the own deque.
     fn pop(&mut self) -> Option<TaskId>
         ensures same { worker_deque self.new.own ≡ worker_deque self.old.own }
         ensures doors { self.new.doors ≡ self.old.doors }
+        ensures number { self.new.number ≡ self.old.number }
         ensures some { IfSome result (λ t. worker_view self.new.own ≡ hand (worker_view self.old.own).parts (worker_view self.old.own).put ((worker_view self.old.own).taken ++ t ∷ [])) }
         ensures none { IfNone result ((worker_view self.new.own ≡ worker_view self.old.own) × (vec_len self.new.doors ≡ 0 → Same (worker_view self.new.own).put (worker_view self.new.own).taken)) }
     {
-        self.own.pop_as::<Takes>()
+        let task = self.own.pop_as::<Takes>()?;
+        self.taken = self.taken.wrapping_add(1);
+        Some(task)
     }
 
     // Takes a task of another deque, of the first in order that has one.
     fn steal<R: Wait>(&mut self, rt: &R) -> Option<TaskId>
-        ensures own { self.new.own ≡ self.old.own }
+        ensures own { (self.new.own ≡ self.old.own) × (self.new.number ≡ self.old.number) }
+        ensures ways { map door_way self.new.doors.items ≡ map door_way self.old.doors.items }
         ensures same { map door_place self.new.doors.items ≡ map door_place self.old.doors.items }
         ensures some { IfSome result (λ t. Took (map door_hand self.old.doors.items) t (map door_hand self.new.doors.items)) }
         ensures none { IfNone result (map door_hand self.new.doors.items ≡ map door_hand self.old.doors.items) }
@@ -99,6 +111,7 @@ impl PoolSeat {
         ensures fit { O.fit over.new }
         ensures later { O.later over.old over.new }
         ensures same { places self.new ≡ places self.old }
+        ensures post { seat_post self.new ≡ seat_post self.old }
         ensures some { IfSome result (λ t. Took (hands self.old) t (hands self.new)) }
         ensures none { IfNone result (hands self.new ≡ hands self.old) }
         ensures over { IfNone result (O.is_over over.new ≡ true) }

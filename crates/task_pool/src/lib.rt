@@ -6,8 +6,9 @@ mod hand;
 mod making;
 mod rule;
 mod seat;
-mod settle;
+mod settling;
 
 pub use calls::Over;
 pub use making::Pool;
 pub use seat::{Pass, PoolSeat};
+pub use settling::{Settled, settle};

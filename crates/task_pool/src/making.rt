@@ -4,7 +4,8 @@ ghost use mathlib.Core.Option.{some};
 ghost use lib.ListN.{get_elem?};
 ghost use Rattle.crossbeam_deque.specs.Handles.{view, stealer_deque, worker_deque, worker_flavor, worker_view};
 ghost use Rattle.task_pool.specs.Balance.{hand};
-ghost use Rattle.task_pool.specs.Making.{others, IsRow, Lost, IsCut};
+ghost use Rattle.task_pool.specs.Making.{seat_own, seat_doors, IsRow, IsNew, Lost, IsCut};
+ghost use Rattle.task_pool.specs.Pools.{others, seat_post, ArePool, IsFresh};
 
 use crate::rule::{Cut, Deque};
 use crate::seat::{Door, PoolSeat};
@@ -34,6 +35,7 @@ fn door(deque: &mut Deque, number: usize) -> Result<Door, NoMemory>
     ensures same { (worker_deque deque.new ≡ worker_deque deque.old) × (worker_flavor deque.new ≡ 0) }
     ensures view { OnOk result (worker_view deque.new ≡ hand ((worker_view deque.old).parts - 1) (worker_view deque.old).put (worker_view deque.old).taken) }
     ensures door { IfOk result (λ d. (d.deque ≡ number) × (stealer_deque d.thief ≡ worker_deque deque.old)) }
+    ensures new { IfOk result IsNew }
 {
     let thief = deque.stealer()?;
     let pass = deque.another::<Cut>();
@@ -41,6 +43,7 @@ fn door(deque: &mut Deque, number: usize) -> Result<Door, NoMemory>
         deque: number,
         thief,
         pass,
+        taken: 0,
     })
 }
 
@@ -48,8 +51,10 @@ fn door(deque: &mut Deque, number: usize) -> Result<Door, NoMemory>
 fn doors(alloc: Global, deques: &mut Vec<Deque>, seat: usize) -> Result<Vec<Door>, NoMemory>
     requires cut { (t : ℕ) → (d : _) → get_elem? deques.old.items t ≡ some d → (worker_flavor d ≡ 0) × (t ≢ seat → 1 < (worker_view d).parts) }
     ensures count { length deques.new.items ≡ length deques.old.items }
+    ensures places { map worker_deque deques.new.items ≡ map worker_deque deques.old.items }
     ensures lost { OnOk result ((t : ℕ) → (d : _) → get_elem? deques.new.items t ≡ some d → (e : _) × (get_elem? deques.old.items t ≡ some e) × Lost seat t e d) }
     ensures row { IfOk result (λ v. IsRow (map worker_deque deques.old.items) seat v.items) }
+    ensures new { IfOk result (λ v. (i : ℕ) → (d : _) → get_elem? v.items i ≡ some d → IsNew d) }
 {
     let mut found = Vec::with_capacity(alloc, deques.len())?;
     for at in 0..deques.len() {
@@ -66,8 +71,12 @@ fn rows(alloc: Global, deques: &mut Vec<Deque>) -> Result<Vec<Vec<Door>>, NoMemo
     requires few { length deques.old.items ≤ 64 }
     requires whole { All (λ d. (worker_flavor d ≡ 0) × (worker_view d ≡ hand 64 [] [])) deques.old.items }
     ensures count { length deques.new.items ≡ length deques.old.items }
+    ensures places { map worker_deque deques.new.items ≡ map worker_deque deques.old.items }
     ensures cut { OnOk result ((t : ℕ) → (d : _) → get_elem? deques.new.items t ≡ some d → IsCut (length deques.old.items) t d) }
-    ensures rows { IfOk result (λ v. (length v.items ≡ length deques.old.items) × ((j : ℕ) → (r : _) → get_elem? v.items j ≡ some r → length r.items + 1 ≡ length deques.old.items)) }
+    ensures many { IfOk result (λ v. length v.items ≡ length deques.old.items) }
+    ensures long { IfOk result (λ v. (j : ℕ) → (r : _) → get_elem? v.items j ≡ some r → length r.items + 1 ≡ length deques.old.items) }
+    ensures rows { IfOk result (λ v. (j : ℕ) → (r : _) → get_elem? v.items j ≡ some r → IsRow (map worker_deque deques.old.items) j r.items) }
+    ensures new { IfOk result (λ v. (j : ℕ) → (r : _) → get_elem? v.items j ≡ some r → (i : ℕ) → (d : _) → get_elem? r.items i ≡ some d → IsNew d) }
 {
     let mut found = Vec::with_capacity(alloc, deques.len())?;
     for seat in 0..deques.len() {
@@ -86,20 +95,25 @@ fn seats(
     requires few { length deques.items ≤ 64 }
     requires cut { (t : ℕ) → (d : _) → get_elem? deques.items t ≡ some d → IsCut (length deques.items) t d }
     requires rows { (j : ℕ) → (r : _) → get_elem? rows.items j ≡ some r → length r.items + 1 ≡ length deques.items }
-    ensures { IfOk result (λ v. length v.items ≡ length deques.items) }
+    ensures own { IfOk result (λ v. map seat_own v.items ≡ deques.items) }
+    ensures doors { IfOk result (λ v. map seat_doors v.items ≡ rows.items) }
+    ensures numbers { IfOk result (λ v. (j : ℕ) → (s : _) → get_elem? v.items j ≡ some s → s.number ≡ j) }
 {
     let mut found = Vec::with_capacity(alloc, deques.len())?;
+    deques.reverse();
+    rows.reverse();
     while let Some(own) = deques.pop() {
         let Some(doors) = rows.pop() else {
             unreachable!()
         };
         found.push_reserved(PoolSeat {
-            number: deques.len(),
+            number: found.len(),
             own,
+            pushed: 0,
+            taken: 0,
             doors,
         });
     }
-    found.reverse();
     Ok(found)
 }
 
@@ -107,14 +121,18 @@ fn seats(
 pub struct Pool;
 
 impl Pool {
-    /// The seats of a pool without tasks, in order of their numbers from 0 on, for 1 to 64 workers.
+    /// The seats of a pool without tasks, in order of their numbers from 0 on, for 1 to 64 workers. Each has a door to each other
+    /// deque, and together they have all parts of each deque.
     pub fn make(alloc: Global, workers: u32) -> Result<Vec<PoolSeat>, NoMemory>
         requires some { 0 < workers }
         requires few { workers ≤ 64 }
-        ensures { IfOk result (λ v. length v.items ≡ workers) }
+        ensures count { IfOk result (λ v. length v.items ≡ workers) }
+        ensures pool { IfOk result (λ v. ArePool (map seat_post v.items)) }
+        ensures fresh { IfOk result (λ v. (j : ℕ) → (s : _) → get_elem? v.items j ≡ some s → IsFresh s) }
     {
         let mut deques = deques(alloc, workers)?;
         let rows = rows(alloc, &mut deques)?;
-        seats(alloc, deques, rows)
+        let seats = seats(alloc, deques, rows)?;
+        Ok(seats)
     }
 }

@@ -1,8 +1,11 @@
-use Rattle.std.proofs.Common.{◌≡◌, ◌∙◌, ◌+◌, ◌∷◌, [], length, length-append, map, ap, refl, arith}
+use Rattle.std.proofs.Common.{◌≡◌, ◌∙◌, ◌+◌, ◌∷◌, [], length, length-append, map, ap, sym, subst, refl, arith}
+use mathlib.Core.Option.{some}
+use lib.ListN.{get_elem?}
+use Rattle.task_pool.specs.Making.{IsRow, IsNew}
 use Rattle.std.proofs.lemmas.List.{length-map}
 use Rattle.crossbeam_deque.specs.Handles.{worker_deque, worker_flavor, worker_view}
 use Rattle.task_pool.specs.Balance.{hand}
-use Rattle.task_pool.proofs.Makes.{below, none_there, all_at, each_push, cut_on, fresh_on, row_long, some_part, two_parts}
+use Rattle.task_pool.proofs.Makes.{below, none_there, all_at, each_push, each_placed, cut_on, fresh_on, row_long, some_part, two_parts}
 use Rattle.task_pool.proofs.making.rows.Goals as goal
 
 pub loop-seat-init : goal.loop-seat-init
@@ -14,6 +17,9 @@ loop-seat-init c =
       fresh = λ t d there. let h = all_at (λ x. (worker_flavor x ≡ 0) × (worker_view x ≡ hand 64 [] [])) c.args.deques.now.items c.requires.whole t d there in (h.0, ap (λ v. v.put) h.1, ap (λ v. v.taken) h.1);
       found = ap (λ l. length l) c.in_ok-found.ensures.items;
       rows = λ j r there. absurd (none_there c.in_ok-found.found.items c.in_ok-found.ensures.items j r there);
+      long = λ j r there. absurd (none_there c.in_ok-found.found.items c.in_ok-found.ensures.items j r there);
+      new = λ j r there. absurd (none_there c.in_ok-found.found.items c.in_ok-found.ensures.items j r there);
+      places = refl;
       room = (let e = c.in_ok-found.ensures.exact in let n = c.len.ensures in let o = c.args.deques.now.ok in omega arith);
     }
 
@@ -39,8 +45,12 @@ loop-seat-preserved c =
           (cut_on seat t l.0 d (i.before t l.0 l.1) (i.after t l.0 l.1) (some_part _ seat t (i.before t l.0 l.1) (i.after t l.0 l.1) (omega arith)) l.2).1 le;
       fresh = λ t d there. let l = s.lost t d there in let f = i.fresh t l.0 l.1 in fresh_on seat t l.0 d l.2 f.1 f.2;
       found = (let a = ap (λ l. length l) n.items in let b = length-append c.loop-seat.found.items (c.in_ok-doors.field-0 ∷ []) in let f = i.found in omega arith);
-      rows = each_push (λ r. length r.items + 1 ≡ length c.args.deques.now.items) c.loop-seat.found.items c.push_reserved.new.self.items c.in_ok-doors.field-0 n.items
-          (let m = length-map c.loop-seat.deques.items worker_deque in let k = i.count in let r = row_long (map worker_deque c.loop-seat.deques.items) seat c.in_ok-doors.field-0.items (omega arith) s.row in omega arith) i.rows;
+      rows = each_placed (λ j r. IsRow (map worker_deque c.args.deques.now.items) j r.items) c.loop-seat.found.items c.push_reserved.new.self.items c.in_ok-doors.field-0 n.items
+          (let f = i.found in subst (λ k. IsRow k (length c.loop-seat.found.items) c.in_ok-doors.field-0.items) i.places (subst (λ k. IsRow (map worker_deque c.loop-seat.deques.items) k c.in_ok-doors.field-0.items) (sym f) s.row)) i.rows;
+      long = each_push (λ r. length r.items + 1 ≡ length c.args.deques.now.items) c.loop-seat.found.items c.push_reserved.new.self.items c.in_ok-doors.field-0 n.items
+          (let m = length-map c.loop-seat.deques.items worker_deque in let k = i.count in let r = row_long (map worker_deque c.loop-seat.deques.items) seat c.in_ok-doors.field-0.items (omega arith) s.row in omega arith) i.long;
+      new = each_push (λ r. (k : _) → (d : _) → get_elem? r.items k ≡ some d → IsNew d) c.loop-seat.found.items c.push_reserved.new.self.items c.in_ok-doors.field-0 n.items s.new i.new;
+      places = s.places ∙ i.places;
       room = (let r = i.room in let p = n.capacity in omega arith);
     }
 

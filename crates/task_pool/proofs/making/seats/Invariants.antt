@@ -1,13 +1,16 @@
-use Rattle.std.proofs.Common.{◌≡◌, ◌+◌, ◌≤◌, ◌++◌, List, length}
+use Rattle.std.proofs.Common.{◌≡◌, ℕ, ◌+◌, ◌≤◌, ◌++◌, length, map, reverse}
+use mathlib.Core.Option.{some}
+use lib.ListN.{get_elem?}
+use Rattle.task_pool.specs.Making.{seat_own, seat_doors}
 use Rattle.task_pool.proofs.making.seats.Given as goal
 
 abbrev pub invariant-loop-own : goal.invariant-loop-own
 invariant-loop-own l = record {
-  deques : (rest : List _) × (l.fn.deques.items ≡ l.deques.items ++ rest);
-  rows : (rest : List _) × (l.fn.rows.items ≡ l.rows.items ++ rest);
+  own : map seat_own l.found.items ++ reverse l.deques.items ≡ l.fn.deques.items;
+  doors : map seat_doors l.found.items ++ reverse l.rows.items ≡ l.fn.rows.items;
+  numbers : (j : ℕ) (s : _) → get_elem? l.found.items j ≡ some s → s.number ≡ j;
   count : length l.rows.items ≡ length l.deques.items;
-  made : length l.found.items + length l.deques.items ≡ length l.fn.deques.items;
-  room : length l.fn.deques.items ≤ l.found.cap;
+  room : length l.found.items + length l.deques.items ≤ l.found.cap;
 }
 
 abbrev pub decreases-loop-own : goal.decreases-loop-own

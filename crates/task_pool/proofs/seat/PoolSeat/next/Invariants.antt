@@ -1,10 +1,12 @@
 use Rattle.std.proofs.Common.{◌≡◌}
 use Rattle.task_pool.specs.Seats.{hands, places}
+use Rattle.task_pool.specs.Pools.{seat_post}
 use Rattle.task_pool.proofs.seat.PoolSeat.next.Given as goal
 
 abbrev pub invariant-loop : goal.invariant-loop
 invariant-loop g l = record {
   places : places l.self ≡ places l.initial.self;
+  post : seat_post l.self ≡ seat_post l.initial.self;
   hands : hands l.self ≡ hands l.initial.self;
   fit : g.O.Over.fit l.over;
   later : g.O.Over.later l.initial.over l.over;

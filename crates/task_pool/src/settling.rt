@@ -1,10 +1,11 @@
 //! What the passes of one pool say together.
-ghost use Rattle.std.specs.Prelude.{◌≡◌, ℕ, ◌+◌, ◌<◌, [], ◌++◌, List, map, length};
+ghost use Rattle.std.specs.Prelude.{◌≡◌, ℕ, ◌+◌, ◌%◌, ◌^◌, ◌<◌, [], ◌++◌, List, map, length};
 ghost use Rattle.crossbeam_deque.specs.Handles.{view, stealer_deque, worker_deque, worker_view};
 ghost use mathlib.Core.Option.{some};
 ghost use lib.ListN.{get_elem?};
 ghost use Rattle.task_pool.specs.Balance.{hand, joined, weigh, Same, IsAdditive};
-ghost use Rattle.task_pool.specs.Whole.{all_of, at_door, pass_place, pass_doors, AreLinked, ArePlaced, Settles};
+ghost use Rattle.task_pool.specs.Pools.{seat_post, pass_post, ArePool};
+ghost use Rattle.task_pool.specs.Whole.{all_of, in_all, at_door, pass_place, pass_doors, AreLinked, ArePlaced, Leaves, Settles};
 
 use crate::rule::{Cut, Total};
 use crate::seat::{Door, Pass, PoolSeat};
@@ -15,10 +16,23 @@ use std::mem;
 impl PoolSeat {
     /// What the seat leaves behind when its worker ends.
     pub fn leave(self) -> Pass
-        ensures { (result.own ≡ self.own) × (result.doors ≡ self.doors) × (result.number ≡ self.number) }
+        ensures same { (result.own ≡ self.own) × (result.doors ≡ self.doors) × (result.number ≡ self.number) }
+        ensures post { pass_post result ≡ seat_post self }
     {
-        let PoolSeat { number, own, doors } = self;
-        Pass { number, own, doors }
+        let PoolSeat {
+            number,
+            own,
+            pushed,
+            taken,
+            doors,
+        } = self;
+        Pass {
+            number,
+            own,
+            pushed,
+            taken,
+            doors,
+        }
     }
 }
 
@@ -33,8 +47,10 @@ impl Pass {
             deque: _,
             thief: _,
             pass,
+            taken,
         } = door;
         self.own.absorb::<Cut>(pass);
+        self.taken = self.taken.wrapping_add(taken);
     }
 }
 
@@ -86,19 +102,47 @@ fn gather(alloc: Global, passes: &mut Vec<Pass>)
     }
 }
 
-/// How many tasks are left, modulo 2^64, over all passes of one pool. Deque by deque, what was taken and what is left is what
-/// was pushed, each task as often.
-pub fn settle(alloc: Global, passes: Vec<Pass>) -> u64
-    requires linked { AreLinked (map pass_place passes.items) passes.items }
-    requires parts { (t : ℕ) → t < length passes.items → all_of (λ v. v.parts) t passes.items ≡ 64 }
-    ensures { (t : ℕ) → t < length passes.items → Settles passes.items t }
+/// How many tasks were pushed, how many were taken, and how many are left, each modulo 2^64.
+#[derive(Drop, Clone, Copy, Debug, PartialEq, Eq)]
+pub struct Settled {
+    pub pushed: u64,
+    pub taken: u64,
+    pub left: u64,
+}
+
+impl Settled {
+    // Counts the tasks of one deque.
+    fn add(&mut self, pushed: u64, taken: u64, left: u64)
+        ensures { (self.new.pushed ≡ (self.old.pushed + pushed) % 2 ^ 64) × (self.new.taken ≡ (self.old.taken + taken) % 2 ^ 64) × (self.new.left ≡ (self.old.left + left) % 2 ^ 64) }
+    {
+        self.pushed = self.pushed.wrapping_add(pushed);
+        self.taken = self.taken.wrapping_add(taken);
+        self.left = self.left.wrapping_add(left);
+    }
+}
+
+/// Counts the tasks of a pool, over all its passes.
+///
+/// What was taken and what is left is what was pushed, each task as often as it was pushed: over all deques, and on each of
+/// them. The counts are modulo 2^64, so that they are exact where fewer than 2^64 tasks were pushed in all.
+pub fn settle(alloc: Global, passes: Vec<Pass>) -> Settled
+    requires { ArePool (map pass_post passes.items) }
+    ensures pushed { result.pushed ≡ in_all (λ v. length v.put) passes.items % 2 ^ 64 }
+    ensures taken { result.taken ≡ in_all (λ v. length v.taken) passes.items % 2 ^ 64 }
+    ensures left { (left : List TaskId) × (result.left ≡ length left % 2 ^ 64) × Leaves passes.items left }
+    ensures each { (t : ℕ) → t < length passes.items → Settles passes.items t }
 {
     let mut passes = passes;
     gather(alloc, &mut passes);
-    let mut left = 0u64;
+    let mut settled = Settled {
+        pushed: 0,
+        taken: 0,
+        left: 0,
+    };
     for at in 0..passes.len() {
         let pass = &mut passes[at];
-        left = left.wrapping_add(pass.left() as u64);
+        let (pushed, taken) = (pass.pushed, pass.taken);
+        settled.add(pushed, taken, pass.left() as u64);
     }
-    left
+    settled
 }
