@@ -1,16 +1,16 @@
 //! Workers that share a chart.
 #![tactic(auto)]
 
+pub use crew::Crew;
 pub use ended::Ended;
-pub use gate::{Gate, OpenGate};
 pub use over::ChartOver;
-pub use priority::Rank;
+pub use priority::{BySize, Rank};
 pub use saturating::saturate;
 pub use working::work;
 
 mod concluding;
+mod crew;
 mod ended;
-mod gate;
 mod over;
 mod posts;
 mod priority;

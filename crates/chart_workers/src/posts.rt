@@ -9,21 +9,36 @@ use shared_chart::ChartSeat;
 use std::alloc::Global;
 use task_pool::PoolSeat;
 
-/// What one worker has for itself: its number, its seats, the tasks that it keeps, and how it ended.
+/// What one worker has for itself: its number, its seats, its scratch, the tasks that it keeps, and how it ended.
 #[derive(Drop)]
 pub(crate) struct Post<S: Shapes> {
     pub(crate) number: u32,
     pub(crate) seat: ChartSeat<S>,
     pub(crate) pool: PoolSeat,
+    pub(crate) work: S::Work,
     pub(crate) kept: Vec<TaskId>,
     pub(crate) ended: Ended,
+}
+
+// A scratch of an earlier chart, or a new one.
+fn scratch<S: Shapes>(
+    alloc: Global,
+    shapes: &S,
+    works: &mut Vec<S::Work>,
+) -> Result<S::Work, NoMemory> {
+    match works.pop() {
+        Some(work) => Ok(work),
+        None => shapes.work(alloc),
+    }
 }
 
 // A post for each seat, in order.
 pub(crate) fn posts<S: Shapes>(
     alloc: Global,
+    shapes: &S,
     mut seats: Vec<ChartSeat<S>>,
     mut pools: Vec<PoolSeat>,
+    works: &mut Vec<S::Work>,
 ) -> Result<Vec<Post<S>>, NoMemory>
     requires { length pools.items ≡ length seats.items }
     ensures { IfOk result (λ v. map post_seat v.items ≡ seats.items) }
@@ -35,10 +50,12 @@ pub(crate) fn posts<S: Shapes>(
         let Some(pool) = pools.pop() else {
             unreachable!()
         };
+        let work = scratch(alloc, shapes, works)?;
         found.push_reserved(Post {
             number: seat.number,
             seat,
             pool,
+            work,
             kept: Vec::new(alloc),
             ended: Ended::AllDone,
         });
@@ -46,16 +63,18 @@ pub(crate) fn posts<S: Shapes>(
     Ok(found)
 }
 
-// The seats of the chart, in order.
+// The seats of the chart, in order. The scratches are kept.
 pub(crate) fn seats_of<S: Shapes>(
     alloc: Global,
     mut posts: Vec<Post<S>>,
+    works: &mut Vec<S::Work>,
 ) -> Result<Vec<ChartSeat<S>>, NoMemory>
     ensures { IfOk result (λ v. v.items ≡ map post_seat posts.items) }
 {
     let mut found = Vec::with_capacity(alloc, posts.len())?;
     posts.reverse();
     while let Some(post) = posts.pop() {
+        works.push(post.work)?;
         found.push_reserved(post.seat);
     }
     Ok(found)

@@ -6,3 +6,16 @@ pub trait Rank: Sync {
     /// The rank of a task of this rule, with a host of this size and level. Takes no memory.
     fn rank(&self, rule: u32, size: u32, level: u32) -> u32;
 }
+
+/// Smaller hosts come first, and of equal size those of a lower level.
+#[derive(Drop, Clone, Copy)]
+pub struct BySize;
+
+// One more than the greatest level at which a rank still tells levels apart.
+const LEVELS: u32 = 64;
+
+impl Rank for BySize {
+    fn rank(&self, _rule: u32, size: u32, level: u32) -> u32 {
+        size.saturating_mul(LEVELS).saturating_add(level)
+    }
+}

@@ -8,7 +8,7 @@ ghost use Rattle.chart_workers.specs.Turns.{GoesOn};
 use crate::priority::Rank;
 use chart_core::{Core, TaskId, TaskInfo};
 use cover::{NoMemory, Shapes};
-use shared_chart::{ChartSeat, SharedChart};
+use shared_chart::{ChartSeat, SharedChart, Unready};
 use std::alloc::Global;
 use std::sync::Wait;
 use task_pool::PoolSeat;
@@ -18,7 +18,21 @@ fn rank_of<P: Rank>(priority: &P, info: TaskInfo, number: u64) -> (u32, u64) {
     (priority.rank(info.rule, info.size, info.level), number)
 }
 
-// The tasks from one to before another, the least rank first and equal ranks in order of number.
+// The rank of each of these tasks, whose numbers follow one another from the first on.
+fn ranks_of<P: Rank>(
+    alloc: Global,
+    priority: &P,
+    infos: &Vec<TaskInfo>,
+    first: u64,
+) -> Result<Vec<(u32, u64)>, NoMemory> {
+    let mut found = Vec::with_capacity(alloc, infos.len())?;
+    for (info, number) in infos.iter().zip(first..) {
+        found.push(rank_of(priority, *info, number))?;
+    }
+    Ok(found)
+}
+
+// The tasks from one to before another, the least rank first and equal ranks in order of number; none where not all are made.
 pub(crate) fn ranked<R: Wait, S: Shapes, P: Rank>(
     rt: &R,
     alloc: Global,
@@ -32,14 +46,18 @@ pub(crate) fn ranked<R: Wait, S: Shapes, P: Rank>(
     requires core { IsCore (grammar_of S.Shapes S.Cover.Cover.own (shapes_of seat.old)) (state_of seat.old) }
     ensures { GoesOn (grammar_of S.Shapes S.Cover.Cover.own (shapes_of seat.old)) seat.old seat.new }
 {
-    let mut found = Vec::new(alloc);
-    for number in first.0..end.0 {
-        if let Ok(info) = chart.task(rt, seat, TaskId(number)) {
-            found.push(rank_of(priority, info, number))?;
-        }
+    if first.0 >= end.0 {
+        return Ok(Vec::new(alloc));
     }
-    found.sort_unstable();
-    Ok(found)
+    match chart.infos(rt, alloc, seat, first, end) {
+        Ok(infos) => {
+            let mut found = ranks_of(alloc, priority, &infos, first.0)?;
+            found.sort_unstable();
+            Ok(found)
+        }
+        Err(Unready::Unmade { .. }) => Ok(Vec::new(alloc)),
+        Err(Unready::NoMemory) => Err(NoMemory),
+    }
 }
 
 // The tasks of a core in the same order.

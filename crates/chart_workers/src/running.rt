@@ -5,7 +5,6 @@ ghost use Rattle.chart_core.specs.Kept.{IsCore};
 ghost use Rattle.shared_chart.specs.Seats.{shapes_of, state_of, seat_id, chart_id};
 ghost use Rattle.chart_workers.specs.Endings.{EndsAs};
 
-use crate::gate::Gate;
 use crate::posts::Post;
 use crate::priority::Rank;
 use crate::working::work;
@@ -15,16 +14,17 @@ use std::alloc::Global;
 use std::sync::Wait;
 use std::thread::Threads;
 use std::{mem, thread};
+use worker_gate::Gate;
 
 // One worker at its post.
-fn attend<R: Wait, S: Shapes, P: Rank, G: Gate>(
+fn attend<R: Wait, S: Shapes, P: Rank>(
     rt: &R,
     alloc: Global,
     chart: &SharedChart<S>,
     post: &mut Post<S>,
     shapes: &S,
     priority: &P,
-    gate: &G,
+    gate: &dyn Gate,
 )
     requires seat { seat_id post.old.seat ≡ chart_id chart.now }
     requires shapes { shapes.now ≡ shapes_of post.old.seat }
@@ -41,25 +41,21 @@ fn attend<R: Wait, S: Shapes, P: Rank, G: Gate>(
         &mut post.pool,
         kept,
         shapes,
+        &mut post.work,
         priority,
         gate,
     );
 }
 
 // All workers, each in a thread of its own; the caller's thread is one of these, so that one worker starts none.
-pub(crate) fn run<
-    R: Wait + Threads + Sync,
-    S: Shapes + Send + Sync,
-    P: Rank + Sync,
-    G: Gate + Sync,
->(
+pub(crate) fn run<R: Wait + Threads + Sync, S: Shapes + Send + Sync, P: Rank + Sync>(
     rt: &R,
     alloc: Global,
     chart: &SharedChart<S>,
     posts: &mut [Post<S>],
     shapes: &S,
     priority: &P,
-    gate: &G,
+    gate: &dyn Gate,
 )
 where
     S::Shape: Send + Sync,

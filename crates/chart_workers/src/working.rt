@@ -7,7 +7,6 @@ ghost use Rattle.chart_workers.specs.Turns.{GoesOn};
 ghost use Rattle.chart_workers.specs.Endings.{is_over, EntersOn, TurnsTo, GivesUp, EndsAs};
 
 use crate::Ended;
-use crate::gate::Gate;
 use crate::over::{ChartOver, look};
 use crate::priority::Rank;
 use crate::pushing::{push_all, ranked};
@@ -18,6 +17,7 @@ use shared_chart::{ChartSeat, SharedChart, Unready};
 use std::alloc::Global;
 use std::sync::Wait;
 use task_pool::PoolSeat;
+use worker_gate::Gate;
 
 /// What came of one task.
 pub(crate) enum Turned {
@@ -153,7 +153,7 @@ fn one_task<R: Wait, S: Shapes, P: Rank>(
 /// It takes what is in `kept` first, and then asks its seat of the pool. It tells the gate of each task, asks how the task
 /// stands, finds its outcome without the lock, enters it, and pushes the new tasks in the order of their ranks. A task that
 /// isn't made yet is asked for again. It calls `stop` where it ends with `Full` or `NoMemory`, and nowhere else.
-pub fn work<R: Wait, S: Shapes, P: Rank, G: Gate>(
+pub fn work<R: Wait, S: Shapes, P: Rank>(
     rt: &R,
     alloc: Global,
     number: u32,
@@ -162,8 +162,9 @@ pub fn work<R: Wait, S: Shapes, P: Rank, G: Gate>(
     pool: &mut PoolSeat,
     kept: Vec<TaskId>,
     shapes: &S,
+    work: &mut S::Work,
     priority: &P,
-    gate: &G,
+    gate: &dyn Gate,
 ) -> Ended
     requires seat { seat_id seat.old ≡ chart_id chart.now }
     requires shapes { shapes.now ≡ shapes_of seat.old }
@@ -171,16 +172,13 @@ pub fn work<R: Wait, S: Shapes, P: Rank, G: Gate>(
     ensures { EndsAs (grammar_of S.Shapes S.Cover.Cover.own shapes.now) seat.old result seat.new }
 {
     let mut kept = kept;
-    let Ok(mut work) = shapes.work(alloc) else {
-        return give_up(rt, chart, seat, Ended::NoMemory);
-    };
     for _ in rt.forever() {
         let Some(task) = take(rt, chart, seat, pool, &mut kept) else {
             return last(rt, chart, seat);
         };
         gate.at(number, task.0);
         match one_task(
-            rt, alloc, chart, seat, pool, &mut kept, shapes, &mut work, priority, task,
+            rt, alloc, chart, seat, pool, &mut kept, shapes, work, priority, task,
         ) {
             Turned::Goes => {}
             Turned::Over => return last(rt, chart, seat),

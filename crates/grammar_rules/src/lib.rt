@@ -9,7 +9,7 @@ mod parsing;
 
 use derivation::Tree;
 use packed_items::Found;
-pub use parsing::parse_words;
+pub use parsing::{LineWork, parse_words};
 use std::alloc::{AllocError, AllocFailed};
 
 /// The answer to a line.

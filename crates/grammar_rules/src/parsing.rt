@@ -23,6 +23,7 @@ ghost use Rattle.grammar_rules.specs.Views.{item_answer};
 
 use crate::{ItemAnswer, NoMemory};
 use chart_core::{Leaf, Limits};
+use chart_workers::{BySize, Crew};
 use cover::Span;
 use fs_unify::Scratch;
 use grammar_shapes::{GrammarShapes, Place};
@@ -33,7 +34,9 @@ use packed_items::answer_leaves;
 use rule_trees::{FullStructure, LineFulls, SignBook, SignFulls};
 use spelling_rules::Spelling;
 use std::alloc::Global;
-use std::sync::Arc;
+use std::sync::{Arc, Wait};
+use std::thread::Threads;
+use worker_gate::Gate;
 
 // The span between two nodes.
 fn span_of(from: u32, to: u32) -> Span
@@ -119,10 +122,22 @@ fn leaves_of<'s>(
     Ok(leaves)
 }
 
+/// What a line is worked out with: the scratches of unification, kept from one line to the next. None of what they hold enters
+/// into an answer.
+#[derive(Drop)]
+pub struct LineWork {
+    /// for the shapes of leaves and the chart
+    pub chart: Scratch,
+    /// for lexical trees and unpacking
+    pub trees: Scratch,
+}
+
 // What chart and unpacking find over these lexical trees.
-fn answer_trees<'a, 's>(
+fn answer_trees<'a, 's, R: Wait + Threads + Sync>(
+    rt: &R,
     alloc: Global,
-    work: &mut Scratch,
+    work: &mut LineWork,
+    crew: &mut Crew<Scratch>,
     signs: &'a SignBook<'a>,
     shapes: &GrammarShapes<'s>,
     _lexicon: &Lexicon,
@@ -131,6 +146,7 @@ fn answer_trees<'a, 's>(
     trees: &'a [LexTree<FullStructure>],
     end: u32,
     limits: &Limits,
+    gate: &dyn Gate,
 ) -> Result<ItemAnswer, NoMemory>
     requires shapes { AreShapesOf signs.now shapes.now }
     requires have { HaveAll signs.now _lexicon.now _spelling.now }
@@ -141,13 +157,25 @@ fn answer_trees<'a, 's>(
 {
     let lexical = SignFulls { signs };
     lexical.laws();
-    let leaves = leaves_of(alloc, work, signs, shapes, trees)?;
+    let leaves = leaves_of(alloc, &mut work.chart, signs, shapes, trees)?;
     let fulls = LineFulls {
         signs,
         leaves: trees,
         end,
     };
-    let found = answer_leaves(alloc, shapes, work, leaves, &fulls, limits);
+    let found = answer_leaves(
+        rt,
+        alloc,
+        shapes,
+        &mut work.chart,
+        &mut work.trees,
+        crew,
+        &BySize,
+        leaves,
+        &fulls,
+        limits,
+        gate,
+    );
     let LineFulls {
         signs: _signs,
         leaves: _leaves,
@@ -164,11 +192,14 @@ fn answer_trees<'a, 's>(
 /// they, each once, in the order of trees, with the number of packed classes.
 ///
 /// `shapes` and `feeds`, which says what lexical rule may apply to what, are made of the signs, once for a grammar; lexicon
-/// and spelling have its entries and lexical rules by number.
+/// and spelling have its entries and lexical rules by number. The workers of `crew` make the edges, smaller ones first; how many
+/// they are, and the gate, change no answer.
 /// `NoMemory` may come in place of any answer.
-pub fn parse_words<'a>(
+pub fn parse_words<'a, R: Wait + Threads + Sync>(
+    rt: &R,
     alloc: Global,
-    work: &mut Scratch,
+    work: &mut LineWork,
+    crew: &mut Crew<Scratch>,
     signs: &'a SignBook<'a>,
     shapes: &GrammarShapes<'_>,
     feeds: &Feeds,
@@ -176,6 +207,7 @@ pub fn parse_words<'a>(
     spelling: &Spelling,
     lattice: &Lattice,
     limits: &Limits,
+    gate: &dyn Gate,
 ) -> Result<ItemAnswer, NoMemory>
     requires shapes { AreShapesOf signs.now shapes.now }
     requires feeds { AreFeedsOf signs.now feeds.now }
@@ -186,12 +218,23 @@ pub fn parse_words<'a>(
 {
     let fulls = SignFulls { signs };
     let most = limits.lexical;
-    match lexical_trees(alloc, &fulls, work, lexicon, spelling, feeds, lattice, most)? {
+    match lexical_trees(
+        alloc,
+        &fulls,
+        &mut work.trees,
+        lexicon,
+        spelling,
+        feeds,
+        lattice,
+        most,
+    )? {
         LexTrees::TooDeep => Ok(ItemAnswer::LexicalDepth),
         LexTrees::Trees(trees) => {
             answer_trees(
+                rt,
                 alloc,
                 work,
+                crew,
                 signs,
                 shapes,
                 lexicon,
@@ -200,6 +243,7 @@ pub fn parse_words<'a>(
                 &trees,
                 lattice.end,
                 limits,
+                gate,
             )
         }
     }

@@ -11,18 +11,26 @@ use crate::lattices::lattice_of_line;
 use crate::reports::{report_of, report_of_no_lattice, report_of_no_text};
 use book_signs::SignBook;
 use chart_core::Limits;
+use chart_workers::Crew;
 use endings::lines::Answers;
 use endings::pieces::Report;
 use fs_unify::Scratch;
-use grammar_rules::parse_words;
+use grammar_rules::{LineWork, parse_words};
 use grammar_shapes::GrammarShapes;
 use lexicon::Lexicon;
 use morph_analysis::{Feeds, Lattice, LatticeFault};
 use spelling_rules::Spelling;
 use std::alloc::Global;
-use std::sync::Wait;
+use std::sync::{Mutex, Wait};
 use std::thread::Threads;
 use worker_gate::Gate;
+
+// What is kept from one line to the next: what a line is worked out with, and the workers.
+#[derive(Drop)]
+pub(crate) struct Desk {
+    pub(crate) work: LineWork,
+    pub(crate) crew: Crew<Scratch>,
+}
 
 /// What answers lines by the trees that a grammar licenses for them.
 #[derive(Drop)]
@@ -36,6 +44,8 @@ pub(crate) struct Parser<'a> {
     pub(crate) limits: Limits,
     // whether a line writes a lattice
     pub(crate) lattice: bool,
+    // one line is answered at a time
+    pub(crate) desk: Mutex<Desk>,
     ghost shapes_are: { AreShapesOf signs.now shapes.now },
     ghost feeds_are: { AreFeedsOf signs.now feeds.now } by { Prim.hlevel list_props },
     ghost have: { HaveAll signs.now lexicon.now spelling.now } by { Prim.hlevel list_props },
@@ -45,6 +55,7 @@ pub(crate) struct Parser<'a> {
 
 impl Parser<'_> {
     ghost use Rattle.std.specs.Prelude.{◌≡◌, ◌<◌, ◌^◌, length, map, IfOk};
+    ghost use Rattle.std.specs.Thread.{IsSync};
     ghost use Rattle.std.specs.Str.{chars, IsUtf8};
     ghost use Rattle.morph_analysis.specs.Lattices.{IsValid};
     ghost use Rattle.morph_analysis.specs.LatticeViews.{lattice_of};
@@ -52,15 +63,26 @@ impl Parser<'_> {
     ghost use Rattle.line_commands.specs.Inner.Parsers.{speech_of, asked_of, IsReportOf};
 
     // The report on the lattice of the line of this number.
-    fn parsed(&self, alloc: Global, number: u64, lattice: &Lattice) -> Result<Report, NoMemory>
-        requires { IsValid (lattice_of lattice.now) }
+    fn parsed<Rt: Threads + Wait + Sync>(
+        &self,
+        rt: &Rt,
+        alloc: Global,
+        number: u64,
+        lattice: &Lattice,
+        gate: &dyn Gate,
+    ) -> Result<Report, NoMemory>
+        requires sync { IsSync Rt.row }
+        requires valid { IsValid (lattice_of lattice.now) }
         ensures { IfOk result (λ r. IsReportOf self.now number (lattice_of lattice.now) (map (λ l. l.items) r.lines.items) r.refused) }
     {
         self.signs.laws();
-        let mut work = Scratch::new(alloc);
+        let mut desk = self.desk.lock(rt);
+        let desk = &mut *desk;
         let answer = parse_words(
+            rt,
             alloc,
-            &mut work,
+            &mut desk.work,
+            &mut desk.crew,
             self.signs,
             self.shapes,
             self.feeds,
@@ -68,17 +90,26 @@ impl Parser<'_> {
             self.spelling,
             lattice,
             &self.limits,
+            gate,
         )?;
         report_of(alloc, number, &answer, self.names, self.lattice)
     }
 
     // The report on a line that is text.
-    fn text_report(&self, alloc: Global, number: u64, line: &str) -> Result<Report, NoMemory>
+    fn text_report<Rt: Threads + Wait + Sync>(
+        &self,
+        rt: &Rt,
+        alloc: Global,
+        number: u64,
+        line: &str,
+        gate: &dyn Gate,
+    ) -> Result<Report, NoMemory>
+        requires sync { IsSync Rt.row }
         requires few { length line.now < 2 ^ 32 }
         ensures { IfOk result (λ r. IsAnswer (speech_of self.now) (asked_of self.now) number line.now (map (λ l. l.items) r.lines.items) r.refused) }
     {
         match lattice_of_line(alloc, line, self.lattice) {
-            Ok(lattice) => self.parsed(alloc, number, &lattice),
+            Ok(lattice) => self.parsed(rt, alloc, number, &lattice, gate),
             Err(LatticeFault::At { at }) => report_of_no_lattice(alloc, number, at),
             Err(LatticeFault::NoMemory) => Err(NoMemory),
         }
@@ -86,14 +117,22 @@ impl Parser<'_> {
 
     /// The report on the line of this number. A line that is longer than a `u32` can say counts as want of memory; no line of the
     /// program is.
-    pub(crate) fn report(&self, alloc: Global, number: u64, line: &[u8]) -> Result<Report, NoMemory>
+    pub(crate) fn report<Rt: Threads + Wait + Sync>(
+        &self,
+        rt: &Rt,
+        alloc: Global,
+        number: u64,
+        line: &[u8],
+        gate: &dyn Gate,
+    ) -> Result<Report, NoMemory>
+        requires { IsSync Rt.row }
         ensures { IfOk result (λ r. IsAnswer (speech_of self.now) (asked_of self.now) number line.now (map (λ l. l.items) r.lines.items) r.refused) }
     {
         if line.len() > u32::MAX as usize {
             return Err(NoMemory);
         }
         match str::from_utf8(line) {
-            Ok(text) => self.text_report(alloc, number, text),
+            Ok(text) => self.text_report(rt, alloc, number, text, gate),
             Err(_) => report_of_no_text(alloc, number),
         }
     }
@@ -107,13 +146,13 @@ impl Answers for Parser<'_> {
 
     fn answer<Rt: Threads + Wait + Sync>(
         &self,
-        _rt: &Rt,
+        rt: &Rt,
         alloc: Global,
         number: u64,
         line: &[u8],
-        _gate: &dyn Gate,
+        gate: &dyn Gate,
     ) -> Result<Report, endings::lines::NoMemory> {
-        match self.report(alloc, number, line) {
+        match self.report(rt, alloc, number, line, gate) {
             Ok(report) => Ok(report),
             Err(_) => Err(endings::lines::NoMemory),
         }

@@ -2,6 +2,7 @@
 
 ghost use Rattle.std.specs.Prelude.{◌≡◌, option_map};
 ghost use Rattle.chart_core.specs.Kept.{InRange};
+ghost use Rattle.chart_workers.specs.Crews.{IsCrewSize};
 ghost use Rattle.book_signs.specs.Conditions.{IsWhole};
 ghost use Rattle.grammar_rules.specs.Lines.{AreShapesOf, AreFeedsOf};
 ghost use Rattle.grammar_load.specs.Conditions.{IsLoaded};
@@ -13,20 +14,23 @@ ghost use Rattle.command_grammars.specs.Grammars.{HasGrammar};
 ghost use Rattle.line_commands.specs.Parsing.{parse_meaning};
 ghost use Rattle.line_commands.specs.Views.{asked_with};
 
-use crate::answering::Parser;
+use crate::answering::{Desk, Parser};
 use crate::rules::{rule_feeds, shapes_of};
 use book_signs::SignBook;
 use book_signs::laws::whole_book;
 use chart_core::Limits;
+use chart_workers::Crew;
 use command_grammars::load_grammar;
 use endings::lines::serve;
 use endings::{Fault, Stop};
+use fs_unify::Scratch;
 use grammar_load::Grammar;
+use grammar_rules::LineWork;
 use grammar_shapes::GrammarShapes;
 use lkb_io::{Shelf, Sink, Source};
 use morph_analysis::Feeds;
 use std::alloc::Global;
-use std::sync::Wait;
+use std::sync::{Mutex, Wait};
 use std::thread::Threads;
 use worker_gate::Gate;
 
@@ -37,6 +41,8 @@ pub struct Parse<'a> {
     pub settings: Option<&'a str>,
     /// The limits, each in its range.
     pub limits: Limits,
+    /// How many workers fill a chart, 1 to 64. It changes no answer.
+    pub workers: u32,
     /// Whether each line writes a lattice of words.
     pub lattice: bool,
 }
@@ -55,6 +61,7 @@ fn parse_with_shapes<I: Source, O: Sink, Rt: Threads + Wait + Sync>(
     gate: &dyn Gate,
 ) -> Result<bool, Fault>
     requires limits { InRange command.now.limits }
+    requires workers { IsCrewSize command.now.workers }
     requires loaded { IsLoaded (grammar_of grammar.now) }
     requires book { signs.now.book ≡ grammar.now.book }
     requires shapes { AreShapesOf signs.now shapes.now }
@@ -64,6 +71,13 @@ fn parse_with_shapes<I: Source, O: Sink, Rt: Threads + Wait + Sync>(
         (streams I.left I.faults O.written O.flushed O.faults input.old input.new out.old out.new) (input.new ≡ input.old) ((input.new ≡ input.old) × (out.new ≡ out.old)) result }
 {
     signs.laws();
+    let desk = Desk {
+        work: LineWork {
+            chart: Scratch::new(alloc),
+            trees: Scratch::new(alloc),
+        },
+        crew: Crew::new(alloc, command.workers),
+    };
     let parser = Parser {
         signs,
         shapes,
@@ -73,6 +87,7 @@ fn parse_with_shapes<I: Source, O: Sink, Rt: Threads + Wait + Sync>(
         names: &grammar.names,
         limits: command.limits,
         lattice: command.lattice,
+        desk: Mutex::new(desk),
     };
     let refused = serve(rt, alloc, &parser, input, out, gate)?;
     Ok(refused)
@@ -90,6 +105,7 @@ fn parse_with_signs<I: Source, O: Sink, Rt: Threads + Wait + Sync>(
     gate: &dyn Gate,
 ) -> Result<bool, Fault>
     requires limits { InRange command.now.limits }
+    requires workers { IsCrewSize command.now.workers }
     requires loaded { IsLoaded (grammar_of grammar.now) }
     requires book { signs.now.book ≡ grammar.now.book }
     ensures { (h : Shelves) → HasGrammar h.files command.now.grammar.now (option_map (λ s. s.now) command.now.settings) (grammar_of grammar.now)
@@ -118,6 +134,7 @@ fn parse_with<I: Source, O: Sink, Rt: Threads + Wait + Sync>(
     gate: &dyn Gate,
 ) -> Result<bool, Fault>
     requires limits { InRange command.now.limits }
+    requires workers { IsCrewSize command.now.workers }
     requires loaded { IsLoaded (grammar_of grammar.now) }
     requires whole { IsWhole grammar.now.book }
     ensures { (h : Shelves) → HasGrammar h.files command.now.grammar.now (option_map (λ s. s.now) command.now.settings) (grammar_of grammar.now)
@@ -141,7 +158,8 @@ pub fn parse_lines<S: Shelf, I: Source, O: Sink, Rt: Threads + Wait + Sync>(
     out: &mut O,
     gate: &dyn Gate,
 ) -> Result<bool, Fault>
-    requires { InRange command.now.limits }
+    requires limits { InRange command.now.limits }
+    requires workers { IsCrewSize command.now.workers }
     ensures { Ended (parse_meaning command.now.grammar.now (option_map (λ s. s.now) command.now.settings) (asked_with command.now.limits command.now.lattice)) (shelves S.files S.faults S.asked shelf.old shelf.new)
         (streams I.left I.faults O.written O.flushed O.faults input.old input.new out.old out.new) (input.new ≡ input.old) ((input.new ≡ input.old) × (out.new ≡ out.old)) result }
 {

@@ -13,10 +13,14 @@ ghost use Rattle.chart_core.specs.Passed.{IsPassed, IsPassFault};
 ghost use Rattle.packed_items.specs.Packed.{Fit, IsFound};
 
 use chart_core::{ChartFault, Finished, Leaf, Limits, ordered_pass};
+use chart_workers::{Crew, Rank, saturate};
 use cover::Shapes;
 use derivation::Tree;
 use forest_unpack::{Fulls, UnpackFault, unpack};
 use std::alloc::Global;
+use std::sync::Wait;
+use std::thread::Threads;
+use worker_gate::Gate;
 
 /// What is found over the leaves of an item.
 #[derive(Debug, Drop)]
@@ -35,27 +39,78 @@ pub enum Found {
 #[derive(Debug, Drop, Clone, Copy, PartialEq, Eq)]
 pub struct NoMemory;
 
-/// Finishes the chart over these leaves and unpacks it.
+// Below so many leaves one worker is done before a second one has started.
+const FEW: usize = 6;
+
+// Finishes the chart over these leaves: one worker by the ordered pass, on the caller's thread, and so it is done where leaves are
+// few; otherwise all workers together.
+fn finish_chart<R: Wait + Threads + Sync, S: Shapes + Send + Sync, P: Rank + Sync>(
+    rt: &R,
+    alloc: Global,
+    leaves: Vec<Leaf<S>>,
+    shapes: &S,
+    work: &mut S::Work,
+    crew: &mut Crew<S::Work>,
+    priority: &P,
+    limits: &Limits,
+    gate: &dyn Gate,
+) -> Result<Finished<S>, ChartFault>
+where
+    S::Shape: Send + Sync,
+    S::Cover: Send + Sync,
+    S::Work: Send + Sync,
+    requires limits { InRange limits.now }
+    requires leaves { All (LeafBelongs (S.calculus shapes.now) (S.belongs shapes.now)) leaves.items }
+    ensures { MatchResult result
+        (IsPassed (grammar_of S.Shapes S.Cover.Cover.own shapes.now) (S.full shapes.now) (S.agrees shapes.now) (limits_seen limits.now) (map (leaf_seen (S.meaning shapes.now)) leaves.items))
+        (IsPassFault (S.calculus shapes.now) (limits_seen limits.now) (map (leaf_seen (S.meaning shapes.now)) leaves.items)) }
+{
+    if crew.is_alone() || leaves.len() < FEW {
+        return ordered_pass(alloc, leaves, shapes, work, limits);
+    }
+    saturate(
+        rt, alloc, leaves, shapes, work, crew, priority, limits, gate,
+    )
+}
+
+/// Finishes the chart over these leaves, by the workers of `crew`, and unpacks it.
 ///
 /// `shapes` is the grammar that the leaves' shapes belong to, and `fulls` the full structures over the leaves, by their names.
 /// The answer is that of the limits on unary chains and packed classes, where one of them is broken; within them it is the
-/// trees that `fulls` asks for, or that there are more than `limits.readings` of them. `NoMemory` may come in place of any
-/// answer.
-pub fn answer_leaves<S: Shapes, F: Fulls<Cover = S::Cover, Work = S::Work>>(
+/// trees that `fulls` asks for, or that there are more than `limits.readings` of them. Workers, the order of their tasks and
+/// the gate change no answer. `work` is the scratch of shapes and chart, and `trees` that of full structures. `NoMemory` may come
+/// in place of any answer.
+pub fn answer_leaves<
+    R: Wait + Threads + Sync,
+    S: Shapes + Send + Sync,
+    F: Fulls<Cover = S::Cover>,
+    P: Rank + Sync,
+>(
+    rt: &R,
     alloc: Global,
     shapes: &S,
     work: &mut S::Work,
+    trees: &mut F::Work,
+    crew: &mut Crew<S::Work>,
+    priority: &P,
     leaves: Vec<Leaf<S>>,
     fulls: &F,
     limits: &Limits,
+    gate: &dyn Gate,
 ) -> Result<Found, NoMemory>
+where
+    S::Shape: Send + Sync,
+    S::Cover: Send + Sync,
+    S::Work: Send + Sync,
     requires limits { InRange limits.now }
     requires leaves { All (LeafBelongs (S.calculus shapes.now) (S.belongs shapes.now)) leaves.items }
     requires fit { Fit (S.calculus shapes.now) (S.full shapes.now) (S.agrees shapes.now) (F.wholes fulls.now) (F.named fulls.now) (F.ruled fulls.now) (map (leaf_seen (S.meaning shapes.now)) leaves.items) }
     ensures { IfOk result (IsFound (S.calculus shapes.now) (S.full shapes.now) (S.agrees shapes.now) (F.wholes fulls.now) limits.now (map (leaf_seen (S.meaning shapes.now)) leaves.items)) }
 {
-    match ordered_pass(alloc, leaves, shapes, work, limits) {
-        Ok(finished) => answer_chart(alloc, shapes, work, &finished, fulls, limits),
+    match finish_chart(
+        rt, alloc, leaves, shapes, work, crew, priority, limits, gate,
+    ) {
+        Ok(finished) => answer_chart(alloc, shapes, trees, &finished, fulls, limits),
         Err(ChartFault::UnaryChain { .. }) => Ok(Found::UnaryChain),
         Err(ChartFault::Edges { .. }) => Ok(Found::Edges),
         Err(ChartFault::NoMemory) => Err(NoMemory),
@@ -63,10 +118,10 @@ pub fn answer_leaves<S: Shapes, F: Fulls<Cover = S::Cover, Work = S::Work>>(
 }
 
 // What a finished chart within the limits gives.
-fn answer_chart<S: Shapes, F: Fulls<Cover = S::Cover, Work = S::Work>>(
+fn answer_chart<S: Shapes, F: Fulls<Cover = S::Cover>>(
     alloc: Global,
     shapes: &S,
-    work: &mut S::Work,
+    work: &mut F::Work,
     finished: &Finished<S>,
     fulls: &F,
     limits: &Limits,

@@ -10,6 +10,7 @@ mod calls;
 mod chart;
 mod ends;
 mod entering;
+mod informing;
 mod seat;
 mod shared;
 mod stopping;

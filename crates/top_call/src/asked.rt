@@ -1,6 +1,7 @@
 //! What the words of the command line ask for, as a command. A command is one arm of `do_task`, and one of `is_built`.
 ghost use Rattle.std.specs.Prelude.{◌≡◌, IfOk, IfErr, map, string_bytes, true, false};
 ghost use Rattle.chart_core.specs.Kept.{InRange};
+ghost use Rattle.chart_workers.specs.Crews.{IsCrewSize};
 ghost use Rattle.command_line.specs.Commands.{form, options_in};
 ghost use Rattle.command_line.specs.Words.{AreWithin};
 ghost use Rattle.command_line.specs.declared.reading.WordsFault.{WordsFault};
@@ -93,6 +94,14 @@ fn limits_of(options: &Options) -> Limits
     }
 }
 
+// How many workers the options ask for.
+fn workers_of(options: &Options) -> u32
+    requires { AreWithin (options_in options.now) }
+    ensures { IsCrewSize result }
+{
+    options.workers as u32
+}
+
 // Does a task under these options. A command is one arm.
 fn do_task<S: Shelf, I: Source, O: Sink, Rt: Threads + Wait + Sync>(
     rt: &Rt,
@@ -116,6 +125,7 @@ fn do_task<S: Shelf, I: Source, O: Sink, Rt: Threads + Wait + Sync>(
                 grammar,
                 settings,
                 limits: limits_of(&options),
+                workers: workers_of(&options),
                 lattice: options.lattice,
             };
             parse_lines(rt, alloc, &command, shelf, input, out, gate)

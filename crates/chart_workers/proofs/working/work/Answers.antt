@@ -10,8 +10,8 @@ use Rattle.chart_workers.proofs.working.work.Goals as goal
 pub loop-init : goal.loop-init
 loop-init g c = goes_itself (grammar_of g.S.Shapes g.S.Cover.Cover c.args.shapes.now) c.args.seat.now c.requires.core
 
-pub returns-in_default-take : goal.returns-in_default-take
-returns-in_default-take g c =
+pub returns-in_default : goal.returns-in_default
+returns-in_default g c =
     let gr = grammar_of g.S.Shapes g.S.Cover.Cover c.args.shapes.now in let a = c.args.seat.now in let l = c.loop.seat in let t = c.take.new.seat in let i = c.loop.invariant in
     let taken = goes_then gr a l t i (subst (λ s. GoesOn (grammar_of g.S.Shapes g.S.Cover.Cover s) l t) (i.same.shapes ∙ sym c.requires.shapes) c.take.ensures.seat) in
     let p = c.last.new.seat in
@@ -31,8 +31,8 @@ returns-in-Over g c =
     let p = c.last-in-Over.new.seat in
     ends_after gr a o p c.last-in-Over.result worked (subst (λ s. EndsAs (grammar_of g.S.Shapes g.S.Cover.Cover s) o c.last-in-Over.result p) (worked.same.shapes ∙ sym c.requires.shapes) c.last-in-Over.ensures)
 
-pub give_up-requires-in-Full-clause-why : goal.give_up-requires-in-Full-clause-why
-give_up-requires-in-Full-clause-why g c =
+pub give_up-requires-clause-why : goal.give_up-requires-clause-why
+give_up-requires-clause-why g c =
     let gr = grammar_of g.S.Shapes g.S.Cover.Cover c.args.shapes.now in let a = c.args.seat.now in let l = c.loop.seat in let t = c.take.new.seat in let i = c.loop.invariant in
     let taken = goes_then gr a l t i (subst (λ s. GoesOn (grammar_of g.S.Shapes g.S.Cover.Cover s) l t) (i.same.shapes ∙ sym c.requires.shapes) c.take.ensures.seat) in
     let o = c.one_task.new.seat in let worked = goes_then gr a t o taken c.one_task.ensures.seat in
@@ -43,8 +43,8 @@ returns-in-Full g c =
     let gr = grammar_of g.S.Shapes g.S.Cover.Cover c.args.shapes.now in let a = c.args.seat.now in let l = c.loop.seat in let t = c.take.new.seat in let i = c.loop.invariant in
     let taken = goes_then gr a l t i (subst (λ s. GoesOn (grammar_of g.S.Shapes g.S.Cover.Cover s) l t) (i.same.shapes ∙ sym c.requires.shapes) c.take.ensures.seat) in
     let o = c.one_task.new.seat in let worked = goes_then gr a t o taken c.one_task.ensures.seat in
-    let p = c.give_up-in-Full.new.seat in
-    ends_after gr a o p c.give_up-in-Full.result worked (subst (λ s. EndsAs (grammar_of g.S.Shapes g.S.Cover.Cover s) o c.give_up-in-Full.result p) (worked.same.shapes ∙ sym c.requires.shapes) c.give_up-in-Full.ensures)
+    let p = c.give_up.new.seat in
+    ends_after gr a o p c.give_up.result worked (subst (λ s. EndsAs (grammar_of g.S.Shapes g.S.Cover.Cover s) o c.give_up.result p) (worked.same.shapes ∙ sym c.requires.shapes) c.give_up.ensures)
 
 pub returns-in-NoMemory : goal.returns-in-NoMemory
 returns-in-NoMemory g c =

@@ -14,25 +14,25 @@ use Rattle.grammar_rules.proofs.Calls.{all_lexemes, lexeme_sound, call_fit, call
 use Rattle.grammar_rules.proofs.parsing.answer_trees.Goals as goal
 
 pub leaves_of-requires-clause-forward : goal.leaves_of-requires-clause-forward
-leaves_of-requires-clause-forward c =
+leaves_of-requires-clause-forward g c =
     let g = signs_of c.args.signs.now in
     all_lexemes (lexeme_seen (λ full. view_in c.args.signs.now full.graph)) g (words_said (entries_of g) (lexical_rules_of g) c.args._lexicon.now c.args._spelling.now) (lattice_seen (lattice_of c.args._lattice.now)) c.args.limits.now.lexical (λ x. x.from < x.to) c.args.trees.now (λ x h. h.forward) c.requires.known.1
 
 pub leaves_of-requires-clause-sound : goal.leaves_of-requires-clause-sound
-leaves_of-requires-clause-sound c =
+leaves_of-requires-clause-sound g c =
     let g = signs_of c.args.signs.now in
     let words = words_said (entries_of g) (lexical_rules_of g) c.args._lexicon.now c.args._spelling.now in
     all_lexemes (lexeme_seen (λ full. view_in c.args.signs.now full.graph)) g words (lattice_seen (lattice_of c.args._lattice.now)) c.args.limits.now.lexical (λ x. AreConsistent g.system (Meant (rule_system g) x.full)) c.args.trees.now
     (lexeme_sound g words (lattice_seen (lattice_of c.args._lattice.now)) c.args.limits.now.lexical) c.requires.known.1
 
 pub answer_leaves-found-requires-clause-fit : goal.answer_leaves-found-requires-clause-fit
-answer_leaves-found-requires-clause-fit c =
+answer_leaves-found-requires-clause-fit g c κs within =
     let g = signs_of c.args.signs.now in
     call_fit c.args.signs.now c.args.shapes.now c.requires.shapes (meaning_of c.args.shapes.now) (words_said (entries_of g) (lexical_rules_of g) c.args._lexicon.now c.args._spelling.now) (lattice_seen (lattice_of c.args._lattice.now)) c.args.limits.now c.laws.ensures.order
     (lexeme_seen (λ full. view_in c.args.signs.now full.graph)) c.args.trees.now c.in_ok-leaves.leaves.items c.requires.known c.in_ok-leaves.ensures.lined c.args.end c.requires.end
 
 pub returns-in-Ok : goal.returns-in-Ok
-returns-in-Ok c =
+returns-in-Ok g c =
     let g = signs_of c.args.signs.now in
     call_answer c.args.signs.now c.args.shapes.now c.requires.shapes (meaning_of c.args.shapes.now) (words_said (entries_of g) (lexical_rules_of g) c.args._lexicon.now c.args._spelling.now) (lattice_seen (lattice_of c.args._lattice.now)) c.args.limits.now c.laws.ensures.order
     (lexeme_seen (λ full. view_in c.args.signs.now full.graph)) c.args.trees.now c.in_ok-leaves.leaves.items c.requires.known c.in_ok-leaves.ensures.lined c.args.end c.requires.end c.in-Ok.found (item_answer c.of_found.result) c.in-Ok.ensures c.of_found.ensures

@@ -9,7 +9,7 @@ use Rattle.lexical_items.specs.Views.{lexeme_seen, lexical_seen}
 use Rattle.grammar_rules.proofs.parsing.parse_words.Goals as goal
 
 pub answer_trees-requires-clause-known : goal.answer_trees-requires-clause-known
-answer_trees-requires-clause-known c =
+answer_trees-requires-clause-known g c κs within =
     let g = signs_of c.args.signs.now in
     let words = words_said (entries_of g) (lexical_rules_of g) c.args.lexicon.now c.args.spelling.now in
     let lattice = lattice_seen (lattice_of c.args.lattice.now) in

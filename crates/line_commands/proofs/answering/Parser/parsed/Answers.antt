@@ -10,12 +10,12 @@ use Rattle.line_commands.proofs.Answered.{if-both}
 use Rattle.line_commands.proofs.answering.Parser.parsed.Goals as goal
 
 pub report_of-requires : goal.report_of-requires
-report_of-requires c =
+report_of-requires g c =
     let p = c.args.self.now in
     answer-named (signs_of p.signs.now) (speech_of p).words (lattice_seen (lattice_of c.args.lattice.now)) (asked_of p).lexical (asked_of p).limits (item_answer c.in_ok-answer.answer) (length p.names.now) p.named c.in_ok-answer.ensures
 
 pub returns : goal.returns
-returns c =
+returns g c =
     let p = c.args.self.now in
     let a = item_answer c.in_ok-answer.answer in
     if-both c.report_of.result

@@ -6,7 +6,7 @@ use Rattle.line_commands.proofs.Answered.{if-both, no-text-with}
 use Rattle.line_commands.proofs.answering.Parser.report.Goals as goal
 
 pub returns-in-Err : goal.returns-in-Err
-returns-in-Err c =
+returns-in-Err g c =
     let p = c.args.self.now in
     if-both c.report_of_no_text.result
     (λ r. map (λ l. l.items) r.lines.items ≡ no_text_line c.args.number ∷ [])

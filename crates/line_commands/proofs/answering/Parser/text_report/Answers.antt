@@ -9,7 +9,7 @@ use Rattle.line_commands.proofs.Answered.{if-ok, if-both, answered-with, wrong-w
 use Rattle.line_commands.proofs.answering.Parser.text_report.Goals as goal
 
 pub returns-in-Ok : goal.returns-in-Ok
-returns-in-Ok c =
+returns-in-Ok g c =
     let p = c.args.self.now in
     if-ok c.parsed.result
     (λ r. IsReportOf p c.args.number (lattice_of c.in-Ok.lattice) (map (λ l. l.items) r.lines.items) r.refused)
@@ -18,7 +18,7 @@ returns-in-Ok c =
     c.parsed.ensures
 
 pub returns-in-Err-At : goal.returns-in-Err-At
-returns-in-Err-At c =
+returns-in-Err-At g c =
     let p = c.args.self.now in
     elim c.in-Err-At.ensures.fault [
       | inl e ↦ absurd (let same = e in cc)
