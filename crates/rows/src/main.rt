@@ -10,6 +10,7 @@ use std::rt::Files;
 use std::sync::Wait;
 use std::thread::Threads;
 
+mod held;
 mod row;
 
 // The word at the front of a line, and what stands after the blank that follows it.

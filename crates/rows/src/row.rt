@@ -1,5 +1,6 @@
 //! A row: words, the files of a shelf, the bytes of the input, and the calls that are to fail.
 use crate::front;
+use crate::held::HoldingGate;
 use endings::Status;
 use lkb_io::{MemShelf, MemSink, MemSource, ShelfFile, Source};
 use std::alloc::{AllocError, AllocGlobal, Global};
@@ -8,7 +9,7 @@ use std::sync::Wait;
 use std::thread::Threads;
 use std::{fs, io};
 use top_call::run;
-use worker_gate::OpenGate;
+use worker_gate::{Gate, OpenGate};
 
 /// What the steps said so far.
 #[derive(Drop)]
@@ -276,6 +277,8 @@ impl Row {
                 self.show_status(rt, out)?;
             }
             "each" => self.show_each(rt, counted(rest).0, out)?,
+            "held" => self.show_held(rt, counted(rest).0, out)?,
+            "times" => self.show_times(rt, counted(rest).0, out)?,
             _ => {}
         }
         Ok(())
@@ -309,6 +312,16 @@ impl Row {
         rt: &R,
         writes: &[u64],
     ) -> Result<Ran, AllocError> {
+        self.ran_past(rt, writes, &OpenGate)
+    }
+
+    // The same with a gate at which workers call.
+    fn ran_past<R: AllocGlobal + Threads + Wait + Sync>(
+        &self,
+        rt: &R,
+        writes: &[u64],
+        gate: &dyn Gate,
+    ) -> Result<Ran, AllocError> {
         let alloc = rt.alloc();
         let files = copies(alloc, &self.files)?;
         let mut shelf = MemShelf::new(files, Vec::from_slice(alloc, &self.fails.texts)?);
@@ -323,7 +336,7 @@ impl Row {
             &mut input,
             &mut out,
             &mut err,
-            &OpenGate,
+            gate,
         );
         let left = left_in(&mut input);
         Ok(Ran {
@@ -372,6 +385,46 @@ impl Row {
         let code = ran.status.code();
         let line = format!(in rt.alloc(); "{} {code} left {}\n", self.name, ran.left)?;
         out.extend_from_slice(line.as_bytes())?;
+        Ok(())
+    }
+
+    // Runs the program, whose worker that comes first is held at its first task until another one comes, and writes
+    // whether one came, whether exactly the tasks below a number were begun, each once, and what came of the run.
+    fn show_held<R: AllocGlobal + Threads + Wait + Sync>(
+        &self,
+        rt: &R,
+        tasks: u64,
+        out: &mut Vec<u8>,
+    ) -> io::Result<()> {
+        let gate = HoldingGate::new();
+        let ran = self.ran_past(rt, &self.fails.writes, &gate)?;
+        let code = ran.status.code();
+        let came = gate.second_came();
+        let each = gate.began_each_below(tasks as u32);
+        let head = format!(in rt.alloc(); "{} {code} {came} {each}\n", self.name)?;
+        out.extend_from_slice(head.as_bytes())?;
+        out.extend_from_slice(ran.out.bytes())?;
+        Ok(())
+    }
+
+    // Runs the program so many times more, and writes how many runs wrote what the first one wrote.
+    fn show_times<R: AllocGlobal + Threads + Wait + Sync>(
+        &self,
+        rt: &R,
+        count: u64,
+        out: &mut Vec<u8>,
+    ) -> io::Result<()> {
+        let first = self.ran(rt, &[])?;
+        let mut same = 0u64;
+        for _ in 0..count {
+            let ran = self.ran(rt, &[])?;
+            if ran.out.bytes() == first.out.bytes() {
+                same = same.wrapping_add(1);
+            }
+        }
+        let head = format!(in rt.alloc(); "{} {same} of {count}\n", self.name)?;
+        out.extend_from_slice(head.as_bytes())?;
+        out.extend_from_slice(first.out.bytes())?;
         Ok(())
     }
 

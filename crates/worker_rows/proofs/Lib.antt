@@ -1,0 +1,3 @@
+pub mod Sat
+pub mod Moved
+pub mod Found
