@@ -1,0 +1,12 @@
+pub mod Extracted
+pub mod Gathering
+pub mod Joining
+pub mod Lists
+pub mod Named
+pub mod Numbering
+pub mod Once
+pub mod Predicates
+pub mod Rising
+pub mod Sorting
+pub mod Spreading
+pub mod Validity

@@ -1,0 +1,4 @@
+pub mod Extraction
+pub mod Asked
+pub mod Laws
+pub mod Inner
