@@ -400,7 +400,7 @@ impl Row {
         let ran = self.ran_past(rt, &self.fails.writes, &gate)?;
         let code = ran.status.code();
         let came = gate.second_came();
-        let each = gate.began_each_below(tasks as u32);
+        let each = gate.began_each_below(u32::try_from(tasks).unwrap_or(0));
         let head = format!(in rt.alloc(); "{} {code} {came} {each}\n", self.name)?;
         out.extend_from_slice(head.as_bytes())?;
         out.extend_from_slice(ran.out.bytes())?;
