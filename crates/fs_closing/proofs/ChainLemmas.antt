@@ -6,6 +6,7 @@ use Rattle.std.proofs.Math.Seq.{get_or-append_seam}
 use Rattle.std.proofs.lemmas.List.{reverse-append, reverse-reverse, length-reverse}
 use Rattle.std.specs.Option.{option_map}
 use Rattle.fs_model.specs.Claims.{Has, here, there}
+use Rattle.fs_model.proofs.StepLemmas.{same_or_other}
 use Rattle.fs_closing.specs.declared.nodes.Cell.{Cell}
 use Rattle.fs_closing.proofs.HasLemmas.{Has-of_reverse, Has-at}
 use Rattle.fs_closing.specs.Cells.{chain_back, chain, find_arc, no_cell, PlacesFall, AreOnce}
@@ -110,6 +111,23 @@ find_arc-has (a ∷ cells) f m e = go (a.feat == f) refl e (find_arc-has cells f
     go false is e' rest =
         let r = rest (ap (λ b. option_map (λ x. x.to) (cond b (Some a) (find (λ x. x.feat == f) cells))) (sym is) ∙ e') in
         (r.0, there r.1, r.2, r.3)
+
+-- where a feature isn't found in the first list, it is sought in the second one
+pub find_right : (xs ys : List Cell) (f : ℕ) → find_arc xs f ≡ None → find_arc (xs ++ ys) f ≡ find_arc ys f
+find_right [] ys f e = refl
+find_right (x ∷ xs) ys f e = go (same_or_other x.feat f) (find_right xs ys f)
+  where
+    go : (x.feat ≡ f) ⊎ (x.feat ≢ f) → (find_arc xs f ≡ None → find_arc (xs ++ ys) f ≡ find_arc ys f) → find_arc (x ∷ (xs ++ ys)) f ≡ find_arc ys f
+    go (inl d) rest = absurd (let h : Some x.to ≡ None = sym (find_arc-here x xs f d) ∙ e in cc)
+    go (inr d) rest = find_arc-past x (xs ++ ys) f d ∙ rest (sym (find_arc-past x xs f d) ∙ e)
+
+pub find_left : (xs ys : List Cell) (f m : ℕ) → find_arc xs f ≡ Some m → find_arc (xs ++ ys) f ≡ Some m
+find_left [] ys f m e = absurd (let h : None ≡ Some m = e in cc)
+find_left (x ∷ xs) ys f m e = go (same_or_other x.feat f) (find_left xs ys f m)
+  where
+    go : (x.feat ≡ f) ⊎ (x.feat ≢ f) → (find_arc xs f ≡ Some m → find_arc (xs ++ ys) f ≡ Some m) → find_arc (x ∷ (xs ++ ys)) f ≡ Some m
+    go (inl d) rest = find_arc-here x (xs ++ ys) f d ∙ sym (find_arc-here x xs f d) ∙ e
+    go (inr d) rest = find_arc-past x (xs ++ ys) f d ∙ rest (sym (find_arc-past x xs f d) ∙ e)
 
 -- the cells from a place on are cells of the list
 back_has : (r : List Cell) (p : ℕ) (c : Cell) → Has c (chain_back r p) → Has c r

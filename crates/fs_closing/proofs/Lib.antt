@@ -1,7 +1,9 @@
 pub mod ChaseLemmas
 pub mod ChaseSet
 pub mod ChainLemmas
+pub mod OwnLemmas
 pub mod NodeLemmas
+pub mod EnterTable
 pub mod HasLemmas
 pub mod WorkLemmas
 pub mod KeepsLemmas

@@ -20,10 +20,11 @@ use Rattle.fs_closing.specs.declared.nodes.Cell.{Cell}
 use Rattle.fs_closing.specs.declared.tasks.Entry.{Entry}
 use Rattle.fs_closing.specs.NodeTable.{table_from}
 use Rattle.fs_closing.specs.Joined.{IsJoined}
+use Rattle.fs_closing.specs.NodeSteps.{KeepsArcs}
 use Rattle.fs_closing.specs.Rules.{Rule, Grammar, no_rule, facts_in, rules_with_facts, rules_above, system_of, HaveSame}
 use Rattle.fs_closing.specs.declared.tasks.Tasks.{Tasks}
 use Rattle.fs_closing.specs.Work.{entry_claims, work_of}
-use Rattle.fs_closing.specs.Keeps.{Deep, Turns, Refutes, IsSameWork, begin, IsHeld, PushesFacts, deep_of, Leads, StepsTo, Reaches}
+use Rattle.fs_closing.specs.Keeps.{Deep, Turns, Refutes, IsSameWork, begin, arc_claims, IsHeld, PushesFacts, deep_of, Leads, Clashes, StepsTo, Reaches}
 use Rattle.fs_closing.proofs.HasLemmas.{Has-left, Has-right, Has-either, Has-one, Has-map, Has-of_map}
 use Rattle.fs_closing.proofs.RangeLemmas.{Has-filter, Has-of_filter}
 use Rattle.fs_closing.proofs.RuleRowLemmas.{rule_in, rule_has}
@@ -39,6 +40,23 @@ pub attach_linked : (s : System) (x y : Deep) (n f to : ℕ) (work : List NodeCl
     Links x.table y.table n f to → ((k : ℕ) → y.depth k ≡ x.depth k) →
     Turns s x (is_same n (f ∷ []) to [] ∷ work) y (is_under n [] (s.introducer f) ∷ work)
 attach_linked s x y n f to work stays none links depth = Turns-links s x y n f to work stays (sym none) links depth
+
+pub Turns-none : (s : System) (x : Deep) (work : List NodeClaim) → Turns s x work x work
+Turns-none s x work extra g w old = (w, old)
+
+moved_back : (a b w : List NodeClaim) → IsSameWork ((a ++ b) ++ w) ((a ++ w) ++ b)
+moved_back a b w = record { into = λ c h. into c a b w h; back = λ c h. into c a w b h }
+  where
+    into : (c : NodeClaim) (a b w : List NodeClaim) → Has c ((a ++ b) ++ w) → Has c ((a ++ w) ++ b)
+    into c a b w h = go (Has-either c (a ++ b) w h)
+      where
+        inner : Has c a ⊎ Has c b → Has c ((a ++ w) ++ b)
+        inner (inl i) = Has-left c (a ++ w) b (Has-left c a w i)
+        inner (inr i) = Has-right c (a ++ w) b i
+
+        go : Has c (a ++ b) ⊎ Has c w → Has c ((a ++ w) ++ b)
+        go (inl i) = inner (Has-either c a b i)
+        go (inr i) = Has-left c (a ++ w) b (Has-right c a w i)
 
 -- one claim of several is worked off
 pub turn_one : (s : System) (x y z : Deep) (start : List NodeClaim) (k : NodeClaim) (rest a b : List NodeClaim) →
@@ -249,10 +267,10 @@ takes_all g node ty old other work work' all = record {
         inl ((slice_index_or g.rules j no_rule).ty, d, r.1, rule_of_fact g.rules j d (rule_in g.rules j r.0) b, e)
 
 -- a type is written
-pub table_lowered : (s : System) (types fs ds firsts : List ℕ) (cells : List Cell) (n u v : ℕ) (work work' extra : List NodeClaim) → n < length types →
+pub table_lowered : (s : System) (types fs ds firsts : List ℕ) (cells : List Cell) (own : List (List Cell)) (n u v : ℕ) (work work' extra : List NodeClaim) → n < length types →
     s.meet (slice_index_or types n 0) u ≡ Some v → PushesFacts s n v (slice_index_or types n 0) (slice_index_or types n 0) work work' →
-    Lowers s (table_from types fs firsts cells) (table_from (set types n v) fs firsts cells) (work ++ extra) (work' ++ extra) n u v
-table_lowered s types fs ds firsts cells n u v work work' extra h meet pushed = record {
+    Lowers s (table_from types fs firsts cells own) (table_from (set types n v) fs firsts cells own) (work ++ extra) (work' ++ extra) n u v
+table_lowered s types fs ds firsts cells own n u v work work' extra h meet pushed = record {
   size_is = length-set types n v;
   live_is = λ k. refl;
   arc_is = λ k g i. refl;
@@ -367,6 +385,48 @@ pub steps_after : (g : Grammar) (nodes nodes1 nodes2 : Nodes) (a b : List NodeCl
 steps_after g nodes nodes1 nodes2 a b tasks true one (two, sound) =
     (Turns-on (system_of g) (deep_of nodes) (deep_of nodes1) (deep_of nodes2) a b (work_of g.rules tasks) one two, sound)
 steps_after g nodes nodes1 nodes2 a b tasks false one two = Refutes-after (system_of g) (deep_of nodes) (deep_of nodes1) a b one two
+
+-- one step after another
+pub keeps_after : (a b d : Nodes) → KeepsArcs a b → KeepsArcs b d → KeepsArcs a d
+keeps_after a b d one two = record {
+  size = two.size ∙ one.size;
+  forwards = two.forwards ∙ one.forwards;
+  own = two.own ∙ one.own;
+  more = omega (arith, one.more, two.more);
+  chains = λ place h. two.chains place (omega (arith, h, one.more)) ∙ one.chains place h;
+}
+
+pub keeps_none : (a : Nodes) → KeepsArcs a a
+keeps_none a = record { size = refl; forwards = refl; own = refl; more = omega arith; chains = λ place h. refl }
+
+pub claims_append : (n : ℕ) (xs ys : List Cell) → arc_claims n (xs ++ ys) ≡ arc_claims n xs ++ arc_claims n ys
+claims_append n [] ys = refl
+claims_append n (x ∷ xs) ys = ap (λ l. is_same n (x.feat ∷ []) x.to [] ∷ l) (claims_append n xs ys)
+
+-- the next arc of a row
+pub claims_step : (n i : ℕ) (row : List Cell) (d c : Cell) → i < length row → c ≡ slice_index_or row i d →
+    arc_claims n (drop i row) ≡ is_same n (c.feat ∷ []) c.to [] ∷ arc_claims n (drop (i + 1) row)
+claims_step n i row d c h is =
+    ap (arc_claims n) (drop-cons row i d h) ∙ ap (λ x. is_same n (x.feat ∷ []) x.to [] ∷ arc_claims n (drop (suc i) row)) (sym is)
+    ∙ ap (λ j. is_same n (c.feat ∷ []) c.to [] ∷ arc_claims n (drop j row)) (let e : suc i ≡ i + 1 = omega arith in e)
+
+pub claims_all : (n : ℕ) (row : List Cell) → arc_claims n (drop 0 row) ≡ arc_claims n row
+claims_all n [] = refl
+claims_all n (x ∷ row) = refl
+
+pub claims_none : (n i : ℕ) (row : List Cell) → length row ≤ i → arc_claims n (drop i row) ≡ []
+claims_none n i row h = ap (arc_claims n) (drop_all i row h)
+
+-- some of the work is done
+pub rest_after : (g : Grammar) (nodes nodes' : Nodes) (a b w w' : List NodeClaim) → Leads g nodes (a ++ w) nodes' w' → Leads g nodes ((a ++ b) ++ w) nodes' (b ++ w')
+rest_after g nodes nodes' a b w w' one =
+    Turns-order (system_of g) (deep_of nodes) (deep_of nodes') ((a ++ b) ++ w) ((a ++ w) ++ b) (b ++ w') (w' ++ b) (moved_back a b w)
+    (Turns-beside (system_of g) (deep_of nodes) (deep_of nodes') (a ++ w) w' b one) (same_swapped w' b)
+
+pub rest_clashes : (g : Grammar) (nodes : Nodes) (a b w : List NodeClaim) → Clashes g nodes (a ++ w) → Clashes g nodes ((a ++ b) ++ w)
+rest_clashes g nodes a b w one =
+    Refutes-order (system_of g) (deep_of nodes) ((a ++ b) ++ w) ((a ++ w) ++ b) (moved_back a b w)
+    (Refutes-beside (system_of g) (deep_of nodes) (a ++ w) b one)
 
 -- a step on the same work in another order
 pub steps_order : (g : Grammar) (nodes : Nodes) (a a' : List NodeClaim) (nodes' : Nodes) (tasks' : Tasks) (b : Bool) → IsSameWork a a' →

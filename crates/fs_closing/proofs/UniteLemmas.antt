@@ -9,6 +9,8 @@ use Rattle.fs_model.specs.Steps.{Joins}
 use Rattle.fs_model.proofs.StepLemmas.{same_or_other}
 use Rattle.fs_closing.specs.declared.nodes.Cell.{Cell}
 use Rattle.fs_closing.specs.Cells.{chase, live_of, find_arc, Falls, AreOnce}
+use Rattle.fs_closing.specs.declared.own_rows.OwnRows.{OwnRows}
+use Rattle.fs_closing.specs.OwnRows.{own_of}
 use Rattle.fs_closing.specs.NodeTable.{table_from, AreWhole, AreWithin}
 use Rattle.fs_closing.specs.NodeSteps.{Unites}
 use Rattle.fs_closing.specs.Keeps.{arc_claims, PushesFacts}
@@ -37,16 +39,18 @@ live_next fs falls n e = go (cases_lt (next fs n) n)
     go (inr a) = omega (arith, falls n)
 
 -- a node is forwarded to another, which gets a type
-module _ (types fs ds firsts : List ℕ) (cells : List Cell) (whole : AreWhole types fs ds firsts cells) (a b ty : ℕ) (order : a < b)
+module _ (types fs ds firsts : List ℕ) (cells : List Cell) (own : OwnRows) (whole : AreWhole types fs ds firsts cells own) (a b ty : ℕ) (order : a < b)
     (b_in : b < length types) (a_stays : live_of fs a ≡ a) (b_stays : live_of fs b ≡ b) where
   fs_in : b < length fs
   fs_in = omega (arith, whole.forwards_even)
 
-  pub whole_united : AreWhole (set types a ty) (set fs b a) ds firsts cells
+  pub whole_united : AreWhole (set types a ty) (set fs b a) ds firsts cells own
   whole_united = record {
     forwards_even = length-set fs b a ∙ whole.forwards_even ∙ sym (length-set types a ty);
     depths_even = whole.depths_even ∙ sym (length-set types a ty);
     firsts_even = whole.firsts_even ∙ sym (length-set types a ty);
+    own_even = whole.own_even ∙ sym (length-set types a ty);
+    own_rows = whole.own_rows;
     small = omega (arith, whole.small, length-set types a ty);
     few = whole.few;
     falls = Falls-set fs whole.falls a b order fs_in (live_next fs whole.falls a a_stays) (live_next fs whole.falls b b_stays);
@@ -54,12 +58,13 @@ module _ (types fs ds firsts : List ℕ) (cells : List Cell) (whole : AreWhole t
     first_in = λ n h. whole.first_in n (omega (arith, h, length-set types a ty));
     once = λ n h. whole.once n (omega (arith, h, length-set types a ty));
     to_in = λ c h. omega (arith, whole.to_in c h, length-set types a ty);
+    own_in = λ n c h. omega (arith, whole.own_in n c h, length-set types a ty);
   }
 
   moved : (k : ℕ) → (live_of fs k ≡ b → live_of (set fs b a) k ≡ a) × (live_of fs k ≢ b → live_of (set fs b a) k ≡ live_of fs k)
   moved k = live-set fs whole.falls a b order fs_in (live_next fs whole.falls a a_stays) (live_next fs whole.falls b b_stays) k
 
-  pub table_united : Unites (table_from types fs firsts cells) (table_from (set types a ty) (set fs b a) firsts cells) a b ty
+  pub table_united : Unites (table_from types fs firsts cells (own_of own)) (table_from (set types a ty) (set fs b a) firsts cells (own_of own)) a b ty
   table_united = record {
     size_is = length-set types a ty;
     live_b = λ k e. (moved k).0 e;
@@ -69,10 +74,11 @@ module _ (types fs ds firsts : List ℕ) (cells : List Cell) (whole : AreWhole t
     type_other = λ k h e. get_or-set_other types a k ty 0 e;
   }
 
-  pub within_united : (size feats : ℕ) → ty < size → AreWithin size feats types cells → AreWithin size feats (set types a ty) cells
+  pub within_united : (size feats : ℕ) → ty < size → AreWithin size feats types cells (own_of own) → AreWithin size feats (set types a ty) cells (own_of own)
   within_united size feats h old = record {
     type_in = λ n i. go n (omega (arith, i, length-set types a ty)) (same_or_other n a);
     feat_in = old.feat_in;
+    own_feat = old.own_feat;
   }
     where
       go : (n : ℕ) → n < length types → (n ≡ a) ⊎ (n ≢ a) → slice_index_or (set types a ty) n 0 < size
@@ -133,9 +139,10 @@ joins_by s t t' a b v arcs work pushed extra joined meet listed once pushes = re
     only c (inl h) = new c (Has-either c (arc_claims a arcs) pushed h)
 
 -- whole arrays are a table
-pub table_whole : (types fs ds firsts : List ℕ) (cells : List Cell) → AreWhole types fs ds firsts cells → IsTable (table_from types fs firsts cells)
-table_whole types fs ds firsts cells whole = record {
+pub table_whole : (types fs ds firsts : List ℕ) (cells : List Cell) (own : OwnRows) → AreWhole types fs ds firsts cells own →
+    IsTable (table_from types fs firsts cells (own_of own))
+table_whole types fs ds firsts cells own whole = record {
   live_in = λ n h. omega (arith, live_le fs whole.falls n);
   live_twice = live_twice fs whole.falls;
-  arc_in = λ n f m h e. arc_within types fs ds firsts cells whole n f m e;
+  arc_in = λ n f m h e. arc_within types fs ds firsts cells own whole n f m e;
 }

@@ -1,4 +1,5 @@
 pub mod Cells
+pub mod OwnRows
 pub mod NodeTable
 pub mod NodeSteps
 pub mod Rules

@@ -1,5 +1,8 @@
--- A new node alone, arcs alone, and two nodes that become one.
-use Rattle.std.specs.Prelude.{ℕ, ◌≡◌, ◌≢◌, ◌<◌, ◌≤◌, ◌+◌, None, length}
+-- A new node alone, arcs alone, a graph that enters, and two nodes that become one.
+use Rattle.std.specs.Prelude.{ℕ, ◌≡◌, ◌≢◌, ◌<◌, ◌≤◌, ◌+◌, None, All, length, option_map}
+use Rattle.fs_model.specs.Claims.{Has}
+use Rattle.fs_graph.specs.declared.graph.GraphArc.{GraphArc}
+use Rattle.fs_graph.specs.GraphMap.{GraphMap, type_at, arc_to, arcs_at}
 use Rattle.fs_model.specs.Table.{Table}
 use Rattle.fs_closing.specs.declared.nodes.Nodes.{Nodes}
 use Rattle.fs_closing.specs.Cells.{chain}
@@ -19,6 +22,7 @@ pub record AddsArcs (nodes nodes' : Nodes) : Type 0 where
   pub types : nodes'.types.items ≡ nodes.types.items
   pub forwards : nodes'.forwards.items ≡ nodes.forwards.items
   pub depths : nodes'.depths.items ≡ nodes.depths.items
+  pub own : nodes'.own ≡ nodes.own
   pub more : length nodes.cells.items ≤ length nodes'.cells.items
   pub chains : (place : ℕ) → place ≤ length nodes.cells.items → chain nodes'.cells.items place ≡ chain nodes.cells.items place
 
@@ -26,8 +30,24 @@ pub record AddsArcs (nodes nodes' : Nodes) : Type 0 where
 pub record KeepsArcs (nodes nodes' : Nodes) : Type 0 where
   pub size : length nodes'.types.items ≡ length nodes.types.items
   pub forwards : nodes'.forwards.items ≡ nodes.forwards.items
+  pub own : nodes'.own ≡ nodes.own
   pub more : length nodes.cells.items ≤ length nodes'.cells.items
   pub chains : (place : ℕ) → place ≤ length nodes.cells.items → chain nodes'.cells.items place ≡ chain nodes.cells.items place
+
+-- a graph enters a table at its end
+pub record EntersTable (g : GraphMap) (t t' : Table) : Type 0 where
+  pub size_is : t'.size ≡ t.size + length g.types
+  pub live_old : (k : ℕ) → k < t.size → t'.live k ≡ t.live k
+  pub live_new : (k : ℕ) → t.size ≤ k → t'.live k ≡ k
+  pub arc_old : (k f : ℕ) → k < t.size → t'.arc k f ≡ t.arc k f
+  pub arc_new : (k f : ℕ) → k < length g.types → t'.arc (t.size + k) f ≡ option_map (λ m. t.size + m) (arc_to (arcs_at g k) f)
+  pub type_old : (k : ℕ) → k < t.size → t'.type_of k ≡ t.type_of k
+  pub type_new : (k : ℕ) → k < length g.types → t'.type_of (t.size + k) ≡ type_at g k
+
+-- no type and no feature of a graph is out of range
+pub record IsGraphIn (types feats : ℕ) (g : GraphMap) : Type 0 where
+  pub types_in : All (λ t. t < types) g.types
+  pub feats_in : (k : ℕ) (a : GraphArc) → k < length g.types → Has a (arcs_at g k) → a.feat.0 < feats
 
 -- a node is merged into another, which gets a type
 pub record Unites (t t' : Table) (a b ty : ℕ) : Type 0 where

@@ -6,6 +6,7 @@ pub mod facts;
 pub mod fault;
 pub mod nodes;
 pub mod outline;
+pub mod own_rows;
 pub mod rule_rows;
 pub mod steps;
 pub mod system;

@@ -1,13 +1,17 @@
 //! Nodes in plain arrays: each has a type, the node that it was merged into, and arcs.
 
-ghost use Rattle.std.specs.Prelude.{◌≡◌, ℕ, ◌+◌, ◌<◌, ◌≤◌, ◌^◌, length, None, IfOk, OnOk, IfSome, slice_index_or, [], ◌∷◌, ◌++◌};
+ghost use Rattle.std.specs.Prelude.{◌≡◌, ℕ, ◌+◌, ◌<◌, ◌≤◌, ◌^◌, length, None, IfOk, OnOk, IfSome, slice_index_or, [], ◌∷◌, ◌++◌, ◌-◌, map};
+ghost use Rattle.std.specs.List.{range_with_len};
 ghost use Rattle.fs_model.specs.Steps.{Links, Grows};
-ghost use Rattle.fs_closing.specs.NodeSteps.{AddsNode, AddsArcs, Unites};
+ghost use Rattle.fs_closing.specs.NodeSteps.{AddsNode, AddsArcs, EntersTable, IsGraphIn, Unites};
 ghost use Rattle.fs_closing.specs.Cells.{live_of, find_arc, chain, Falls, PlacesFall};
 ghost use Rattle.fs_closing.specs.NodeTable.{table_of, IsWhole, IsWithin};
 
 use crate::fault::NoMemory;
+use crate::own_rows::OwnRows;
+use fs_graph::Graph;
 use std::alloc::Global;
+use type_hierarchy::Ty;
 
 /// An arc, with the place of its node's next one: 0 for none, and k + 1 for cell k.
 #[derive(Clone, Copy, Debug)]
@@ -17,7 +21,8 @@ pub struct Cell {
     pub next: u32,
 }
 
-/// Nodes by number. `depths` has a number of features that some path to the node has at least.
+/// Nodes by number. `depths` has a number of features that some path to the node has at least. `firsts` and `cells` have the arcs
+/// that were added, and `own` those that a node has from its graph.
 #[derive(Debug, Drop)]
 pub struct Nodes {
     pub types: Vec<u32>,
@@ -25,6 +30,7 @@ pub struct Nodes {
     pub depths: Vec<u32>,
     pub firsts: Vec<u32>,
     pub cells: Vec<Cell>,
+    pub own: OwnRows,
 }
 
 impl Nodes {
@@ -38,6 +44,7 @@ impl Nodes {
             depths: Vec::new(alloc),
             firsts: Vec::new(alloc),
             cells: Vec::new(alloc),
+            own: OwnRows::new(alloc),
         }
     }
 
@@ -53,6 +60,7 @@ impl Nodes {
         self.depths.clear();
         self.firsts.clear();
         self.cells.clear();
+        self.own.clear();
     }
 }
 
@@ -104,6 +112,7 @@ pub fn add_node(nodes: &mut Nodes, ty: u32, depth: u32) -> Result<u32, NoMemory>
     nodes.forwards.push(place as u32)?;
     nodes.depths.push(depth)?;
     nodes.firsts.push(0)?;
+    nodes.own.push_none()?;
     Ok(place as u32)
 }
 
@@ -154,9 +163,50 @@ pub fn unite(nodes: &mut Nodes, a: u32, b: u32, ty: u32)
     ensures unites { Unites (table_of nodes.old) (table_of nodes.new) a b ty }
     ensures depths { nodes.new.depths.items ≡ nodes.old.depths.items }
     ensures cells { nodes.new.cells.items ≡ nodes.old.cells.items }
+    ensures own { nodes.new.own ≡ nodes.old.own }
     ensures whole { IsWhole nodes.new }
     ensures within { (types feats : ℕ) → ty < types → IsWithin types feats nodes.old → IsWithin types feats nodes.new }
 {
     nodes.types[a as usize] = ty;
     nodes.forwards[b as usize] = a;
+}
+
+// The types of a graph's nodes are added.
+fn push_types(types: &mut Vec<u32>, all: &[Ty]) -> Result<(), NoMemory>
+    ensures { OnOk result (types.new.items ≡ types.old.items ++ map (λ t. t.0) all.now) }
+{
+    types.extend(all.iter().map(|ty| ty.0))?;
+    Ok(())
+}
+
+// The numbers from one to before another are added.
+fn push_numbers(numbers: &mut Vec<u32>, from: u32, end: u32) -> Result<(), NoMemory>
+    requires { from ≤ end }
+    ensures { OnOk result (numbers.new.items ≡ numbers.old.items ++ range_with_len from (end - from)) }
+{
+    numbers.extend(from..end)?;
+    Ok(())
+}
+
+/// A graph enters: its nodes have the numbers from the answer on. They are copied as they stand, each list of the graph at
+/// once.
+pub fn add_graph(nodes: &mut Nodes, graph: &Graph) -> Result<u32, NoMemory>
+    requires { IsWhole nodes.old }
+    ensures place { IfOk result (λ o. o ≡ length nodes.old.types.items) }
+    ensures enters { OnOk result (EntersTable graph.now (table_of nodes.old) (table_of nodes.new)) }
+    ensures flat { OnOk result ((k : ℕ) → slice_index_or nodes.new.depths.items k 0 ≡ slice_index_or nodes.old.depths.items k 0) }
+    ensures whole { OnOk result (IsWhole nodes.new) }
+    ensures within { OnOk result ((types feats : ℕ) → IsGraphIn types feats graph.now → IsWithin types feats nodes.old → IsWithin types feats nodes.new) }
+{
+    let base = nodes.types.len();
+    let size = base + graph.nodes() as usize;
+    if size > u32::MAX as usize {
+        return Err(NoMemory);
+    }
+    push_types(&mut nodes.types, graph.types())?;
+    push_numbers(&mut nodes.forwards, base as u32, size as u32)?;
+    nodes.depths.resize(size, 0)?;
+    nodes.firsts.resize(size, 0)?;
+    nodes.own.push_graph(graph, base as u32)?;
+    Ok(base as u32)
 }

@@ -5,6 +5,7 @@ ghost use Rattle.type_hierarchy.specs.Table.{count_of, is_below, meet_of};
 ghost use Rattle.fs_model.specs.Claims.{Path, IsBare, IsOrder};
 ghost use Rattle.fs_model.specs.Table.{NodeClaim, is_same, is_under};
 ghost use Rattle.fs_closing.specs.Cells.{live_of, chain};
+ghost use Rattle.fs_closing.specs.OwnRows.{own_of};
 ghost use Rattle.fs_closing.specs.NodeTable.{table_of, IsWhole};
 ghost use Rattle.fs_closing.specs.NodeSteps.{KeepsArcs};
 ghost use Rattle.fs_closing.specs.Rules.{system_of, no_rule};
@@ -25,7 +26,10 @@ fn arc_of(nodes: &Nodes, n: u32, feat: u32) -> Option<u32>
     ensures value { result ≡ (table_of nodes.now).arc n feat }
     ensures within { IfSome result (λ m. m < length nodes.now.types.items) }
 {
-    look_up(&nodes.cells, nodes.firsts[n as usize], feat)
+    if let Some(to) = look_up(&nodes.cells, nodes.firsts[n as usize], feat) {
+        return Some(to);
+    }
+    nodes.own.find(n, feat)
 }
 
 // The facts of a rule are to hold at a node, unless they hold at one of two types already.
@@ -162,7 +166,7 @@ pub fn attach(
 }
 
 /// A node that isn't merged is to have the arcs from a place on. The answer is false where a clash was met.
-pub fn attach_all(
+pub fn attach_cells(
     nodes: &mut Nodes,
     tasks: &mut Tasks,
     system: &TypeSystem,
@@ -173,7 +177,8 @@ pub fn attach_all(
     requires node { n < length nodes.old.types.items }
     requires first_in { first ≤ length nodes.old.cells.items }
     requires stays { live_of nodes.old.forwards.items n ≡ n }
-    ensures { IfOk result (StepsTo system.now nodes.old (arc_claims n (chain nodes.old.cells.items first) ++ work_of system.now.rules tasks.old) nodes.new tasks.new) }
+    ensures steps { IfOk result (StepsTo system.now nodes.old (arc_claims n (chain nodes.old.cells.items first) ++ work_of system.now.rules tasks.old) nodes.new tasks.new) }
+    ensures arcs { OnOk result (KeepsArcs nodes.old nodes.new) }
 {
     let mut place = first;
     while place != 0 {
@@ -184,6 +189,56 @@ pub fn attach_all(
         }
     }
     Ok(true)
+}
+
+/// A node that isn't merged is to have the arcs that another one has from its graph. The answer is false where a clash was met.
+pub fn attach_own(
+    nodes: &mut Nodes,
+    tasks: &mut Tasks,
+    system: &TypeSystem,
+    n: u32,
+    of: u32,
+) -> Result<bool, NoMemory>
+    requires sound { AreSound system.now nodes.old tasks.old }
+    requires node { n < length nodes.old.types.items }
+    requires of_in { of < length nodes.old.types.items }
+    requires stays { live_of nodes.old.forwards.items n ≡ n }
+    ensures { IfOk result (StepsTo system.now nodes.old (arc_claims n (slice_index_or (own_of nodes.old.own) of []) ++ work_of system.now.rules tasks.old) nodes.new tasks.new) }
+{
+    for i in 0..nodes.own.count(of) {
+        let cell = nodes.own.cell(of, i);
+        match attach(nodes, tasks, system, n, cell.feat, cell.to)? {
+            true => {}
+            false => return Ok(false),
+        }
+    }
+    Ok(true)
+}
+
+/// A node that isn't merged is to have the arcs from a place on, and those that another one has from its graph. The answer is
+/// false where a clash was met.
+pub fn attach_all(
+    nodes: &mut Nodes,
+    tasks: &mut Tasks,
+    system: &TypeSystem,
+    n: u32,
+    first: u32,
+    of: u32,
+) -> Result<bool, NoMemory>
+    requires sound { AreSound system.now nodes.old tasks.old }
+    requires node { n < length nodes.old.types.items }
+    requires first_in { first ≤ length nodes.old.cells.items }
+    requires of_in { of < length nodes.old.types.items }
+    requires stays { live_of nodes.old.forwards.items n ≡ n }
+    ensures { IfOk result (StepsTo system.now nodes.old (arc_claims n (chain nodes.old.cells.items first ++ slice_index_or (own_of nodes.old.own) of []) ++ work_of system.now.rules tasks.old) nodes.new tasks.new) }
+{
+    match attach_cells(nodes, tasks, system, n, first)? {
+        true => {
+            let ok = attach_own(nodes, tasks, system, n, of)?;
+            Ok(ok)
+        }
+        false => Ok(false),
+    }
 }
 
 /// Merges b into a, whose type becomes the meet of both; b's arcs are to be a's. The answer is false where there is no meet,
@@ -212,7 +267,7 @@ pub fn merge(
     let first = nodes.firsts[b as usize];
     unite(nodes, a, b, met.0);
     push_rules(tasks, system, a, met.0, old, other)?;
-    let ok = attach_all(nodes, tasks, system, a, first)?;
+    let ok = attach_all(nodes, tasks, system, a, first, b)?;
     Ok(ok)
 }
 

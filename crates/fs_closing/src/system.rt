@@ -105,6 +105,13 @@ impl TypeSystem {
         &self.above.rows[row as usize]
     }
 
+    /// How many entries `constraints` has.
+    pub fn rule_count(&self) -> u32
+        ensures { result ≡ length self.now.rules }
+    {
+        self.constraints.len() as u32
+    }
+
     /// The type of an entry of `constraints`.
     pub fn rule_type(&self, rule: u32) -> u32
         requires { rule < length self.now.rules }

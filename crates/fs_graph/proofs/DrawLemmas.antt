@@ -15,7 +15,7 @@ use Rattle.fs_graph.specs.GraphMap.{arc_to, arcs_at, Rises}
 use Rattle.fs_graph.specs.Inside.{row, graph_map}
 use Rattle.fs_graph.specs.Orders.{ArePlan}
 use Rattle.fs_graph.specs.Visits.{feats_of, targets_of}
-use Rattle.fs_graph.specs.Renumbering.{starts_of}
+use Rattle.fs_graph.specs.Inner.Renumbering.{starts_of}
 use Rattle.fs_graph.specs.Drawn.{drawn_map, IsDrawn, AddsArc}
 use Rattle.fs_graph.proofs.RowLemmas.{row_at, arc_there}
 use Rattle.fs_graph.proofs.FlatLemmas.{row_is, rows_are}

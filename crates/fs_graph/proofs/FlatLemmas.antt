@@ -7,7 +7,7 @@ use Rattle.std.proofs.lemmas.List.Concat.{flat_map-append}
 use Rattle.std.proofs.lemmas.List.FromFn.{get_or-map-range_with_len, length-map-range_with_len, map-range_with_len_more}
 use Rattle.fs_graph.specs.declared.graph.GraphArc.{GraphArc}
 use Rattle.fs_graph.specs.Inside.{row, AreRows}
-use Rattle.fs_graph.specs.Renumbering.{starts_of}
+use Rattle.fs_graph.specs.Inner.Renumbering.{starts_of}
 
 -- a part of three
 between_part : {X : Type 0} (a b c : List X) (i j : ℕ) → length a ≡ i → length a + length b ≡ j → between i j (a ++ (b ++ c)) ≡ b

@@ -7,7 +7,8 @@ use Rattle.fs_model.specs.DepthFirst.{Plan, IsArc, IsPlan, Leads, ends, goes}
 use Rattle.fs_model.proofs.StepLemmas.{same_or_other}
 use Rattle.fs_graph.specs.declared.graph.GraphArc.{GraphArc}
 use Rattle.fs_graph.specs.declared.visit.Frame.{Frame}
-use Rattle.fs_graph.specs.Visits.{plan_of, IsVisitable, nodes_of, nexts_of, IsGoing}
+use Rattle.fs_graph.specs.Visits.{plan_of}
+use Rattle.fs_graph.specs.Inner.Going.{IsVisitable, nodes_of, nexts_of, IsGoing}
 use Rattle.fs_graph.specs.Inner.Heights.{IsAbove, AreHeights}
 use Rattle.fs_graph.proofs.VisitCode.{last_at}
 

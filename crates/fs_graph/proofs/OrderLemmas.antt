@@ -18,8 +18,9 @@ use Rattle.fs_graph.specs.declared.visit.Frame.{Frame}
 use Rattle.fs_graph.specs.GraphMap.{GraphMap, arc_to, arcs_at, type_at, table_of, reader_of, Rises}
 use Rattle.fs_graph.specs.Inside.{row, graph_map, AreRows, IsGraphInside}
 use Rattle.fs_graph.specs.Orders.{ArePlan, IsReached, ReachesItself, IsClash, IsLongest, IsOrderOf}
-use Rattle.fs_graph.specs.Visits.{feats_of, targets_of, plan_of, IsVisitable, view_of, IsGoing, IsClashIn}
-use Rattle.fs_graph.specs.Renumbering.{renumber, new_row, new_type, new_start, AreRenumbered}
+use Rattle.fs_graph.specs.Visits.{feats_of, targets_of, plan_of}
+use Rattle.fs_graph.specs.Inner.Going.{IsVisitable, view_of, IsGoing, IsClashIn}
+use Rattle.fs_graph.specs.Inner.Renumbering.{renumber, new_row, new_type, new_start, AreRenumbered}
 use Rattle.fs_graph.proofs.FlatLemmas.{flat-more, starts-more, row_is, rows_are}
 use Rattle.fs_graph.specs.Inner.Heights.{AreHeights}
 use Rattle.fs_graph.proofs.HeightLemmas.{paths_within, path_reached}

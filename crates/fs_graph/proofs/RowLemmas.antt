@@ -11,7 +11,8 @@ use Rattle.fs_graph.specs.declared.graph.GraphArc.{GraphArc}
 use Rattle.fs_graph.specs.GraphMap.{arc_to, arcs_at, table_of, Rises}
 use Rattle.fs_graph.specs.Inside.{row, graph_map, AreRows}
 use Rattle.fs_graph.specs.Orders.{ArePlan}
-use Rattle.fs_graph.specs.Visits.{feats_of, targets_of, plan_of, IsVisitable}
+use Rattle.fs_graph.specs.Visits.{feats_of, targets_of, plan_of}
+use Rattle.fs_graph.specs.Inner.Going.{IsVisitable}
 
 -- the row of a node in the graph of the rows
 pub row_at : (types : List Ty) (starts : List ℕ) (arcs : List GraphArc) (n : ℕ) → n < length types → arcs_at (graph_map types starts arcs) n ≡ row starts arcs n

@@ -11,7 +11,8 @@ use Rattle.fs_model.proofs.VisitMeets.{going_enters}
 use Rattle.fs_model.proofs.RenumberLemmas.{going_begins}
 use Rattle.fs_graph.specs.declared.graph.GraphArc.{GraphArc}
 use Rattle.fs_graph.specs.declared.visit.Frame.{Frame}
-use Rattle.fs_graph.specs.Visits.{targets_of, plan_of, IsVisitable, unmet, nodes_of, nexts_of, view_from, view_of, IsGoing, left_at, left_of}
+use Rattle.fs_graph.specs.Visits.{targets_of, plan_of}
+use Rattle.fs_graph.specs.Inner.Going.{IsVisitable, unmet, nodes_of, nexts_of, view_from, view_of, IsGoing, left_at, left_of}
 
 -- a list of numbers with one more
 pub last_at : (f : Frame → ℕ) (frames : List Frame) (x : Frame) → slice_index_or (map f (frames ++ x ∷ [])) (length frames) 0 ≡ f x

@@ -1,5 +1,5 @@
 -- A graph as the types and the arcs of its nodes, by number.
-use Rattle.std.specs.Prelude.{ℕ, ◌≡◌, ◌<◌, ◌==◌, Option, List, [], map, length, find, slice_index, slice_index_or, option_map}
+use Rattle.std.specs.Prelude.{ℕ, ◌≡◌, ◌<◌, ◌==◌, Option, None, Some, List, [], map, length, find, slice_index, slice_index_or, option_map}
 use Rattle.fs_model.specs.Claims.{Path}
 use Rattle.fs_model.specs.Sources.{Reader}
 use Rattle.fs_model.specs.Table.{Table, walk}
@@ -19,6 +19,11 @@ arcs_at g n = slice_index_or g.arcs n []
 -- where the arc with a feature leads
 abbrev pub arc_to : List GraphArc → ℕ → Option ℕ
 arc_to arcs f = option_map (λ a. a.to.0) (find (λ a. a.feat.0 == f) arcs)
+
+-- where the arc of a node with a feature leads, if it is a feature that the grammar has
+abbrev pub arc_named : GraphMap → ℕ → Option ℕ → Option ℕ
+arc_named g n None = None
+arc_named g n (Some f) = arc_to (arcs_at g n) f
 
 -- the graph as a table of nodes of which none was merged
 abbrev pub table_of : GraphMap → Table

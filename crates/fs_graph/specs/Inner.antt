@@ -1,2 +1,4 @@
--- What the visit knows of heights as it goes.
+-- What the visit knows as it goes, its lists and heights, and the rows that it leaves.
+pub mod Going
 pub mod Heights
+pub mod Renumbering

@@ -1,9 +1,11 @@
 //! Graphs, their nodes and arcs.
 
-ghost use Rattle.std.specs.Prelude.{◌≡◌, ℕ, ◌+◌, ◌<◌, ◌≤◌, ◌↔◌, length, List, Some, None, IsTrue, option_map};
+ghost use Rattle.std.specs.Prelude.{◌≡◌, ℕ, ◌+◌, ◌<◌, ◌≤◌, ◌^◌, ◌↔◌, length, List, map, Some, None, IsTrue, option_map};
+ghost use Rattle.std.specs.List.{range_with_len};
 ghost use Rattle.fs_model.specs.Sources.{IsSameStructure};
 ghost use Rattle.fs_paths.specs.Facts.{path_of};
 ghost use Rattle.fs_graph.specs.GraphMap.{arc_to};
+ghost use Rattle.fs_graph.specs.Inside.{AreRows, row};
 
 use fs_paths::Feat;
 use std::marker::Model;
@@ -91,6 +93,24 @@ impl Graph {
         let from = self.starts[n.0 as usize] as usize;
         let end = self.starts[n.0 as usize + 1] as usize;
         &self.arcs[from..end]
+    }
+
+    /// The types of all nodes, by number.
+    pub fn types(&self) -> &[Ty]
+        ensures { map (λ t. t.0) result.now ≡ self.now.types }
+    {
+        &self.types
+    }
+
+    /// The arcs of all nodes in one list, after the places where each node's begin in it. Those of a node end where the next
+    /// one's begin.
+    pub fn rows(&self) -> (&[u32], &[GraphArc])
+        ensures even { AreRows (length self.now.types) result.0.now (length result.1.now) }
+        ensures rows { self.now.arcs ≡ map (row result.0.now result.1.now) (range_with_len 0 (length self.now.types)) }
+        ensures graph { IsGraph self.now }
+        ensures few { length self.now.types < 2 ^ 32 }
+    {
+        (&self.starts, &self.arcs)
     }
 
     /// Whether the two graphs are one structure: the same paths, the same equalities of paths, and the same types.

@@ -7,7 +7,7 @@ ghost use Rattle.fs_graph.specs.GraphMap.{reader_of};
 ghost use Rattle.fs_graph.specs.Inside.{graph_map};
 ghost use Rattle.fs_graph.specs.Orders.{ArePlan, IsOrdering, IsClash, IsOrderOf};
 ghost use Rattle.fs_graph.specs.Visits.{plan_of, targets_of};
-ghost use Rattle.fs_graph.specs.Renumbering.{renumber};
+ghost use Rattle.fs_graph.specs.Inner.Renumbering.{renumber};
 
 use crate::visit::{Order, begin, pass};
 use crate::{Clash, Graph, GraphArc, NoMemory, Node};

@@ -2,7 +2,8 @@
 
 ghost use Rattle.std.specs.Prelude.{◌≡◌, ℕ, ◌+◌, ◌<◌, ◌≤◌, ◌^◌, ◌++◌, ◌∷◌, [], length, List, IfOk, IfErr, OnOk, slice_set, slice_index, replicate, false, ◌⊎◌};
 ghost use Rattle.fs_model.specs.DepthFirst.{missing};
-ghost use Rattle.fs_graph.specs.Visits.{plan_of, IsVisitable, IsGoing, IsClashIn, left_of};
+ghost use Rattle.fs_graph.specs.Visits.{plan_of};
+ghost use Rattle.fs_graph.specs.Inner.Going.{IsVisitable, IsGoing, IsClashIn, left_of};
 ghost use Rattle.fs_graph.specs.Inner.Heights.{IsAbove, AreHeights};
 
 use crate::{Clash, GraphArc, NoMemory, Node};

@@ -43,6 +43,7 @@ pub fn nodes_match(marks: &mut [u32], types: &Types, general: &Graph, special: &
     ensures { (s : System) → HasOrder s types.now → (IsTrue result ↔ Subsumes s (reader_of general.now) (reader_of special.now)) }
 {
     let nodes = general.nodes();
+    // Its nodes have numbers of 32 bits.
     let _ = special.nodes();
     let (marks, _) = marks.split_at_mut(nodes as usize);
     marks.fill(UNMET);

@@ -9,7 +9,7 @@ use Rattle.type_hierarchy.specs.declared.types.Ty.{Ty}
 use Rattle.fs_graph.specs.declared.graph.GraphArc.{GraphArc}
 use Rattle.fs_graph.specs.GraphMap.{GraphMap, IsGraph, type_at, arcs_at, arc_to, Rises}
 use Rattle.fs_graph.specs.Inside.{row}
-use Rattle.fs_graph.specs.Renumbering.{starts_of}
+use Rattle.fs_graph.specs.Inner.Renumbering.{starts_of}
 use Rattle.fs_graph.specs.Visits.{feats_of, targets_of}
 use Rattle.fs_graph.proofs.FlatLemmas.{flat-more, starts-more, row_is, rows_are}
 use Rattle.fs_graph.proofs.RowLemmas.{arc_there}

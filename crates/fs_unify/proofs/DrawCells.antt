@@ -1,10 +1,11 @@
 -- The arcs of a node are drawn one by one.
-use Rattle.std.proofs.Common.{ℕ, ◌≡◌, ◌≢◌, ◌⊎◌, inl, inr, Option, Some, None, List, [], ◌∷◌, refl, sym, ◌∙◌, ap, subst}
+use Rattle.std.proofs.Common.{ℕ, suc, ◌≡◌, ◌≢◌, ◌<◌, ◌+◌, ◌⊎◌, inl, inr, Option, Some, None, List, [], ◌∷◌, ◌++◌, length, drop, slice_index_or, refl, sym, ◌∙◌, ap, subst, arith}
 use Rattle.std.specs.Option.{option_map}
+use Rattle.std.proofs.Math.Seq.{drop-cons}
 use Rattle.fs_model.proofs.StepLemmas.{same_or_other}
 use Rattle.fs_closing.specs.declared.nodes.Cell.{Cell}
-use Rattle.fs_closing.specs.Cells.{live_of, find_arc, AreOnce}
-use Rattle.fs_closing.proofs.ChainLemmas.{find_arc-here, find_arc-past}
+use Rattle.fs_closing.specs.Cells.{live_of, find_arc, no_cell, AreOnce}
+use Rattle.fs_closing.proofs.ChainLemmas.{find_arc-here, find_arc-past, find_left, find_right}
 
 -- a feature is drawn, or is left
 pub record DrawsCells (fs : List ℕ) (all left : List Cell) (arc : ℕ → Option ℕ) : Type 0 where
@@ -12,6 +13,52 @@ pub record DrawsCells (fs : List ℕ) (all left : List Cell) (arc : ℕ → Opti
 
 pub draws_begin : (fs : List ℕ) (all : List Cell) (arc : ℕ → Option ℕ) → ((f : ℕ) → arc f ≡ None) → DrawsCells fs all all arc
 draws_begin fs all arc none = record { each = λ f. inr (none f, refl) }
+
+left_free : (xs ys : List Cell) (f : ℕ) → find_arc (xs ++ ys) f ≡ None → find_arc xs f ≡ None
+left_free xs ys f e = go (find_arc xs f) refl
+  where
+    go : (o : Option ℕ) → find_arc xs f ≡ o → find_arc xs f ≡ None
+    go None is = is
+    go (Some m) is = absurd (let h : Some m ≡ None = sym (find_left xs ys f m is) ∙ e in cc)
+
+pub once_left : (xs ys : List Cell) → AreOnce (xs ++ ys) → AreOnce xs
+once_left [] ys once = tt
+once_left (x ∷ xs) ys once = (left_free xs ys x.feat once.0, once_left xs ys once.1)
+
+pub once_right : (xs ys : List Cell) → AreOnce (xs ++ ys) → AreOnce ys
+once_right [] ys once = once
+once_right (x ∷ xs) ys once = once_right xs ys once.1
+
+pub drop_zero : (xs : List Cell) → drop 0 xs ≡ xs
+drop_zero [] = refl
+drop_zero (x ∷ xs) = refl
+
+-- the cells from a place on begin with the one at this place
+pub drop_step : (xs : List Cell) (i : ℕ) (c : Cell) → i < length xs → c ≡ slice_index_or xs i no_cell → drop i xs ≡ c ∷ drop (i + 1) xs
+drop_step xs i c h is =
+    drop-cons xs i no_cell h ∙ ap (λ x. x ∷ drop (suc i) xs) (sym is) ∙ ap (λ j. c ∷ drop j xs) (let e : suc i ≡ i + 1 = omega arith in e)
+
+-- what is found in the first list is not in the second one
+right_free : (xs ys : List Cell) (f m : ℕ) → AreOnce (xs ++ ys) → find_arc xs f ≡ Some m → find_arc ys f ≡ None
+right_free [] ys f m once e = absurd (let h : None ≡ Some m = e in cc)
+right_free (x ∷ xs) ys f m once e = go (same_or_other x.feat f) (right_free xs ys f m once.1)
+  where
+    go : (x.feat ≡ f) ⊎ (x.feat ≢ f) → (find_arc xs f ≡ Some m → find_arc ys f ≡ None) → find_arc ys f ≡ None
+    go (inl d) rest =
+        let all : find_arc (xs ++ ys) f ≡ None = ap (find_arc (xs ++ ys)) (sym d) ∙ once.0 in
+        sym (find_right xs ys f (left_free xs ys f all)) ∙ all
+    go (inr d) rest = rest (sym (find_arc-past x xs f d) ∙ e)
+
+-- the second list is drawn, and the first one is left
+pub draws_rest : (fs : List ℕ) (xs ys : List Cell) (arc : ℕ → Option ℕ) → AreOnce (xs ++ ys) → ((f : ℕ) → arc f ≡ option_map (live_of fs) (find_arc ys f)) →
+    DrawsCells fs (xs ++ ys) xs arc
+draws_rest fs xs ys arc once drawn = record { each = λ f. go f (find_arc xs f) refl }
+  where
+    go : (f : ℕ) (o : Option ℕ) → find_arc xs f ≡ o →
+        ((find_arc xs f ≡ None) × (arc f ≡ option_map (live_of fs) (find_arc (xs ++ ys) f))) ⊎ ((arc f ≡ None) × (find_arc xs f ≡ find_arc (xs ++ ys) f))
+    go f None is = inl (is, drawn f ∙ ap (option_map (live_of fs)) (sym (find_right xs ys f is)))
+    go f (Some m) is =
+        inr (drawn f ∙ ap (option_map (live_of fs)) (right_free xs ys f m once is), is ∙ sym (find_left xs ys f m is))
 
 pub draws_free : (fs : List ℕ) (all left rest : List Cell) (c : Cell) (arc : ℕ → Option ℕ) → left ≡ c ∷ rest → DrawsCells fs all left arc → arc c.feat ≡ None
 draws_free fs all left rest c arc is d = go (d.each c.feat)

@@ -27,6 +27,23 @@ puts_arc xs ys i a is within rises new before found =
       to_in = λ m low all. insert_bounded xs i a within rises new before found m low all;
     })
 
+-- the last place whose feature comes before one is where this one is put
+pub below_place : (xs : List GraphArc) (place f : ℕ) → Rises xs → 0 < place → place ≤ length xs → slice_index (feats_of xs) (place - 1) < f →
+    (k : ℕ) → k < place → slice_index (feats_of xs) k < f
+below_place xs place f rises some within low k h = go (cases_lt k (place - 1))
+  where
+    go : (k < place - 1) ⊎ (place - 1 ≤ k) → slice_index (feats_of xs) k < f
+    go (inl a) = let r = rises k (place - 1) a (omega arith) in omega arith
+    go (inr a) = let e : place - 1 ≡ k = omega arith in subst (λ i. slice_index (feats_of xs) i < f) e low
+
+pub past_place : (xs : List GraphArc) (place f : ℕ) → 0 < place → ((k : ℕ) → place ≤ k → k < length xs → f ≤ slice_index (feats_of xs) k) →
+    f ≤ slice_index (feats_of xs) (place - 1) → (k : ℕ) → place - 1 ≤ k → k < length xs → f ≤ slice_index (feats_of xs) k
+past_place xs place f some past low k a h = go (cases_lt k place)
+  where
+    go : (k < place) ⊎ (place ≤ k) → f ≤ slice_index (feats_of xs) k
+    go (inl b) = let e : place - 1 ≡ k = omega arith in subst (λ i. f ≤ slice_index (feats_of xs) i) e low
+    go (inr b) = past k b h
+
 pub rises_none : (xs : List GraphArc) → xs ≡ [] → Rises xs
 rises_none xs is i j a b = absurd (let e = ap length is in omega arith)
 

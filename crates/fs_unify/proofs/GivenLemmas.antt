@@ -9,7 +9,7 @@ use Rattle.fs_model.specs.Steps.{Starts}
 use Rattle.fs_model.proofs.Ends.{Closes-starts}
 use Rattle.fs_closing.specs.declared.nodes.Nodes.{Nodes}
 use Rattle.fs_closing.specs.declared.tasks.Tasks.{Tasks}
-use Rattle.fs_closing.specs.NodeTable.{AreWhole, AreWithin, table_of, IsWhole, IsWithin}
+use Rattle.fs_closing.specs.NodeTable.{table_of, IsWhole, IsWithin}
 use Rattle.fs_closing.specs.NodeSteps.{AddsNode}
 use Rattle.fs_closing.specs.Rules.{Grammar, system_of}
 use Rattle.fs_closing.specs.Work.{work_of}
@@ -28,23 +28,6 @@ use Rattle.fs_closing.specs.Keeps.{Deep, deep_of, Stands, Leads, Clashes, StepsT
 use Rattle.fs_closing.proofs.HasLemmas.{Has-map, Has-of_map}
 use Rattle.fs_closing.proofs.UniteLemmas.{live_le}
 pub use Rattle.fs_closing.proofs.OrderLemmas.{order_of_laws}
-
-pub whole_none : AreWhole [] [] [] [] []
-whole_none = record {
-  forwards_even = refl;
-  depths_even = refl;
-  firsts_even = refl;
-  small = omega arith;
-  few = omega arith;
-  falls = λ k. omega arith;
-  places = λ k h. absurd (omega arith);
-  first_in = λ n h. absurd (omega arith);
-  once = λ n h. absurd (omega arith);
-  to_in = λ c h. elim h [ ];
-}
-
-pub within_none : (types feats : ℕ) → AreWithin types feats [] []
-within_none types feats = record { type_in = λ n h. absurd (omega arith); feat_in = λ c h. elim h [ ] }
 
 -- one node of the top type
 pub starts_one : (s : System) (t t' : Table) → t.size ≡ 0 → s.top ≡ 0 → AddsNode 0 t t' → Starts s t'
@@ -125,7 +108,7 @@ pictured g nodes tasks nodes' limit p false order is leads whole within filled n
 pictured g nodes tasks nodes' limit p true order is leads whole within filled some =
     let shown = subst (λ l. IsPictureIn (table_of nodes') l p) is some in
     let root : live_of nodes'.forwards.items 0 ≡ 0 = omega (arith, live_le nodes'.forwards.items whole.falls 0) in
-    let ok = table_whole nodes'.types.items nodes'.forwards.items nodes'.depths.items nodes'.firsts.items nodes'.cells.items whole in
+    let ok = table_whole nodes'.types.items nodes'.forwards.items nodes'.depths.items nodes'.firsts.items nodes'.cells.items nodes'.own whole in
     let bounds = picture_bounds (table_of nodes') ok g.path_limit (graph_map p.types.items p.starts.items p.arcs.items) p.order.longest filled root shown.shows
     shown.order.longest shown.short in
     ((leads, whole, within, bounds, filled), shown)

@@ -1,5 +1,5 @@
 -- A graph that was drawn has the types and features of its nodes.
-use Rattle.std.proofs.Common.{ℕ, ◌≡◌, ◌<◌, Option, Some, None, [], ◌∷◌, ◌++◌, length, slice_index_or, refl, sym, ◌∙◌, ap, subst, arith}
+use Rattle.std.proofs.Common.{ℕ, ◌≡◌, ◌<◌, ◌⊎◌, inl, inr, Option, Some, None, [], ◌∷◌, ◌++◌, length, slice_index_or, refl, sym, ◌∙◌, ap, subst, arith}
 use Rattle.std.proofs.lemmas.List.{get_or_default}
 use Rattle.std.specs.Prelude.{IfSome}
 use Rattle.std.specs.Option.{option_map}
@@ -11,7 +11,10 @@ use Rattle.fs_model.proofs.TableLemmas.{walk-append, walk-step, walk_ends}
 use Rattle.fs_graph.specs.declared.graph.GraphArc.{GraphArc}
 use Rattle.fs_graph.specs.GraphMap.{GraphMap, IsGraph, table_of as graph_table, type_at, arcs_at, reader_of}
 use Rattle.fs_closing.specs.declared.nodes.Nodes.{Nodes}
+use Rattle.fs_closing.specs.declared.nodes.Cell.{Cell}
 use Rattle.fs_closing.specs.Cells.{chain}
+use Rattle.fs_closing.specs.OwnRows.{own_of}
+use Rattle.fs_closing.proofs.HasLemmas.{Has-either}
 use Rattle.fs_closing.specs.NodeTable.{table_of, IsWhole, IsWithin}
 use Rattle.fs_closing.specs.Rules.{Grammar, system_of}
 use Rattle.fs_closing.proofs.ChainLemmas.{find_arc-has, chain-has}
@@ -28,7 +31,11 @@ module _ (nodes : Nodes) (whole : IsWhole nodes) (filled : 0 < length nodes.type
   t = table_of nodes
 
   ok : IsTable (table_of nodes)
-  ok = table_whole nodes.types.items nodes.forwards.items nodes.depths.items nodes.firsts.items nodes.cells.items whole
+  ok = table_whole nodes.types.items nodes.forwards.items nodes.depths.items nodes.firsts.items nodes.cells.items nodes.own whole
+
+  feature_in : (c : Cell) (first n : ℕ) → Has c (chain nodes.cells.items first) ⊎ Has c (slice_index_or (own_of nodes.own) n []) → c.feat < feats
+  feature_in c first n (inl h) = within.feat_in c (chain-has nodes.cells.items first c h)
+  feature_in c first n (inr h) = within.own_feat n c h
 
   arc_feature : (n f m : ℕ) → walk (table_of nodes) n (f ∷ []) ≡ Some m → f < feats
   arc_feature n f m e = go ((table_of nodes).arc ((table_of nodes).live n) f) refl
@@ -39,8 +46,9 @@ module _ (nodes : Nodes) (whole : IsWhole nodes) (filled : 0 < length nodes.type
           absurd (let d : None ≡ Some m = stops ∙ e in cc)
       go (Some i) is =
           let first = slice_index_or nodes.firsts.items ((table_of nodes).live n) 0 in
-          let r = find_arc-has (chain nodes.cells.items first) f i is in
-          let low = within.feat_in r.0 (chain-has nodes.cells.items first r.0 r.1) in
+          let own = slice_index_or (own_of nodes.own) ((table_of nodes).live n) [] in
+          let r = find_arc-has (chain nodes.cells.items first ++ own) f i is in
+          let low = feature_in r.0 first ((table_of nodes).live n) (Has-either r.0 (chain nodes.cells.items first) own r.1) in
           omega (arith, low, r.2)
 
   pub graph_inside : (plan graph : GraphMap) → IsPicture (table_of nodes) plan → IsSameStructure (reader_of plan) (reader_of graph) → IsGraph graph → IsGraphIn types feats graph

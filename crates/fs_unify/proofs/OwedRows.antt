@@ -1,16 +1,17 @@
 -- Rows of the rules that have a fact which is owed.
-use Rattle.std.proofs.Common.{ℕ, ◌≡◌, ◌≤◌, ◌<◌, ◌+◌, ◌⊎◌, inl, inr, Bool, cond, List, [], ◌∷◌, ◌++◌, length, take, filter, slice_index_or, refl, sym, ◌∙◌, ap, subst, arith, length-append}
+use Rattle.std.proofs.Common.{ℕ, ◌≡◌, ◌≤◌, ◌<◌, ◌+◌, ◌⊎◌, inl, inr, Bool, false, cond, List, [], ◌∷◌, ◌++◌, length, take, filter, slice_index_or, refl, sym, ◌∙◌, ap, subst, arith, length-append}
 use Rattle.std.specs.List.{list_any}
 use Rattle.std.proofs.Math.ListN.{get_or-append}
 use Rattle.std.proofs.Math.Seq.{get_or-append_seam}
 use Rattle.std.proofs.lemmas.Bool.{cases_lt}
 use Rattle.std.proofs.lemmas.List.{take_more}
 use Rattle.std.proofs.lemmas.List.Elements.{filter-append}
-use Rattle.fs_model.specs.Claims.{Claim}
+use Rattle.fs_model.specs.Claims.{Claim, Has, here, there}
 use Rattle.fs_closing.specs.Rules.{Grammar, no_rule, rules_above, HaveSame}
 use Rattle.fs_closing.proofs.RangeLemmas.{Has-filter, Has-of_filter}
 use Rattle.fs_paths.specs.declared.facts.Feat.{Feat}
 use Rattle.fs_unify.specs.Owing.{HaveOwing}
+use Rattle.fs_unify.specs.Inner.Marks.{HaveMarks}
 
 -- one more place was looked at
 pub filter_one : (test : ℕ → Bool) (xs : List ℕ) (i : ℕ) (b : Bool) → i < length xs → test (slice_index_or xs i 0) ≡ b →
@@ -48,6 +49,35 @@ have_more g owed t rows rows' row old is same = record {
         ap (λ l. slice_index_or l k []) is ∙ ap (λ i. slice_index_or (rows ++ row ∷ []) i []) (e ∙ sym old.each) ∙ get_or-append_seam rows row [] [] in
         subst (λ z. HaveSame (slice_index_or rows' k []) (filter (λ j. list_any owed (slice_index_or g.rules j no_rule).claims) (rules_above g.types g.rules z))) (sym e)
         (subst (λ l. HaveSame l (filter (λ j. list_any owed (slice_index_or g.rules j no_rule).claims) (rules_above g.types g.rules t))) (sym here) same)
+
+pub marks_none : (g : Grammar) (owed : Claim → Bool) → HaveMarks g owed 0 []
+marks_none g owed = record { each = refl; mark_is = λ j h. absurd (omega arith) }
+
+-- one rule more
+pub marks_more : (g : Grammar) (owed : Claim → Bool) (n : ℕ) (marks marks' : List Bool) (b : Bool) → HaveMarks g owed n marks → marks' ≡ marks ++ b ∷ [] →
+    b ≡ list_any owed (slice_index_or g.rules n no_rule).claims → HaveMarks g owed (n + 1) marks'
+marks_more g owed n marks marks' b old is same = record {
+  each = omega (arith, ap length is, length-append marks (b ∷ []), old.each);
+  mark_is = λ k h. mark_is k h (cases_lt k n);
+}
+  where
+    mark_is : (k : ℕ) → k < n + 1 → (k < n) ⊎ (n ≤ k) → slice_index_or marks' k false ≡ list_any owed (slice_index_or g.rules k no_rule).claims
+    mark_is k h (inl a) = ap (λ l. slice_index_or l k false) is ∙ get_or-append marks (b ∷ []) false k (omega (arith, a, old.each)) ∙ old.mark_is k a
+    mark_is k h (inr a) =
+        let e : k ≡ n = omega arith in
+        ap (λ l. slice_index_or l k false) is ∙ ap (λ i. slice_index_or (marks ++ b ∷ []) i false) (e ∙ sym old.each) ∙ get_or-append_seam marks b [] false
+        ∙ same ∙ ap (λ i. list_any owed (slice_index_or g.rules i no_rule).claims) (sym e)
+
+-- marks tell which rules have such a fact
+pub marked : (g : Grammar) (owed : Claim → Bool) (marks : List Bool) → HaveMarks g owed (length g.rules) marks → (xs : List ℕ) →
+    ((j : ℕ) → Has j xs → j < length g.rules) →
+    filter (λ j. slice_index_or marks j false) xs ≡ filter (λ j. list_any owed (slice_index_or g.rules j no_rule).claims) xs
+marked g owed marks m [] within = refl
+marked g owed marks m (x ∷ xs) within =
+    let mark = λ (j : ℕ). slice_index_or marks j false in
+    let test = λ (j : ℕ). list_any owed (slice_index_or g.rules j no_rule).claims in
+    ap (λ b. cond b (x ∷ filter mark xs) (filter mark xs)) (m.mark_is x (within x here))
+    ∙ ap (λ l. cond (test x) (x ∷ l) l) (marked g owed marks m xs (λ j h. within j (there h)))
 
 abbrev pub no_feat : Feat
 no_feat = record { 0 = 0 }

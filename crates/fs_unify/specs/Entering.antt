@@ -1,53 +1,18 @@
 -- Graphs that enter a table.
-use Rattle.std.specs.Prelude.{ℕ, ◌≡◌, ◌≢◌, ◌<◌, ◌≤◌, ◌+◌, ◌⊎◌, true, Some, None, List, [], All, length, map, option_map, slice_index_or, flat_map}
+use Rattle.std.specs.Prelude.{ℕ, ◌≡◌, ◌<◌, ◌+◌, ◌⊎◌, true, Some, List, [], length, map, slice_index_or, flat_map}
 use Rattle.fs_model.specs.Claims.{Path, Claim, at, System, Has}
 use Rattle.fs_model.specs.Sources.{Reader, Part, Source, Told, Tells, IsGraphOf}
 use Rattle.fs_model.specs.Steps.{InTable}
 use Rattle.fs_model.specs.Table.{Table, IsTable, NodeClaim, is_under, from, Seen, Follows, IsSound}
+pub use Rattle.fs_closing.specs.NodeSteps.{EntersTable, IsGraphIn}
 use Rattle.fs_closing.specs.Rules.{Rule}
 use Rattle.fs_closing.specs.Work.{entry_claims}
 use Rattle.fs_graph.specs.declared.graph.GraphArc.{GraphArc}
-use Rattle.fs_graph.specs.GraphMap.{GraphMap, type_at, arc_to, arcs_at, table_of}
+use Rattle.fs_graph.specs.GraphMap.{GraphMap, type_at, arcs_at, table_of}
 
 -- no depth is above 0
 abbrev pub AreFlat : List ℕ → Type 0
 AreFlat depths = (n : ℕ) → slice_index_or depths n 0 ≡ 0
-
--- the first nodes of a graph are added, without arcs
-pub record AddsNodes (g : GraphMap) (count : ℕ) (t t' : Table) : Type 0 where
-  pub size_is : t'.size ≡ t.size + count
-  pub live_old : (k : ℕ) → k < t.size → t'.live k ≡ t.live k
-  pub live_new : (k : ℕ) → t.size ≤ k → t'.live k ≡ k
-  pub arc_old : (k f : ℕ) → k < t.size → t'.arc k f ≡ t.arc k f
-  pub arc_new : (k f : ℕ) → t.size ≤ k → k < t.size + count → t'.arc k f ≡ None
-  pub type_old : (k : ℕ) → k < t.size → t'.type_of k ≡ t.type_of k
-  pub type_new : (k : ℕ) → k < count → t'.type_of (t.size + k) ≡ type_at g k
-
--- a node gets the arcs of a list, to nodes from an offset on
-pub record AddsRow (offset n : ℕ) (arcs : List GraphArc) (t t' : Table) : Type 0 where
-  pub size_is : t'.size ≡ t.size
-  pub live_is : (k : ℕ) → t'.live k ≡ t.live k
-  pub type_is : (k : ℕ) → k < t.size → t'.type_of k ≡ t.type_of k
-  pub here : (f : ℕ) → t'.arc n f ≡ option_map (λ m. offset + m) (arc_to arcs f)
-  pub others : (k f : ℕ) → k < t.size → k ≢ n → t'.arc k f ≡ t.arc k f
-
--- the first nodes of a graph get their arcs
-pub record AddsRows (g : GraphMap) (offset count : ℕ) (t t' : Table) : Type 0 where
-  pub size_is : t'.size ≡ t.size
-  pub live_is : (k : ℕ) → t'.live k ≡ t.live k
-  pub type_is : (k : ℕ) → k < t.size → t'.type_of k ≡ t.type_of k
-  pub here : (k f : ℕ) → k < count → t'.arc (offset + k) f ≡ option_map (λ m. offset + m) (arc_to (arcs_at g k) f)
-  pub others : (j f : ℕ) → j < t.size → ((k : ℕ) → k < count → j ≢ offset + k) → t'.arc j f ≡ t.arc j f
-
--- a graph enters a table at its end
-pub record EntersTable (g : GraphMap) (t t' : Table) : Type 0 where
-  pub size_is : t'.size ≡ t.size + length g.types
-  pub live_old : (k : ℕ) → k < t.size → t'.live k ≡ t.live k
-  pub live_new : (k : ℕ) → t.size ≤ k → t'.live k ≡ k
-  pub arc_old : (k f : ℕ) → k < t.size → t'.arc k f ≡ t.arc k f
-  pub arc_new : (k f : ℕ) → k < length g.types → t'.arc (t.size + k) f ≡ option_map (λ m. t.size + m) (arc_to (arcs_at g k) f)
-  pub type_old : (k : ℕ) → k < t.size → t'.type_of k ≡ t.type_of k
-  pub type_new : (k : ℕ) → k < length g.types → t'.type_of (t.size + k) ≡ type_at g k
 
 -- the introducers of a node's arcs
 abbrev pub introducer_claims : System → ℕ → List GraphArc → List NodeClaim
@@ -76,11 +41,6 @@ IsWellFormed s r = IsGraphOf s (Tells r) r
 -- what all nodes of a graph force becomes work, where it isn't seen in the graph
 abbrev pub IsOwed : System → ℕ → GraphMap → List NodeClaim → List NodeClaim → Type 0
 IsOwed s offset g work work' = Owes s offset g (length g.types) work work'
-
--- no type and no feature of a graph is out of range
-pub record IsGraphIn (types feats : ℕ) (g : GraphMap) : Type 0 where
-  pub types_in : All (λ t. t < types) g.types
-  pub feats_in : (k : ℕ) (a : GraphArc) → k < length g.types → Has a (arcs_at g k) → a.feat.0 < feats
 
 -- graphs stand in a table beside one another, and a table with its work has all that they claim and force
 pub record Entered (s : System) (source : Source) (ps : List Part) (t : Table) (work : List NodeClaim) (w : ℕ → Path) : Type 0 where

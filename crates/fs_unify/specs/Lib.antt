@@ -6,3 +6,4 @@ pub mod Given
 pub mod Entering
 pub mod Owing
 pub mod Placing
+pub mod Inner

@@ -1,8 +1,10 @@
 //! The graph of closed nodes.
 
-ghost use Rattle.std.specs.Prelude.{◌≡◌, ℕ, ◌<◌, ◌≤◌, ◌∷◌, [], length, map, None, Some, IfOk, OnOk, option_map, slice_index};
+ghost use Rattle.std.specs.Prelude.{◌≡◌, ℕ, ◌<◌, ◌≤◌, ◌∷◌, [], length, map, None, Some, IfOk, OnOk, option_map, slice_index, slice_index_or};
 ghost use Rattle.fs_graph.specs.GraphMap.{arc_to, Rises, reader_of};
 ghost use Rattle.fs_graph.specs.Visits.{feats_of, targets_of};
+ghost use Rattle.fs_closing.specs.Cells.{find_arc};
+ghost use Rattle.fs_closing.specs.OwnRows.{own_of};
 ghost use Rattle.fs_closing.specs.NodeTable.{table_of, IsWhole, IsWithin};
 ghost use Rattle.fs_closing.specs.Keeps.{deep_of};
 ghost use Rattle.fs_unify.specs.Entering.{IsGraphIn};
@@ -15,18 +17,21 @@ use fs_paths::Feat;
 use std::alloc::Global;
 use type_hierarchy::Ty;
 
-// The place of a feature among arcs by rising feature.
+// The place of a feature among arcs by rising feature. It is sought from the end, where it mostly is.
 fn place_of(arcs: &[GraphArc], feat: Feat) -> usize
+    requires { Rises arcs.now }
     ensures within { result ≤ length arcs.now }
     ensures before { (k : ℕ) → k < result → slice_index (feats_of arcs.now) k < feat.0 }
     ensures found { result < length arcs.now → feat.0 ≤ slice_index (feats_of arcs.now) result }
 {
-    for (i, arc) in arcs.iter().enumerate() {
-        if arc.feat.0 >= feat.0 {
-            return i;
+    let mut place = arcs.len();
+    while place > 0 {
+        if arcs[place - 1].feat.0 < feat.0 {
+            return place;
         }
+        place -= 1;
     }
-    arcs.len()
+    0
 }
 
 // A row gets an arc that it hasn't.
@@ -40,11 +45,30 @@ fn put_arc(row: &mut Vec<GraphArc>, feat: Feat, to: Node) -> Result<(), NoMemory
     Ok(())
 }
 
-// An empty row gets the arcs of a node.
-fn draw_arcs(row: &mut Vec<GraphArc>, nodes: &Nodes, n: u32) -> Result<(), NoMemory>
+// An empty row gets the arcs that a node has from its graph.
+fn draw_own(row: &mut Vec<GraphArc>, nodes: &Nodes, n: u32) -> Result<(), NoMemory>
     requires whole { IsWhole nodes.now }
     requires node { n < length nodes.now.types.items }
     requires empty { row.old.items ≡ [] }
+    ensures rises { OnOk result (Rises row.new.items) }
+    ensures here { OnOk result ((f : ℕ) → arc_to row.new.items f ≡ option_map (table_of nodes.now).live (find_arc (slice_index_or (own_of nodes.now.own) n []) f)) }
+    ensures to_in { OnOk result ((k : ℕ) → k < length row.new.items → slice_index (targets_of row.new.items) k < length nodes.now.types.items) }
+{
+    for i in 0..nodes.own.count(n) {
+        let cell = nodes.own.cell(n, i);
+        let to = live(&nodes.forwards, cell.to);
+        put_arc(row, Feat(cell.feat), Node(to))?;
+    }
+    Ok(())
+}
+
+// A row with the arcs that a node has from its graph gets those that were added.
+fn draw_cells(row: &mut Vec<GraphArc>, nodes: &Nodes, n: u32) -> Result<(), NoMemory>
+    requires whole { IsWhole nodes.now }
+    requires node { n < length nodes.now.types.items }
+    requires rises { Rises row.old.items }
+    requires own { (f : ℕ) → arc_to row.old.items f ≡ option_map (table_of nodes.now).live (find_arc (slice_index_or (own_of nodes.now.own) n []) f) }
+    requires to_in { (k : ℕ) → k < length row.old.items → slice_index (targets_of row.old.items) k < length nodes.now.types.items }
     ensures rises { OnOk result (Rises row.new.items) }
     ensures here { OnOk result ((f : ℕ) → arc_to row.new.items f ≡ option_map (table_of nodes.now).live ((table_of nodes.now).arc n f)) }
     ensures to_in { OnOk result ((k : ℕ) → k < length row.new.items → slice_index (targets_of row.new.items) k < length nodes.now.types.items) }
@@ -56,6 +80,20 @@ fn draw_arcs(row: &mut Vec<GraphArc>, nodes: &Nodes, n: u32) -> Result<(), NoMem
         put_arc(row, Feat(cell.feat), Node(to))?;
         place = cell.next;
     }
+    Ok(())
+}
+
+// An empty row gets the arcs of a node.
+fn draw_arcs(row: &mut Vec<GraphArc>, nodes: &Nodes, n: u32) -> Result<(), NoMemory>
+    requires whole { IsWhole nodes.now }
+    requires node { n < length nodes.now.types.items }
+    requires empty { row.old.items ≡ [] }
+    ensures rises { OnOk result (Rises row.new.items) }
+    ensures here { OnOk result ((f : ℕ) → arc_to row.new.items f ≡ option_map (table_of nodes.now).live ((table_of nodes.now).arc n f)) }
+    ensures to_in { OnOk result ((k : ℕ) → k < length row.new.items → slice_index (targets_of row.new.items) k < length nodes.now.types.items) }
+{
+    draw_own(row, nodes, n)?;
+    draw_cells(row, nodes, n)?;
     Ok(())
 }
 

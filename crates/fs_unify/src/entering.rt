@@ -1,11 +1,10 @@
 //! Graphs that enter as nodes.
 
-ghost use Rattle.std.specs.Prelude.{◌≡◌, ◌≢◌, ℕ, ◌+◌, ◌<◌, ◌≤◌, ◌^◌, List, length, None, IfOk, OnOk, All, slice_index_or};
+ghost use Rattle.std.specs.Prelude.{◌≡◌, ℕ, ◌+◌, ◌<◌, ◌≤◌, ◌^◌, List, length, IfOk, OnOk};
 ghost use Rattle.fs_model.specs.Claims.{Has, IsBare};
-ghost use Rattle.fs_graph.specs.GraphMap.{Rises};
 ghost use Rattle.fs_graph.specs.declared.graph.GraphArc.{GraphArc};
-ghost use Rattle.fs_closing.specs.NodeTable.{table_of, IsWhole, IsWithin};
-ghost use Rattle.fs_unify.specs.Entering.{AddsNodes, AddsRow, AddsRows, AreFlat, IsGraphIn, EntersTable, Owes, IsOwed, introducer_claims, rules_claims};
+ghost use Rattle.fs_closing.specs.NodeTable.{table_of};
+ghost use Rattle.fs_unify.specs.Entering.{AreFlat, IsGraphIn, EntersTable, Owes, IsOwed, introducer_claims, rules_claims};
 ghost use Rattle.fs_unify.specs.Owing.{OwesRules, OwesOnly};
 ghost use Rattle.fs_unify.specs.Placing.{owing_of};
 ghost use Rattle.type_hierarchy.specs.Table.{count_of};
@@ -17,59 +16,11 @@ ghost use Rattle.fs_closing.specs.Keeps.{AreSound};
 use crate::owed::Owed;
 use crate::parts::Standing;
 use fs_closing::fault::NoMemory;
-use fs_closing::nodes::{Nodes, add_arc, add_node};
+use fs_closing::nodes::{Nodes, add_graph};
 use fs_closing::steps::push_rules;
 use fs_closing::system::TypeSystem;
 use fs_closing::tasks::Tasks;
 use fs_graph::{Graph, GraphArc, Node};
-
-/// Adds a graph's nodes, without their arcs.
-pub fn add_nodes(nodes: &mut Nodes, graph: &Graph) -> Result<(), NoMemory>
-    requires { IsWhole nodes.old }
-    ensures adds { OnOk result (AddsNodes graph.now (length graph.now.types) (table_of nodes.old) (table_of nodes.new)) }
-    ensures flat { OnOk result (AreFlat nodes.old.depths.items → AreFlat nodes.new.depths.items) }
-    ensures whole { OnOk result (IsWhole nodes.new) }
-    ensures within { OnOk result ((types feats : ℕ) → All (λ t. t < types) graph.now.types → IsWithin types feats nodes.old → IsWithin types feats nodes.new) }
-{
-    for k in 0..graph.nodes() {
-        add_node(nodes, graph.ty(Node(k)).0, 0)?;
-    }
-    Ok(())
-}
-
-/// Gives a node the arcs of a graph's node, whose nodes begin at an offset.
-pub fn add_row(nodes: &mut Nodes, offset: u32, n: u32, arcs: &[GraphArc]) -> Result<(), NoMemory>
-    requires whole { IsWhole nodes.old }
-    requires node { n < length nodes.old.types.items }
-    requires rises { Rises arcs.now }
-    requires targets { (a : GraphArc) → Has a arcs.now → offset + a.to.0 < length nodes.old.types.items }
-    requires empty { (f : ℕ) → (table_of nodes.old).arc n f ≡ None }
-    ensures row { OnOk result (AddsRow offset n arcs.now (table_of nodes.old) (table_of nodes.new)) }
-    ensures depths { OnOk result (nodes.new.depths.items ≡ nodes.old.depths.items) }
-    ensures whole { OnOk result (IsWhole nodes.new) }
-    ensures within { OnOk result ((types feats : ℕ) → ((a : GraphArc) → Has a arcs.now → a.feat.0 < feats) → IsWithin types feats nodes.old → IsWithin types feats nodes.new) }
-{
-    for arc in arcs {
-        add_arc(nodes, n, arc.feat.0, offset + arc.to.0)?;
-    }
-    Ok(())
-}
-
-/// Gives the nodes from an offset on the arcs of a graph's nodes.
-pub fn add_rows(nodes: &mut Nodes, graph: &Graph, offset: u32) -> Result<(), NoMemory>
-    requires whole { IsWhole nodes.old }
-    requires room { offset + length graph.now.types ≤ length nodes.old.types.items }
-    requires empty { (k f : ℕ) → k < length graph.now.types → (table_of nodes.old).arc (offset + k) f ≡ None }
-    ensures rows { OnOk result (AddsRows graph.now offset (length graph.now.types) (table_of nodes.old) (table_of nodes.new)) }
-    ensures depths { OnOk result (nodes.new.depths.items ≡ nodes.old.depths.items) }
-    ensures whole { OnOk result (IsWhole nodes.new) }
-    ensures within { OnOk result ((types feats : ℕ) → IsGraphIn types feats graph.now → IsWithin types feats nodes.old → IsWithin types feats nodes.new) }
-{
-    for k in 0..graph.nodes() {
-        add_row(nodes, offset, offset + k, graph.arcs(Node(k)))?;
-    }
-    Ok(())
-}
 
 // Puts a node at or below the introducers of its arcs.
 fn push_introducers(
@@ -183,9 +134,7 @@ pub fn enter(
     ensures flat { OnOk result (AreFlat nodes.old.depths.items → AreFlat nodes.new.depths.items) }
     ensures sound { OnOk result (AreSound system.now nodes.new tasks.new) }
 {
-    let offset = nodes.types.len() as u32;
-    add_nodes(nodes, graph)?;
-    add_rows(nodes, graph, offset)?;
+    let offset = add_graph(nodes, graph)?;
     push_forced(tasks, system, graph, offset, standing)?;
     Ok(offset)
 }

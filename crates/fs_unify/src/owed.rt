@@ -1,11 +1,13 @@
 //! What a graph owes that was cut out of a well-formed one.
 
-ghost use Rattle.std.specs.Prelude.{◌≡◌, ◌<◌, map, length, filter, IfOk, slice_index_or};
+ghost use Rattle.std.specs.Prelude.{◌≡◌, ◌<◌, Bool, map, length, filter, IfOk, slice_index_or};
 ghost use Rattle.std.specs.List.{list_any};
 ghost use Rattle.type_hierarchy.specs.Table.{count_of};
 ghost use Rattle.fs_paths.specs.Facts.{path_of, claim_of, claims_of};
 ghost use Rattle.fs_closing.specs.Rules.{no_rule, rules_above, HaveSame};
+ghost use Rattle.fs_model.specs.Claims.{Claim};
 ghost use Rattle.fs_unify.specs.Owing.{is_one_of, begins_with, is_cut_off, speaks_of, owed_by, row_at, HaveOwing, ListsOwed};
+ghost use Rattle.fs_unify.specs.Inner.Marks.{HaveMarks};
 
 use fs_closing::fault::NoMemory;
 use fs_closing::system::TypeSystem;
@@ -91,20 +93,38 @@ fn one_speaks_of(facts: &[Fact], at_root: &[Feat], anywhere: &[Feat]) -> bool
     false
 }
 
-// The rules at or above a type that have a fact which speaks of a path that is cut off.
+// For each rule, whether it has a fact that speaks of a path that is cut off. Rules stand above many types, so each is looked at
+// once.
+fn marks_of(
+    alloc: Global,
+    system: &TypeSystem,
+    at_root: &[Feat],
+    anywhere: &[Feat],
+) -> Result<Vec<bool>, NoMemory>
+    ensures { IfOk result (λ marks. HaveMarks system.now (speaks_of (path_of at_root.now) (path_of anywhere.now)) (length system.now.rules) marks.items) }
+{
+    let count = system.rule_count();
+    let mut marks = Vec::with_capacity(alloc, count as usize)?;
+    for rule in 0..count {
+        marks.push(one_speaks_of(system.facts(rule), at_root, anywhere))?;
+    }
+    Ok(marks)
+}
+
+// The rules at or above a type that are marked.
 fn rules_owed(
     alloc: Global,
     system: &TypeSystem,
     t: u32,
-    at_root: &[Feat],
-    anywhere: &[Feat],
+    marks: &[bool],
 ) -> Result<Vec<u32>, NoMemory>
-    requires { t < count_of system.now.types }
-    ensures { IfOk result (λ row. HaveSame row.items (filter (λ j. list_any (speaks_of (path_of at_root.now) (path_of anywhere.now)) (slice_index_or system.now.rules j no_rule).claims) (rules_above system.now.types system.now.rules t))) }
+    requires within { t < count_of system.now.types }
+    requires marks { length marks.now ≡ length system.now.rules }
+    ensures { IfOk result (λ row. (owed : Claim → Bool) → HaveMarks system.now owed (length system.now.rules) marks.now → HaveSame row.items (filter (λ j. list_any owed (slice_index_or system.now.rules j no_rule).claims) (rules_above system.now.types system.now.rules t))) }
 {
     let mut row = Vec::new(alloc);
     for rule in system.rules_above(t) {
-        if one_speaks_of(system.facts(*rule), at_root, anywhere) {
+        if marks[*rule as usize] {
             row.push(*rule)?;
         }
     }
@@ -120,10 +140,11 @@ fn rows_owed(
 ) -> Result<Vec<Vec<u32>>, NoMemory>
     ensures { IfOk result (λ rows. HaveOwing system.now (speaks_of (path_of at_root.now) (path_of anywhere.now)) (count_of system.now.types) (map (λ row. row.items) rows.items)) }
 {
+    let marks = marks_of(alloc, system, at_root, anywhere)?;
     let count = system.types().counts().all;
     let mut rows = Vec::with_capacity(alloc, count as usize)?;
     for t in 0..count {
-        rows.push(rules_owed(alloc, system, t, at_root, anywhere)?)?;
+        rows.push(rules_owed(alloc, system, t, &marks)?)?;
     }
     Ok(rows)
 }

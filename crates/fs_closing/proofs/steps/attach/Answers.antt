@@ -37,6 +37,7 @@ returns-clause-arcs c =
     record {
       size = two.size ∙ ap length one.types;
       forwards = two.forwards ∙ one.forwards;
+      own = two.own ∙ one.own;
       more = omega (arith, one.more, two.more);
       chains = λ place h. two.chains place (omega (arith, h, one.more)) ∙ one.chains place h;
     }

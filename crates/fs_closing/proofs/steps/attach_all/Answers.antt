@@ -1,94 +1,50 @@
-use Rattle.std.proofs.Common.{◌≡◌, ◌≤◌, ◌-◌, [], ◌∷◌, ◌++◌, length, slice_index_or, sym, ◌∙◌, ap, subst, arith}
-use Rattle.std.proofs.lemmas.List.{get_or_default}
-use Rattle.fs_model.specs.Table.{is_same}
-use Rattle.fs_closing.specs.Cells.{live_of, chain, no_cell}
-use Rattle.fs_closing.specs.Rules.{system_of}
+use Rattle.std.proofs.Common.{[], ◌++◌, slice_index_or, sym, ◌∙◌, ap, subst, arith}
+use Rattle.fs_closing.specs.Cells.{live_of, chain}
+use Rattle.fs_closing.specs.OwnRows.{own_of}
 use Rattle.fs_closing.specs.Work.{work_of}
-use Rattle.fs_closing.specs.Keeps.{Turns, StepsTo, deep_of, arc_claims}
-use Rattle.fs_closing.proofs.ChainLemmas.{chain_at, chain-none}
-use Rattle.fs_closing.proofs.StepLemmas.{turn_one, refute_one}
+use Rattle.fs_closing.specs.Keeps.{StepsTo, Leads, Clashes, arc_claims}
+use Rattle.fs_closing.proofs.StepLemmas.{claims_append, rest_after, rest_clashes, steps_after}
 use Rattle.fs_closing.proofs.steps.attach_all.Goals as goal
 
-pub attach-requires-clause-to_in : goal.attach-requires-clause-to_in
-attach-requires-clause-to_in c =
-    let cells = c.loop-place.nodes.cells.items in
-    let is : c.index-cell.result.now ≡ slice_index_or c.loop-place.nodes.cells.items (c.loop-place.place - 1) no_cell =
-    c.index-cell.ensures ∙ get_or_default cells (c.loop-place.place - 1) _ no_cell (omega arith) in
-    let at = chain_at cells c.loop-place.place c.index-cell.result.now c.loop-place-test.true c.loop-place.invariant.place_in
-    c.loop-place.invariant.sound.whole.places is in
-    c.loop-place.invariant.sound.whole.to_in c.index-cell.result.now at.2
+pub attach_own-requires-clause-of_in : goal.attach_own-requires-clause-of_in
+attach_own-requires-clause-of_in c = omega (arith, c.in_ok-attach_cells.ensures.arcs.size, c.requires.of_in)
 
-pub attach-requires-clause-feat_in : goal.attach-requires-clause-feat_in
-attach-requires-clause-feat_in c =
-    let cells = c.loop-place.nodes.cells.items in
-    let is : c.index-cell.result.now ≡ slice_index_or c.loop-place.nodes.cells.items (c.loop-place.place - 1) no_cell =
-    c.index-cell.ensures ∙ get_or_default cells (c.loop-place.place - 1) _ no_cell (omega arith) in
-    let at = chain_at cells c.loop-place.place c.index-cell.result.now c.loop-place-test.true c.loop-place.invariant.place_in
-    c.loop-place.invariant.sound.whole.places is in
-    c.loop-place.invariant.sound.within.feat_in c.index-cell.result.now at.2
+pub attach_own-requires-clause-node : goal.attach_own-requires-clause-node
+attach_own-requires-clause-node c = omega (arith, c.in_ok-attach_cells.ensures.arcs.size, c.requires.node)
 
-pub loop-place-preserved : goal.loop-place-preserved
-loop-place-preserved c =
-    let cells = c.loop-place.nodes.cells.items in
-    let s = system_of c.args.system.now in
+pub attach_own-requires-clause-stays : goal.attach_own-requires-clause-stays
+attach_own-requires-clause-stays c = ap (λ l. live_of l c.args.n) c.in_ok-attach_cells.ensures.arcs.forwards ∙ c.requires.stays
+
+pub attach_own-requires-clause-sound : goal.attach_own-requires-clause-sound
+attach_own-requires-clause-sound c =
+    let g = c.args.system.now in
+    let nodes = c.args.nodes.now in
+    let work = arc_claims c.args.n (chain nodes.cells.items c.args.first) ++ work_of g.rules c.args.tasks.now in
+    (subst (StepsTo g nodes work c.attach_cells.new.nodes c.attach_cells.new.tasks) c.in-true.is c.in_ok-attach_cells.ensures.steps).1
+
+pub returns-in_ok-ok-in-true : goal.returns-in_ok-ok-in-true
+returns-in_ok-ok-in-true c =
+    let g = c.args.system.now in
+    let nodes = c.args.nodes.now in
     let n = c.args.n in
-    let is : c.index-cell.result.now ≡ slice_index_or c.loop-place.nodes.cells.items (c.loop-place.place - 1) no_cell =
-    c.index-cell.ensures ∙ get_or_default cells (c.loop-place.place - 1) _ no_cell (omega arith) in
-    let at = chain_at cells c.loop-place.place c.index-cell.result.now c.loop-place-test.true c.loop-place.invariant.place_in
-    c.loop-place.invariant.sound.whole.places is in
-    let start = arc_claims n (chain c.args.nodes.now.cells.items c.args.first) ++ work_of c.args.system.now.rules c.args.tasks.now in
-    let before = subst (λ l. Turns s (deep_of c.args.nodes.now) start (deep_of c.loop-place.nodes) (arc_claims n l ++ work_of c.args.system.now.rules c.loop-place.tasks))
-    at.0 c.loop-place.invariant.leads in
-    let arcs = c.in_ok-attach.ensures.arcs in
-    let cell = c.index-cell.result.now in
-    let work = work_of c.args.system.now.rules c.loop-place.tasks in
-    let step = subst (StepsTo c.args.system.now c.loop-place.nodes (is_same n (cell.feat ∷ []) cell.to [] ∷ work) c.attach.new.nodes c.attach.new.tasks)
-    c.in-true.is c.in_ok-attach.ensures.steps in
-    let next_in : c.index-cell.result.now.next ≤ length cells = omega (arith, at.1, c.loop-place.invariant.place_in) in
-    record {
-      leads = subst (λ l. Turns s (deep_of c.args.nodes.now) start (deep_of c.attach.new.nodes) (arc_claims n l ++ work_of c.args.system.now.rules c.attach.new.tasks))
-          (sym (arcs.chains c.index-cell.result.now.next next_in))
-          (turn_one s (deep_of c.args.nodes.now) (deep_of c.loop-place.nodes) (deep_of c.attach.new.nodes) start _ _ _ _ before step.0);
-      sound = step.1;
-      node = omega (arith, arcs.size, c.loop-place.invariant.node);
-      place_in = omega (arith, next_in, arcs.more);
-      stays = ap (λ l. live_of l n) arcs.forwards ∙ c.loop-place.invariant.stays;
-    }
-
-pub loop-place-smaller : goal.loop-place-smaller
-loop-place-smaller c =
-    let cells = c.loop-place.nodes.cells.items in
-    let is : c.index-cell.result.now ≡ slice_index_or c.loop-place.nodes.cells.items (c.loop-place.place - 1) no_cell =
-    c.index-cell.ensures ∙ get_or_default cells (c.loop-place.place - 1) _ no_cell (omega arith) in
-    let at = chain_at cells c.loop-place.place c.index-cell.result.now c.loop-place-test.true c.loop-place.invariant.place_in
-    c.loop-place.invariant.sound.whole.places is in
-    at.1
+    let added = chain nodes.cells.items c.args.first in
+    let own = slice_index_or (own_of nodes.own) c.args.of [] in
+    let work = work_of g.rules c.args.tasks.now in
+    let one = (subst (StepsTo g nodes (arc_claims n added ++ work) c.attach_cells.new.nodes c.attach_cells.new.tasks) c.in-true.is c.in_ok-attach_cells.ensures.steps).0 in
+    let both = rest_after g nodes c.attach_cells.new.nodes (arc_claims n added) (arc_claims n own) work (work_of g.rules c.attach_cells.new.tasks) one in
+    let start = subst (λ l. Leads g nodes (l ++ work) c.attach_cells.new.nodes (arc_claims n own ++ work_of g.rules c.attach_cells.new.tasks)) (sym (claims_append n added own)) both in
+    steps_after g nodes c.attach_cells.new.nodes c.attach_own.new.nodes (arc_claims n (added ++ own) ++ work) (arc_claims n own ++ work_of g.rules c.attach_cells.new.tasks)
+    c.attach_own.new.tasks c.in_ok-ok-in-true.ok start
+    (subst (λ o. StepsTo g c.attach_cells.new.nodes (arc_claims n (slice_index_or (own_of o) c.args.of []) ++ work_of g.rules c.attach_cells.new.tasks)
+    c.attach_own.new.nodes c.attach_own.new.tasks c.in_ok-ok-in-true.ok) c.in_ok-attach_cells.ensures.arcs.own c.in_ok-ok-in-true.ensures)
 
 pub returns-in-false : goal.returns-in-false
 returns-in-false c =
-    let cells = c.loop-place.nodes.cells.items in
-    let s = system_of c.args.system.now in
+    let g = c.args.system.now in
+    let nodes = c.args.nodes.now in
     let n = c.args.n in
-    let is : c.index-cell.result.now ≡ slice_index_or c.loop-place.nodes.cells.items (c.loop-place.place - 1) no_cell =
-    c.index-cell.ensures ∙ get_or_default cells (c.loop-place.place - 1) _ no_cell (omega arith) in
-    let at = chain_at cells c.loop-place.place c.index-cell.result.now c.loop-place-test.true c.loop-place.invariant.place_in
-    c.loop-place.invariant.sound.whole.places is in
-    let start = arc_claims n (chain c.args.nodes.now.cells.items c.args.first) ++ work_of c.args.system.now.rules c.args.tasks.now in
-    let before = subst (λ l. Turns s (deep_of c.args.nodes.now) start (deep_of c.loop-place.nodes) (arc_claims n l ++ work_of c.args.system.now.rules c.loop-place.tasks))
-    at.0 c.loop-place.invariant.leads in
-    let cell = c.index-cell.result.now in
-    let work = work_of c.args.system.now.rules c.loop-place.tasks in
-    refute_one s (deep_of c.args.nodes.now) (deep_of c.loop-place.nodes) start (is_same n (cell.feat ∷ []) cell.to [])
-    (arc_claims n (chain c.loop-place.nodes.cells.items cell.next)) work before
-    (subst (StepsTo c.args.system.now c.loop-place.nodes (is_same n (cell.feat ∷ []) cell.to [] ∷ work) c.attach.new.nodes c.attach.new.tasks)
-    c.in-false.is c.in_ok-attach.ensures.steps)
-
-pub returns : goal.returns
-returns c =
-    let none : c.loop-place.place ≡ 0 = omega (arith, c.loop-place-test.false) in
-    let s = system_of c.args.system.now in
-    let start = arc_claims c.args.n (chain c.args.nodes.now.cells.items c.args.first) ++ work_of c.args.system.now.rules c.args.tasks.now in (
-      subst (λ l. Turns s (deep_of c.args.nodes.now) start (deep_of c.loop-place.nodes) (arc_claims c.args.n l ++ work_of c.args.system.now.rules c.loop-place.tasks))
-          (ap (chain c.loop-place.nodes.cells.items) none ∙ chain-none c.loop-place.nodes.cells.items) c.loop-place.invariant.leads,
-      c.loop-place.invariant.sound,
-    )
+    let added = chain nodes.cells.items c.args.first in
+    let own = slice_index_or (own_of nodes.own) c.args.of [] in
+    let work = work_of g.rules c.args.tasks.now in
+    let one = subst (StepsTo g nodes (arc_claims n added ++ work) c.attach_cells.new.nodes c.attach_cells.new.tasks) c.in-false.is c.in_ok-attach_cells.ensures.steps in
+    subst (λ l. Clashes g nodes (l ++ work)) (sym (claims_append n added own)) (rest_clashes g nodes (arc_claims n added) (arc_claims n own) work one)

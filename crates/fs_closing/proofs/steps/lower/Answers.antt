@@ -3,6 +3,7 @@ use Rattle.std.proofs.Math.ListN.{set}
 use Rattle.std.proofs.lemmas.List.{get_or_default, length-set}
 use Rattle.fs_model.specs.Table.{NodeClaim}
 use Rattle.fs_model.specs.Steps.{Lowers}
+use Rattle.fs_closing.specs.OwnRows.{own_of}
 use Rattle.fs_closing.specs.NodeTable.{table_of, table_from}
 use Rattle.fs_closing.specs.Rules.{system_of}
 use Rattle.fs_closing.specs.Work.{work_of}
@@ -19,11 +20,11 @@ returns-clause-leads c = λ m u e meet.
     let work' = work_of c.args.system.now.rules c.push_rules.new.tasks in
     let old = c.index-old.ensures ∙ get_or_default nodes.types.items c.args.n _ 0 c.requires.node in
     let pushed = subst (λ t. PushesFacts s c.args.n c.args.ty t t work work') old c.in_ok-push_rules.ensures.work in
-    let after = table_from (set nodes.types.items c.args.n c.args.ty) nodes.forwards.items nodes.firsts.items nodes.cells.items in
+    let after = table_from (set nodes.types.items c.args.n c.args.ty) nodes.forwards.items nodes.firsts.items nodes.cells.items (own_of nodes.own) in
     let y : Deep = record { table = after; depth = λ k. slice_index_or nodes.depths.items k 0 } in
     let lowers = λ (extra : List NodeClaim).
     subst (λ k. Lowers s (table_of nodes) after (work ++ extra) (work' ++ extra) k u c.args.ty) (sym e)
-    (table_lowered s nodes.types.items nodes.forwards.items nodes.depths.items nodes.firsts.items nodes.cells.items c.args.n u c.args.ty work work' extra
+    (table_lowered s nodes.types.items nodes.forwards.items nodes.depths.items nodes.firsts.items nodes.cells.items (own_of nodes.own) c.args.n u c.args.ty work work' extra
     c.requires.node meet pushed) in
     Turns-lowers s c.requires.order (deep_of nodes) y m u c.args.ty work work' lowers
     (λ k. refl)
@@ -32,6 +33,7 @@ pub returns-clause-arcs : goal.returns-clause-arcs
 returns-clause-arcs c = record {
   size = length-set c.args.nodes.now.types.items c.args.n c.args.ty;
   forwards = refl;
+  own = refl;
   more = omega arith;
   chains = λ place h. refl;
 }

@@ -5,6 +5,8 @@ use Rattle.type_hierarchy.specs.Laws.{HasTypeLaws}
 use Rattle.fs_model.specs.Table.{NodeClaim, is_same}
 use Rattle.fs_model.specs.Steps.{Joins}
 use Rattle.fs_closing.specs.Cells.{live_of, chain}
+use Rattle.fs_closing.specs.OwnRows.{own_of}
+use Rattle.fs_closing.specs.NodeTable.{row_of}
 use Rattle.fs_closing.specs.Rules.{system_of}
 use Rattle.fs_closing.specs.Work.{work_of, AreReady}
 use Rattle.fs_closing.specs.Keeps.{StepsTo, deep_of, arc_claims, PushesFacts}
@@ -119,7 +121,7 @@ returns c = λ n m en em.
     let b_firsts : b < length nodes.firsts.items = omega (arith, c.requires.b_in, c.requires.sound.whole.firsts_even) in
     let first = c.index-first.ensures ∙ get_or_default nodes.firsts.items b _ 0 b_firsts in
     let apart : live_of nodes.forwards.items n ≢ live_of nodes.forwards.items m = λ e. omega (arith, en, em, e, c.requires.order) in
-    let row = chain nodes.cells.items (slice_index_or nodes.firsts.items b 0) in
+    let row = row_of nodes.firsts.items nodes.cells.items (own_of nodes.own) b in
     let joins = λ (extra : List NodeClaim).
     subst (λ k. Joins s x.table y.table (work ++ extra) ((arc_claims a row ++ pushed) ++ extra) k (live_of nodes.forwards.items m) c.in-Some.met.0) (sym en)
     (subst (λ k. Joins s x.table y.table (work ++ extra) ((arc_claims a row ++ pushed) ++ extra) a k c.in-Some.met.0) (sym em)
@@ -128,7 +130,8 @@ returns c = λ n m en em.
     let order = order_of_laws g (subst HasTypeLaws c.types-types.ensures c.laws.ensures) in
     let leads = Turns-joins s order x y n m c.in-Some.met.0 work (arc_claims a row ++ pushed) apart joins
     (λ k. ap (λ l. slice_index_or l k 0) c.unite.ensures.depths) in
-    let cells = ap (λ l. arc_claims a (chain l c.index-first.result.now) ++ pushed) c.unite.ensures.cells
-    ∙ ap (λ p. arc_claims a (chain nodes.cells.items p) ++ pushed) first in
+    let cells = ap (λ l. arc_claims a (chain l c.index-first.result.now ++ slice_index_or (own_of c.unite.new.nodes.own) b []) ++ pushed) c.unite.ensures.cells
+    ∙ ap (λ o. arc_claims a (chain nodes.cells.items c.index-first.result.now ++ slice_index_or (own_of o) b []) ++ pushed) c.unite.ensures.own
+    ∙ ap (λ p. arc_claims a (chain nodes.cells.items p ++ slice_index_or (own_of nodes.own) b []) ++ pushed) first in
     steps_after g nodes c.unite.new.nodes c.attach_all.new.nodes (is_same n [] m [] ∷ work) (arc_claims a row ++ pushed) c.attach_all.new.tasks c.in_ok-ok.ok leads
     (subst (λ l. StepsTo g c.unite.new.nodes l c.attach_all.new.nodes c.attach_all.new.tasks c.in_ok-ok.ok) cells c.in_ok-ok.ensures)

@@ -1,7 +1,8 @@
 use Rattle.std.proofs.Common.{◌<◌, length, sym, ◌∙◌, subst, arith}
 use Rattle.std.proofs.lemmas.List.{nil_from_length, get_or_default}
 use Rattle.std.proofs.lemmas.Result.{err_from_is_err_and}
-use Rattle.fs_graph.specs.Visits.{plan_of, left_of}
+use Rattle.fs_graph.specs.Visits.{plan_of}
+use Rattle.fs_graph.specs.Inner.Going.{left_of}
 use Rattle.fs_graph.specs.Inner.Heights.{AreHeights}
 use Rattle.fs_graph.proofs.RowLemmas.{visitable}
 use Rattle.fs_graph.proofs.OrderLemmas.{able_here, going_pops, going_back, order_is, clash_back}

@@ -1,5 +1,6 @@
 use Rattle.std.proofs.Common.{length}
-use Rattle.fs_graph.specs.Visits.{plan_of, IsGoing, left_of}
+use Rattle.fs_graph.specs.Visits.{plan_of}
+use Rattle.fs_graph.specs.Inner.Going.{IsGoing, left_of}
 use Rattle.fs_graph.specs.Inner.Heights.{AreHeights}
 use Rattle.fs_graph.proofs.order.order_in.Given as goal
 

@@ -1,6 +1,6 @@
 use Rattle.std.proofs.Common.{◌<◌, ◌++◌, length, map, sym, ◌∙◌, ap, subst}
 use Rattle.std.proofs.lemmas.List.{append-nil, get_or-map, take_all}
-use Rattle.fs_graph.specs.Renumbering.{renumber}
+use Rattle.fs_graph.specs.Inner.Renumbering.{renumber}
 use Rattle.fs_graph.proofs.OrderLemmas.{push_more}
 use Rattle.fs_graph.proofs.order.push_row.Goals as goal
 

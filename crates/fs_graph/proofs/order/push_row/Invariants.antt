@@ -1,5 +1,5 @@
 use Rattle.std.proofs.Common.{◌≡◌, ◌++◌, map, take}
-use Rattle.fs_graph.specs.Renumbering.{renumber}
+use Rattle.fs_graph.specs.Inner.Renumbering.{renumber}
 use Rattle.fs_graph.proofs.order.push_row.Given as goal
 
 abbrev pub invariant-loop-arc : goal.invariant-loop-arc

@@ -1,4 +1,4 @@
-use Rattle.fs_graph.specs.Renumbering.{AreRenumbered}
+use Rattle.fs_graph.specs.Inner.Renumbering.{AreRenumbered}
 use Rattle.fs_graph.proofs.order.renumbered.Given as goal
 
 abbrev pub invariant-loop-node : goal.invariant-loop-node

@@ -1,5 +1,6 @@
 use Rattle.std.proofs.Common.{◌+◌, length, slice_index, sym, ◌∙◌, ap, subst, arith}
-use Rattle.fs_graph.specs.Visits.{plan_of, IsVisitable}
+use Rattle.fs_graph.specs.Visits.{plan_of}
+use Rattle.fs_graph.specs.Inner.Going.{IsVisitable}
 use Rattle.fs_graph.specs.Inner.Heights.{IsAbove}
 use Rattle.fs_graph.proofs.HeightLemmas.{heights_close}
 use Rattle.fs_graph.proofs.VisitCode.{frame_in, next_in, target_in, visit_closes, less_closes, pass_enters, pass_goes_on, pass_clashes}

@@ -1,24 +1,37 @@
-use Rattle.std.proofs.Common.{below_more, arith}
+use Rattle.std.proofs.Common.{◌≤◌, ◌<◌, ◌-◌, length, sym, subst, arith}
 use Rattle.std.proofs.lemmas.List.{get_or-map}
+use Rattle.fs_graph.specs.declared.graph.GraphArc.{GraphArc}
+use Rattle.fs_closing.proofs.OwnLemmas.{no_arc}
+use Rattle.fs_unify.proofs.DrawRows.{below_place, past_place}
 use Rattle.fs_unify.proofs.draw.place_of.Goals as goal
 
-pub loop-i-init : goal.loop-i-init
-loop-i-init c = λ k h. absurd (omega arith)
+pub loop-place-init : goal.loop-place-init
+loop-place-init c = record { within = omega arith; past = λ k a b. absurd (omega arith) }
 
-pub returns-then-arc-feat-clause-before : goal.returns-then-arc-feat-clause-before
-returns-then-arc-feat-clause-before c = c.loop-i.invariant
+pub returns-then-arcs-place-clause-before : goal.returns-then-arcs-place-clause-before
+returns-then-arcs-place-clause-before c =
+    let arcs = c.args.arcs.now in
+    let in' : c.loop-place.place - 1 < length c.args.arcs.now = omega (arith, c.loop-place-test.true, c.loop-place.invariant.within) in
+    let is = get_or-map (λ (a : GraphArc). a.feat.0) arcs (c.loop-place.place - 1) no_arc 0 in' in
+    below_place arcs c.loop-place.place c.args.feat.0 c.requires c.loop-place-test.true c.loop-place.invariant.within
+    (subst (λ x. x < c.args.feat.0) (sym is) c.if-arcs-place.true)
 
-pub returns-then-arc-feat-clause-found : goal.returns-then-arc-feat-clause-found
-returns-then-arc-feat-clause-found c = λ h.
-    let e = get_or-map (λ a. a.feat.0) c.args.arcs.now c.loop-i.i (record { feat = record { 0 = 0 }; to = record { 0 = 0 } }) 0 c.loop-i-test.true in
-    let t = c.if-arc-feat.true in
-    omega arith
+pub returns-then-arcs-place-clause-found : goal.returns-then-arcs-place-clause-found
+returns-then-arcs-place-clause-found c = λ h. c.loop-place.invariant.past c.loop-place.place (omega arith) h
 
-pub loop-i-preserved : goal.loop-i-preserved
-loop-i-preserved c =
-    let e = get_or-map (λ a. a.feat.0) c.args.arcs.now c.loop-i.i (record { feat = record { 0 = 0 }; to = record { 0 = 0 } }) 0 c.loop-i-test.true in
-    let t = c.if-arc-feat.false in
-    below_more _ _ c.loop-i.invariant (omega arith)
+pub loop-place-preserved : goal.loop-place-preserved
+loop-place-preserved c =
+    let arcs = c.args.arcs.now in
+    let in' : c.loop-place.place - 1 < length c.args.arcs.now = omega (arith, c.loop-place-test.true, c.loop-place.invariant.within) in
+    let is = get_or-map (λ (a : GraphArc). a.feat.0) arcs (c.loop-place.place - 1) no_arc 0 in' in
+    record {
+      within = omega (arith, c.loop-place.invariant.within);
+      past = past_place arcs c.loop-place.place c.args.feat.0 c.loop-place-test.true c.loop-place.invariant.past
+          (subst (λ x. c.args.feat.0 ≤ x) (sym is) c.if-arcs-place.false);
+    }
 
 pub returns-clause-before : goal.returns-clause-before
-returns-clause-before c = λ k h. c.loop-i.invariant k (let a = c.loop-i-test.false in omega arith)
+returns-clause-before c = λ k h. absurd (omega arith)
+
+pub returns-clause-found : goal.returns-clause-found
+returns-clause-found c = λ h. c.loop-place.invariant.past 0 (omega (arith, c.loop-place-test.false)) h

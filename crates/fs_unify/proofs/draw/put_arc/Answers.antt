@@ -1,7 +1,11 @@
-use Rattle.std.proofs.Common.{ℕ, ◌<◌, ◌≤◌, length, slice_index, subst}
+use Rattle.std.proofs.Common.{ℕ, ◌<◌, ◌≤◌, length, slice_index, sym, subst}
+use Rattle.fs_graph.specs.GraphMap.{Rises}
 use Rattle.fs_graph.specs.Visits.{feats_of}
 use Rattle.fs_unify.proofs.DrawRows.{puts_arc}
 use Rattle.fs_unify.proofs.draw.put_arc.Goals as goal
+
+pub place_of-place-requires : goal.place_of-place-requires
+place_of-place-requires c = subst Rises (sym c.deref.ensures.value) c.requires.rises
 
 pub returns : goal.returns
 returns c =

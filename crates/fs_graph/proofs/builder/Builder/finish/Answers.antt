@@ -1,7 +1,7 @@
 use Rattle.std.proofs.Common.{◌++◌, length, map, take, slice_index_or, sym, ◌∙◌, ap, subst, arith}
 use Rattle.std.specs.Result.{IfOk, IfErr}
 use Rattle.std.specs.List.{range_with_len, flat_map}
-use Rattle.fs_graph.specs.Renumbering.{starts_of}
+use Rattle.fs_graph.specs.Inner.Renumbering.{starts_of}
 use Rattle.fs_graph.specs.Orders.{IsOrdering, IsClash}
 use Rattle.fs_graph.proofs.FlatLemmas.{flat-more, starts-more}
 use Rattle.fs_graph.proofs.DrawLemmas.{items, drawn_plan}

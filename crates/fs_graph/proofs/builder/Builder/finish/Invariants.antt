@@ -1,6 +1,6 @@
 use Rattle.std.proofs.Common.{◌≡◌, map, take}
 use Rattle.std.specs.List.{range_with_len, flat_map}
-use Rattle.fs_graph.specs.Renumbering.{starts_of}
+use Rattle.fs_graph.specs.Inner.Renumbering.{starts_of}
 use Rattle.fs_graph.proofs.DrawLemmas.{items}
 use Rattle.fs_graph.proofs.builder.Builder.finish.Given as goal
 

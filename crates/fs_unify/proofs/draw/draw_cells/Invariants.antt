@@ -1,14 +1,16 @@
-use Rattle.std.proofs.Common.{ℕ, ◌≤◌, ◌<◌, length, slice_index_or, slice_index}
+use Rattle.std.proofs.Common.{ℕ, ◌≤◌, ◌<◌, length, slice_index}
 use Rattle.fs_graph.specs.GraphMap.{arc_to, Rises}
 use Rattle.fs_graph.specs.Visits.{targets_of}
 use Rattle.fs_closing.specs.Cells.{chain, AreOnce}
+use Rattle.fs_closing.specs.OwnRows.{own_of}
+use Rattle.fs_closing.specs.NodeTable.{row_of}
 use Rattle.fs_unify.proofs.DrawCells.{DrawsCells}
-use Rattle.fs_unify.proofs.draw.draw_arcs.Given as goal
+use Rattle.fs_unify.proofs.draw.draw_cells.Given as goal
 
 abbrev pub invariant-loop-place : goal.invariant-loop-place
 invariant-loop-place l =
     record {
-      draws : DrawsCells l.nodes.forwards.items (chain l.nodes.cells.items (slice_index_or l.nodes.firsts.items l.n 0)) (chain l.nodes.cells.items l.place)
+      draws : DrawsCells l.nodes.forwards.items (row_of l.nodes.firsts.items l.nodes.cells.items (own_of l.nodes.own) l.n) (chain l.nodes.cells.items l.place)
           (λ f. arc_to l.row.items f);
       once : AreOnce (chain l.nodes.cells.items l.place);
       rises : Rises l.row.items;

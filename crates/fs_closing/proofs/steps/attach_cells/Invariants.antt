@@ -1,8 +1,9 @@
 use Rattle.std.proofs.Common.{◌≡◌, ◌<◌, ◌≤◌, ◌++◌, length}
 use Rattle.fs_closing.specs.Cells.{live_of, chain}
+use Rattle.fs_closing.specs.NodeSteps.{KeepsArcs}
 use Rattle.fs_closing.specs.Work.{work_of}
 use Rattle.fs_closing.specs.Keeps.{AreSound, Leads, arc_claims}
-use Rattle.fs_closing.proofs.steps.attach_all.Given as goal
+use Rattle.fs_closing.proofs.steps.attach_cells.Given as goal
 
 abbrev pub invariant-loop-place : goal.invariant-loop-place
 invariant-loop-place l =
@@ -12,6 +13,7 @@ invariant-loop-place l =
       sound : AreSound l.system l.nodes l.tasks;
       node : l.n < length l.nodes.types.items;
       place_in : l.place ≤ length l.nodes.cells.items;
+      kept : KeepsArcs l.fn.nodes l.nodes;
       stays : live_of l.nodes.forwards.items l.n ≡ l.n;
     }
 

@@ -1,10 +1,30 @@
-use Rattle.std.proofs.Common.{ℕ, ◌≡◌, ◌-◌, Option, length, slice_index_or, ◌∙◌, ap, subst, arith}
+use Rattle.std.proofs.Common.{ℕ, ◌≡◌, ◌<◌, ◌-◌, Option, [], length, slice_index_or, sym, ◌∙◌, ap, subst, arith}
 use Rattle.std.proofs.lemmas.List.{get_or_default}
 use Rattle.fs_graph.specs.GraphMap.{arc_to}
 use Rattle.fs_closing.specs.Cells.{live_of, chain, no_cell, AreOnce}
+use Rattle.fs_closing.specs.OwnRows.{own_of}
+use Rattle.fs_closing.specs.NodeTable.{row_of}
 use Rattle.fs_closing.proofs.ChainLemmas.{chain_at, chain-none}
-use Rattle.fs_unify.proofs.DrawCells.{DrawsCells, draws_free, draws_step, draws_end}
-use Rattle.fs_unify.proofs.draw.draw_arcs.Goals as goal
+use Rattle.fs_unify.proofs.DrawCells.{DrawsCells, draws_rest, once_left, draws_free, draws_step, draws_end}
+use Rattle.fs_unify.proofs.draw.draw_cells.Goals as goal
+
+pub loop-place-init : goal.loop-place-init
+loop-place-init c =
+    let nodes = c.args.nodes.now in
+    let n_in : c.args.n < length c.args.nodes.now.firsts.items = omega (arith, c.requires.node, c.requires.whole.firsts_even) in
+    let first : c.index-place.result.now ≡ slice_index_or c.args.nodes.now.firsts.items c.args.n 0 =
+    c.index-place.ensures ∙ get_or_default nodes.firsts.items c.args.n _ 0 n_in in
+    let once = c.requires.whole.once c.args.n c.requires.node in
+    let own = slice_index_or (own_of nodes.own) c.args.n [] in
+    record {
+      draws = subst (λ p. DrawsCells nodes.forwards.items (row_of nodes.firsts.items nodes.cells.items (own_of nodes.own) c.args.n) (chain nodes.cells.items p)
+          (λ f. arc_to c.args.row.now.items f)) (sym first)
+          (draws_rest nodes.forwards.items (chain nodes.cells.items (slice_index_or nodes.firsts.items c.args.n 0)) own (λ f. arc_to c.args.row.now.items f) once c.requires.own);
+      once = subst (λ p. AreOnce (chain nodes.cells.items p)) (sym first) (once_left (chain nodes.cells.items (slice_index_or nodes.firsts.items c.args.n 0)) own once);
+      rises = c.requires.rises;
+      to_in = c.requires.to_in;
+      place_in = omega (arith, first, c.requires.whole.first_in c.args.n c.requires.node);
+    }
 
 pub live-to-requires-clause-node : goal.live-to-requires-clause-node
 live-to-requires-clause-node c =
@@ -21,7 +41,7 @@ put_arc-requires-clause-new c =
     let is : c.index-cell.result.now ≡ slice_index_or c.args.nodes.now.cells.items (c.loop-place.place - 1) no_cell =
     c.index-cell.ensures ∙ get_or_default cells (c.loop-place.place - 1) _ no_cell (omega arith) in
     let at = chain_at cells c.loop-place.place c.index-cell.result.now c.loop-place-test.true c.loop-place.invariant.place_in c.requires.whole.places is in
-    draws_free nodes.forwards.items (chain cells (slice_index_or nodes.firsts.items c.args.n 0)) (chain cells c.loop-place.place)
+    draws_free nodes.forwards.items (row_of nodes.firsts.items cells (own_of nodes.own) c.args.n) (chain cells c.loop-place.place)
     (chain cells c.index-cell.result.now.next) c.index-cell.result.now (λ f. arc_to c.loop-place.row.items f) at.0 c.loop-place.invariant.draws
 
 pub loop-place-preserved : goal.loop-place-preserved
@@ -35,7 +55,7 @@ loop-place-preserved c =
     let within = c.live-to.ensures.within in
     let ok = c.in_ok-put_arc.ensures in
     record {
-      draws = draws_step nodes.forwards.items (chain cells (slice_index_or nodes.firsts.items c.args.n 0)) (chain cells c.loop-place.place)
+      draws = draws_step nodes.forwards.items (row_of nodes.firsts.items cells (own_of nodes.own) c.args.n) (chain cells c.loop-place.place)
           (chain cells c.index-cell.result.now.next) c.index-cell.result.now c.live-to.result (λ f. arc_to c.loop-place.row.items f)
           (λ f. arc_to c.put_arc.new.row.items f) at.0 c.loop-place.invariant.once to ok.here ok.others c.loop-place.invariant.draws;
       once = (subst AreOnce at.0 c.loop-place.invariant.once).1;
@@ -56,7 +76,7 @@ pub returns-clause-here : goal.returns-clause-here
 returns-clause-here c =
     let nodes = c.args.nodes.now in
     let none : c.loop-place.place ≡ 0 = omega (arith, c.loop-place-test.false) in
-    let all = chain nodes.cells.items (slice_index_or nodes.firsts.items c.args.n 0) in
+    let all = row_of nodes.firsts.items nodes.cells.items (own_of nodes.own) c.args.n in
     let arc : ℕ → Option ℕ = λ f. arc_to c.loop-place.row.items f in
     draws_end nodes.forwards.items all arc (subst (λ l. DrawsCells nodes.forwards.items all l arc)
     (ap (chain nodes.cells.items) none ∙ chain-none nodes.cells.items) c.loop-place.invariant.draws)

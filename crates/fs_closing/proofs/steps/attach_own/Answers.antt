@@ -1,0 +1,111 @@
+use Rattle.std.proofs.Common.{◌≤◌, ◌<◌, ◌+◌, [], ◌∷◌, ◌++◌, length, drop, slice_index_or, refl, sym, ◌∙◌, ap, subst, arith}
+use Rattle.fs_model.specs.Claims.{Has}
+use Rattle.fs_model.specs.Table.{is_same}
+use Rattle.fs_closing.specs.Cells.{live_of, no_cell}
+use Rattle.fs_closing.specs.OwnRows.{own_of}
+use Rattle.fs_closing.specs.Rules.{system_of}
+use Rattle.fs_closing.specs.Work.{work_of}
+use Rattle.fs_closing.specs.Keeps.{Turns, StepsTo, deep_of, arc_claims}
+use Rattle.fs_closing.proofs.HasLemmas.{Has-at}
+use Rattle.fs_closing.proofs.StepLemmas.{Turns-none, turn_one, refute_one, claims_step, claims_all, claims_none}
+use Rattle.fs_closing.proofs.steps.attach_own.Goals as goal
+
+pub count-i-end-requires-clause-node : goal.count-i-end-requires-clause-node
+count-i-end-requires-clause-node c = omega (arith, c.requires.of_in, c.requires.sound.whole.own_even)
+
+pub cell-cell-requires-clause-node : goal.cell-cell-requires-clause-node
+cell-cell-requires-clause-node c = omega (arith, c.loop-i.invariant.of_in, c.loop-i.invariant.sound.whole.own_even)
+
+pub cell-cell-requires-clause-place : goal.cell-cell-requires-clause-place
+cell-cell-requires-clause-place c =
+    let i_in : c.loop-i.i < length (slice_index_or (own_of c.args.nodes.now.own) c.args.of []) = omega (arith, c.loop-i-test.true, c.count-i-end.ensures) in
+    subst (λ o. c.loop-i.i < length (slice_index_or (own_of o) c.args.of [])) (sym c.loop-i.invariant.own) i_in
+
+pub cell-cell-requires-clause-small : goal.cell-cell-requires-clause-small
+cell-cell-requires-clause-small c = λ x h.
+    omega (arith, c.loop-i.invariant.sound.whole.own_in c.args.of x h, c.loop-i.invariant.sound.whole.small)
+
+pub attach-requires-clause-to_in : goal.attach-requires-clause-to_in
+attach-requires-clause-to_in c =
+    let own = c.loop-i.nodes.own in
+    let i_in : c.loop-i.i < length (slice_index_or (own_of c.args.nodes.now.own) c.args.of []) = omega (arith, c.loop-i-test.true, c.count-i-end.ensures) in
+    let here = subst (λ o. c.loop-i.i < length (slice_index_or (own_of o) c.args.of [])) (sym c.loop-i.invariant.own) i_in in
+    let at = subst (λ x. Has x (slice_index_or (own_of own) c.args.of [])) (sym (c.cell-cell.ensures no_cell))
+    (Has-at (slice_index_or (own_of own) c.args.of []) c.loop-i.i no_cell here) in
+    c.loop-i.invariant.sound.whole.own_in c.args.of c.cell-cell.result at
+
+pub attach-requires-clause-feat_in : goal.attach-requires-clause-feat_in
+attach-requires-clause-feat_in c =
+    let own = c.loop-i.nodes.own in
+    let i_in : c.loop-i.i < length (slice_index_or (own_of c.args.nodes.now.own) c.args.of []) = omega (arith, c.loop-i-test.true, c.count-i-end.ensures) in
+    let here = subst (λ o. c.loop-i.i < length (slice_index_or (own_of o) c.args.of [])) (sym c.loop-i.invariant.own) i_in in
+    let at = subst (λ x. Has x (slice_index_or (own_of own) c.args.of [])) (sym (c.cell-cell.ensures no_cell))
+    (Has-at (slice_index_or (own_of own) c.args.of []) c.loop-i.i no_cell here) in
+    c.loop-i.invariant.sound.within.own_feat c.args.of c.cell-cell.result at
+
+pub loop-i-init : goal.loop-i-init
+loop-i-init c =
+    let s = system_of c.args.system.now in
+    let row = slice_index_or (own_of c.args.nodes.now.own) c.args.of [] in
+    let work = work_of c.args.system.now.rules c.args.tasks.now in
+    record {
+      leads = subst (λ l. Turns s (deep_of c.args.nodes.now) (arc_claims c.args.n row ++ work) (deep_of c.args.nodes.now) (l ++ work)) (sym (claims_all c.args.n row))
+          (Turns-none s (deep_of c.args.nodes.now) (arc_claims c.args.n row ++ work));
+      sound = c.requires.sound;
+      node = c.requires.node;
+      of_in = c.requires.of_in;
+      own = refl;
+      stays = c.requires.stays;
+    }
+
+pub loop-i-preserved : goal.loop-i-preserved
+loop-i-preserved c =
+    let s = system_of c.args.system.now in
+    let n = c.args.n in
+    let row = slice_index_or (own_of c.args.nodes.now.own) c.args.of [] in
+    let i_in : c.loop-i.i < length (slice_index_or (own_of c.args.nodes.now.own) c.args.of []) = omega (arith, c.loop-i-test.true, c.count-i-end.ensures) in
+    let cell = c.cell-cell.result in
+    let is = c.cell-cell.ensures no_cell ∙ ap (λ o. slice_index_or (slice_index_or (own_of o) c.args.of []) c.loop-i.i no_cell) c.loop-i.invariant.own in
+    let start = arc_claims n row ++ work_of c.args.system.now.rules c.args.tasks.now in
+    let work = work_of c.args.system.now.rules c.loop-i.tasks in
+    let before = subst (λ l. Turns s (deep_of c.args.nodes.now) start (deep_of c.loop-i.nodes) (l ++ work))
+    (claims_step n c.loop-i.i row no_cell cell i_in is) c.loop-i.invariant.leads in
+    let arcs = c.in_ok-attach.ensures.arcs in
+    let step = subst (StepsTo c.args.system.now c.loop-i.nodes (is_same n (cell.feat ∷ []) cell.to [] ∷ work) c.attach.new.nodes c.attach.new.tasks)
+    c.in-true.is c.in_ok-attach.ensures.steps in
+    record {
+      leads = turn_one s (deep_of c.args.nodes.now) (deep_of c.loop-i.nodes) (deep_of c.attach.new.nodes) start _ _ _ _ before step.0;
+      sound = step.1;
+      node = omega (arith, arcs.size, c.loop-i.invariant.node);
+      of_in = omega (arith, arcs.size, c.loop-i.invariant.of_in);
+      own = arcs.own ∙ c.loop-i.invariant.own;
+      stays = ap (λ l. live_of l n) arcs.forwards ∙ c.loop-i.invariant.stays;
+    }
+
+pub returns-in-false : goal.returns-in-false
+returns-in-false c =
+    let s = system_of c.args.system.now in
+    let n = c.args.n in
+    let row = slice_index_or (own_of c.args.nodes.now.own) c.args.of [] in
+    let i_in : c.loop-i.i < length (slice_index_or (own_of c.args.nodes.now.own) c.args.of []) = omega (arith, c.loop-i-test.true, c.count-i-end.ensures) in
+    let cell = c.cell-cell.result in
+    let is = c.cell-cell.ensures no_cell ∙ ap (λ o. slice_index_or (slice_index_or (own_of o) c.args.of []) c.loop-i.i no_cell) c.loop-i.invariant.own in
+    let start = arc_claims n row ++ work_of c.args.system.now.rules c.args.tasks.now in
+    let work = work_of c.args.system.now.rules c.loop-i.tasks in
+    let before = subst (λ l. Turns s (deep_of c.args.nodes.now) start (deep_of c.loop-i.nodes) (l ++ work))
+    (claims_step n c.loop-i.i row no_cell cell i_in is) c.loop-i.invariant.leads in
+    refute_one s (deep_of c.args.nodes.now) (deep_of c.loop-i.nodes) start (is_same n (cell.feat ∷ []) cell.to [])
+    (arc_claims n (drop (c.loop-i.i + 1) row)) work before
+    (subst (StepsTo c.args.system.now c.loop-i.nodes (is_same n (cell.feat ∷ []) cell.to [] ∷ work) c.attach.new.nodes c.attach.new.tasks)
+    c.in-false.is c.in_ok-attach.ensures.steps)
+
+pub returns : goal.returns
+returns c =
+    let s = system_of c.args.system.now in
+    let row = slice_index_or (own_of c.args.nodes.now.own) c.args.of [] in
+    let start = arc_claims c.args.n row ++ work_of c.args.system.now.rules c.args.tasks.now in
+    let past : length (slice_index_or (own_of c.args.nodes.now.own) c.args.of []) ≤ c.loop-i.i = omega (arith, c.loop-i-test.false, c.count-i-end.ensures) in (
+      subst (λ l. Turns s (deep_of c.args.nodes.now) start (deep_of c.loop-i.nodes) (l ++ work_of c.args.system.now.rules c.loop-i.tasks))
+          (claims_none c.args.n c.loop-i.i row past) c.loop-i.invariant.leads,
+      c.loop-i.invariant.sound,
+    )
