@@ -2,18 +2,14 @@
 use Rattle.std.specs.Prelude.{ℕ, ◌≡◌, true, List, [], ◌∷◌, map, Option, None, Some}
 use Rattle.type_hierarchy.specs.Table.{TypeTable, is_below}
 use Rattle.fs_model.specs.Claims.{Path}
-use Rattle.fs_graph.specs.GraphMap.{GraphMap, type_at, arcs_at, arc_to, node_at}
+pub use Rattle.fs_graph.specs.GraphMap.{arc_named}
+use Rattle.fs_graph.specs.GraphMap.{GraphMap, type_at, node_at}
 use Rattle.closed_lists.specs.Names.{ListTree}
 
 -- a type is at or below a type that the grammar has
 abbrev pub IsAtOrBelow : TypeTable → ℕ → Option ℕ → Type 0
 IsAtOrBelow types t None = ⊥
 IsAtOrBelow types t (Some s) = is_below types t s ≡ true
-
--- where the arc with a feature that the grammar has leads
-abbrev pub arc_named : GraphMap → ℕ → Option ℕ → Option ℕ
-arc_named g n None = None
-arc_named g n (Some f) = arc_to (arcs_at g n) f
 
 -- The elements of a closed list that begins at a node. A node at or below the null type ends it; any other is at or below the cons type, with a first element and a rest.
 pub data Elements (types : TypeTable) (names : ListTree) (g : GraphMap) : ℕ → List ℕ → Type 0 where

@@ -1,7 +1,7 @@
 -- What a grammar's lists are made of, and what is asked of a graph whose lists are read.
 use Rattle.std.specs.Prelude.{ℕ, ◌≡◌, ◌<◌, ◌≤◌, List, Vec, String, string_bytes, map, length, All, Option, Some, IfSome}
 use Rattle.std.specs.Global.{Global}
-use Rattle.word_lists.specs.Words.{Word}
+pub use Rattle.word_lists.specs.Words.{words_in}
 use Rattle.std.specs.Option.{option_map}
 use Rattle.type_hierarchy.specs.Table.{TypeTable, count_of}
 use Rattle.fs_model.specs.Claims.{Path}
@@ -30,7 +30,3 @@ pub record IsReadable (types : TypeTable) (names : ListTree) (limit : ℕ) (g : 
   pub cons_in : IfSome names.cons (λ t. t < count_of types)
   pub null_in : IfSome names.null (λ t. t < count_of types)
   pub bounded : (p : Path) (n : ℕ) → node_at g p ≡ Some n → length p ≤ limit
-
--- the words of a list of texts
-abbrev pub words_in : Vec (String Global) Global → List Word
-words_in v = map string_bytes v.items

@@ -87,7 +87,7 @@ fn elements(
     requires reached { IsReached graph.now start.0 0 }
     ensures { IfOk result (λ o. AreElements types.now (names_of names.now) graph.now start.0 (option_map (λ v. map (λ n. n.0) v.items) o)) }
 {
-    let _nodes = graph.nodes();
+    graph.laws();
     let mut out = Vec::new(alloc);
     let mut node = start;
     for turn in 0..limit as usize + 1 {

@@ -30,7 +30,7 @@ fn words<'a>(alloc: Global, letters: &'a [char]) -> Result<Vec<&'a [char]>, Allo
 fn text_of(alloc: Global, letters: &[char]) -> Result<String, NoMemory>
     ensures { IfOk result (λ s. string_bytes s ≡ encode_utf8_all letters.now) }
 {
-    let mut text = String::new(alloc);
+    let mut text = String::with_capacity(alloc, letters.len())?;
     for letter in letters {
         text.push(*letter)?;
     }
@@ -87,7 +87,7 @@ fn words_of(
     requires typed { All (λ t. t < count_of types.now) graph.now.types }
     ensures { IfOk result (λ o. AreWordsOf types.now graph.now (map (λ n. n.0) nodes.now) (option_map words_in o)) }
 {
-    let mut out = Vec::new(alloc);
+    let mut out = Vec::with_capacity(alloc, nodes.len())?;
     for node in nodes {
         let Some(text) = string_of(types, graph.ty(*node)) else {
             return Ok(None);
@@ -110,7 +110,7 @@ pub fn words_at(
     requires { IsReadable types.now (names_of names.now) limit graph.now }
     ensures { IfOk result (λ o. AreWordsAt types.now (names_of names.now) graph.now (map (option_map (λ f. f.0)) path.now) (option_map words_in o)) }
 {
-    let _nodes = graph.nodes();
+    graph.laws();
     let Some(nodes) = list_at(alloc, types, names, graph, path, limit)? else {
         return Ok(None);
     };

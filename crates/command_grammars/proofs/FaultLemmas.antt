@@ -14,9 +14,9 @@ use Rattle.grammar_files.specs.declared.fault.Why.TheVariants.{Settings, Shelf, 
 use Rattle.grammar_files.specs.declared.fault.LoadFault.{LoadFault}
 use Rattle.grammar_files.specs.declared.fault.LoadFault.TheVariants.{NoMemory as LoadNoMemory, Found}
 use Rattle.grammar_files.specs.Faults.{FoundFault, IsFaultBy}
-use Rattle.grammar_files.specs.Walks.{has_failed as failed_at_walk}
+use Rattle.grammar_files.specs.Walks.{has_failed as failed_at_walk, fault_at}
 use Rattle.grammar_types.specs.Typings.{IsSameTypeFault, IsSameWhy}
-use Rattle.fault_texts.specs.Texts.{type_fault_words, expand_fault_words, feature_name, why_words, has_place, place_text, cause_text, found_text, fault_at, spaced}
+use Rattle.fault_texts.specs.Texts.{type_fault_words, expand_fault_words, feature_name, why_words, has_place, place_text, cause_text, found_text, spaced}
 use Rattle.endings.specs.Meanings.{Meaning, Shelves, FileFault, has_failed}
 use Rattle.endings.specs.Endings.{NotCome}
 use Rattle.endings.specs.declared.Fault.{Fault}
@@ -81,7 +81,7 @@ first_of shelf h name settings f x = (
 
 pub lacks_by : AtShelf → (h : Shelves) (name : List ℕ) (settings : Option (List ℕ)) (fault : LoadFault) (end : Fault)
     → IsFaultBy (λ f. Loads h.files (failed_at_walk h.faults_old h.faults_new h.asked_new) name settings (Err f)) fault → IsToldAs fault end → LacksGrammar h name settings end
-lacks_by shelf h name settings (Found file at why) (FilesFault text) x t = let z = first_of shelf h name settings (fault_at file at why) x in (told_of (fault_at file at why), z.0, z.1, t)
+lacks_by shelf h name settings (Found file at why) (FilesFault text) x t = let z = first_of shelf h name settings (fault_at (string_bytes file) at why) x in (told_of (fault_at (string_bytes file) at why), z.0, z.1, t)
 lacks_by shelf h name settings (Found file at why) (Stopped NoMemory) x t = tt
 lacks_by shelf h name settings LoadNoMemory (Stopped NoMemory) x t = tt
 lacks_by shelf h name settings LoadNoMemory (FilesFault text) x t = absurd t

@@ -7,7 +7,7 @@ use Rattle.clap.specs.Takes.{is_given}
 use Rattle.clap.specs.Facts.{explicit_source}
 use Rattle.clap.specs.Kinds.{Kinds, or_else}
 use Rattle.clap.specs.Faults.{fault_of, built_fault, defaults_fault, default_fault, given_default_fault, check_fault, entered_fault, settle_fault, level_fault}
-use Rattle.command_line.specs.Words.{Value, number, name, IsValue, Item, words_of, AreItems, AreOnce, positionals, FillPlaces}
+use Rattle.command_line.specs.Words.{Value, in_range, name, IsValue, Item, words_of, AreItems, AreOnce, positionals, FillPlaces}
 use Rattle.command_line.specs.Inner.Reading.{AreWords}
 use Rattle.command_line.specs.Inner.Rules.{app_with, place_id}
 use Rattle.command_line.proofs.Built.{ArePlaces, built_with, built-is, place_rules, rules_with, shape_with, one, two, numbers, none}
@@ -74,7 +74,7 @@ module _ (places : List Value) (are : ArePlaces places) where
       by_places ps none = ap (λ b. built_fault b nothing_yet ws) (built-is [] none)
       by_places ps one = ap (λ b. built_fault b nothing_yet ws) (built-is (name ∷ []) one)
       by_places ps two = ap (λ b. built_fault b nothing_yet ws) (built-is (name ∷ name ∷ []) two)
-      by_places ps numbers = ap (λ b. built_fault b nothing_yet ws) (built-is (number 0 18446744073709551615 ∷ number 1 1000 ∷ []) numbers)
+      by_places ps numbers = ap (λ b. built_fault b nothing_yet ws) (built-is (in_range 0 18446744073709551615 ∷ in_range 1 1000 ∷ []) numbers)
 
   fault-level : (ws : List Text) → built_fault (built_with places) nothing_yet ws ≡ level_fault (shape_with places) [] nothing_yet ws false []
   unfolding nothing_yet
@@ -116,7 +116,7 @@ module _ (places : List Value) (are : ArePlaces places) where
       by_places ps none = ap (λ (b : App). clap_rows b.top.rules (names_of b) ws) (built-is [] none)
       by_places ps one = ap (λ (b : App). clap_rows b.top.rules (names_of b) ws) (built-is (name ∷ []) one)
       by_places ps two = ap (λ (b : App). clap_rows b.top.rules (names_of b) ws) (built-is (name ∷ name ∷ []) two)
-      by_places ps numbers = ap (λ (b : App). clap_rows b.top.rules (names_of b) ws) (built-is (number 0 18446744073709551615 ∷ number 1 1000 ∷ []) numbers)
+      by_places ps numbers = ap (λ (b : App). clap_rows b.top.rules (names_of b) ws) (built-is (in_range 0 18446744073709551615 ∷ in_range 1 1000 ∷ []) numbers)
 
 -- whether a place is filled
 given-first : (items : List Item) → is_given (place_id 0) (final (item_rows 0 items)) ≡ is_some (slice_get (positionals items) 0)
@@ -164,7 +164,7 @@ fill places two (w ∷ x ∷ y ∷ ws) placed f g = let bad = placed.3.3.1 in cc
 fill places numbers [] placed f g = let bad = f refl in cc
 fill places numbers (w ∷ []) placed f g = let bad = g refl in cc
 fill places numbers (w ∷ x ∷ []) placed f g =
-    let same : number 0 18446744073709551615 ≡ placed.0 = (let e = placed.1 in cc) in let other : number 1 1000 ≡ placed.3.0 = (let e = placed.3.1 in cc) in
+    let same : in_range 0 18446744073709551615 ≡ placed.0 = (let e = placed.1 in cc) in let other : in_range 1 1000 ≡ placed.3.0 = (let e = placed.3.1 in cc) in
     (subst (λ v. IsValue v (w ∷ [])) (sym same) placed.2, (subst (λ v. IsValue v (x ∷ [])) (sym other) placed.3.2, tt))
 fill places numbers (w ∷ x ∷ y ∷ ws) placed f g = let bad = placed.3.3.1 in cc
 
@@ -181,7 +181,7 @@ filled-by : (places : List Value) (are : ArePlaces places) (items : List Item) �
 filled-by places none items placed e = fill [] none (positionals items) placed (λ x. cc) (λ x. cc)
 filled-by places one items placed e = fill (name ∷ []) one (positionals items) placed (λ x. sym (given-first items) ∙ one-checked name (final (item_rows 0 items)) e) (λ x. cc)
 filled-by places two items placed e = let c = two-checked name name (final (item_rows 0 items)) e in fill (name ∷ name ∷ []) two (positionals items) placed (λ x. sym (given-first items) ∙ c.0) (λ x. sym (given-second items) ∙ c.1)
-filled-by places numbers items placed e = let c = two-checked (number 0 18446744073709551615) (number 1 1000) (final (item_rows 0 items)) e in fill (number 0 18446744073709551615 ∷ number 1 1000 ∷ []) numbers (positionals items) placed (λ x. sym (given-first items) ∙ c.0) (λ x. sym (given-second items) ∙ c.1)
+filled-by places numbers items placed e = let c = two-checked (in_range 0 18446744073709551615) (in_range 1 1000) (final (item_rows 0 items)) e in fill (in_range 0 18446744073709551615 ∷ in_range 1 1000 ∷ []) numbers (positionals items) placed (λ x. sym (given-first items) ∙ c.0) (λ x. sym (given-second items) ∙ c.1)
 
 pub accepted : (places : List Value) → ArePlaces places → (ws : List Text) → AreWords ws → fault_of (app_with places) ws ≡ [] → Accepted places ws
 accepted places are ws words e =
@@ -210,7 +210,7 @@ filled-places places two (w ∷ x ∷ []) h = (name, refl, h.0, (name, refl, h.1
 filled-places places two (w ∷ x ∷ y ∷ ws) h = absurd h.1.1
 filled-places places numbers [] h = absurd h
 filled-places places numbers (w ∷ []) h = absurd h.1
-filled-places places numbers (w ∷ x ∷ []) h = (number 0 18446744073709551615, refl, h.0, (number 1 1000, refl, h.1.0, tt))
+filled-places places numbers (w ∷ x ∷ []) h = (in_range 0 18446744073709551615, refl, h.0, (in_range 1 1000, refl, h.1.0, tt))
 filled-places places numbers (w ∷ x ∷ y ∷ ws) h = absurd h.1.1
 
 check-passes : (places : List Value) (are : ArePlaces places) (items : List Item) → FillPlaces places (positionals items) → check_fault (shape_with places) (final (item_rows 0 items)) false ≡ []
@@ -229,8 +229,8 @@ check-passes places two items h = by_words (positionals items) h (given-first it
     by_words (w ∷ x ∷ ws) f e g = rw (e, g) refl
 check-passes places numbers items h = by_words (positionals items) h (given-first items) (given-second items)
   where
-    by_words : (ws : List Text) → FillPlaces (number 0 18446744073709551615 ∷ number 1 1000 ∷ []) ws → is_given (place_id 0) (final (item_rows 0 items)) ≡ is_some (slice_get ws 0) → is_given (place_id 1) (final (item_rows 0 items)) ≡ is_some (slice_get ws 1)
-        → check_fault (shape_with (number 0 18446744073709551615 ∷ number 1 1000 ∷ [])) (final (item_rows 0 items)) false ≡ []
+    by_words : (ws : List Text) → FillPlaces (in_range 0 18446744073709551615 ∷ in_range 1 1000 ∷ []) ws → is_given (place_id 0) (final (item_rows 0 items)) ≡ is_some (slice_get ws 0) → is_given (place_id 1) (final (item_rows 0 items)) ≡ is_some (slice_get ws 1)
+        → check_fault (shape_with (in_range 0 18446744073709551615 ∷ in_range 1 1000 ∷ [])) (final (item_rows 0 items)) false ≡ []
     by_words [] f e g = absurd f
     by_words (w ∷ []) f e g = absurd f.1
     by_words (w ∷ x ∷ ws) f e g = rw (e, g) refl

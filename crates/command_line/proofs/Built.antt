@@ -8,13 +8,13 @@ use Rattle.clap.specs.Faults.{is_simple_and_free}
 use Rattle.clap.specs.declared.builder.action.ArgAction.TheVariants.{Set}
 use Rattle.clap.specs.declared.builder.value_parser.ValueParser.{ValueParser}
 use Rattle.clap.specs.declared.builder.value_parser.ValueParser.TheVariants as vp
-use Rattle.command_line.specs.Words.{OptionName, Workers, Edges, Readings, Lexical, Unary, Empty, Settings, Mrs, Lattice, Value, number, name, nothing, option_id, word_of, value_of}
+use Rattle.command_line.specs.Words.{OptionName, Workers, Edges, Readings, Lexical, Unary, Empty, Settings, Mrs, Lattice, Value, in_range, name, nothing, option_id, word_of, value_of}
 use Rattle.command_line.specs.Inner.Rules.{app_with, options_app, place_id}
 pub use Rattle.command_line.specs.Inner.Matches.{flag_rule}
 
 -- the parser of a value
 abbrev pub full_parser : Value → ValueParser
-full_parser (number least greatest) = vp.Unsigned least greatest
+full_parser (in_range least greatest) = vp.Unsigned least greatest
 full_parser value = vp.String
 
 -- an option with one value
@@ -56,7 +56,7 @@ pub data ArePlaces : List Value → Type 0 where
   none : ArePlaces []
   one : ArePlaces (name ∷ [])
   two : ArePlaces (name ∷ name ∷ [])
-  numbers : ArePlaces (number 0 18446744073709551615 ∷ number 1 1000 ∷ [])
+  numbers : ArePlaces (in_range 0 18446744073709551615 ∷ in_range 1 1000 ∷ [])
 
 pub built-is : (places : List Value) → ArePlaces places → built (app_with places) ≡ built_with places
 built-is places none = refl

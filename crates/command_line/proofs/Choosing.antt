@@ -4,7 +4,7 @@ use Rattle.std.proofs.lemmas.Slice.Eq.{bytes_eq-Decides}
 use Rattle.std.proofs.lemmas.List.{take_all}
 use Rattle.std.specs.List.{list_all}
 use Rattle.std.specs.Str.{bytes_eq}
-use Rattle.command_line.specs.Words.{OptionName, Workers, Edges, Readings, Lexical, Unary, Empty, Settings, Mrs, Lattice, Value, number, name, nothing, is_name, word_of, value_of, IsValue, Item, positional, option as an_option, words_of, AreItems, Task, parse, generate, types, expand, check, self_test, scope, batch, transfer, command_word, places_of, HasNames, Form, help, version, run, IsForm, Options}
+use Rattle.command_line.specs.Words.{OptionName, Workers, Edges, Readings, Lexical, Unary, Empty, Settings, Mrs, Lattice, Value, in_range, name, nothing, is_name, word_of, value_of, IsValue, Item, positional, option as an_option, words_of, AreItems, Task, parse, generate, types, expand, check, self_test, scope, batch, transfer, command_word, places_of, HasNames, Form, help, version, run, IsForm, Options}
 use Rattle.command_line.specs.declared.tasks.CommandName.{CommandName}
 use Rattle.command_line.specs.declared.tasks.CommandName.TheVariants as named
 use Rattle.command_line.specs.Inner.Reading.{IsWord, of_option, of_name, AreWords, no_word, a_word, is_option_word, is_word, command_named, places_by, places_in, names_in, task_by, alone_form}
@@ -74,7 +74,7 @@ name-passes : (w : List ℕ) → is_name w ≡ true → is_word w ≡ true
 name-passes w h = rw h refl
 
 with-value : (v : Value) (vs ws : List (List ℕ)) → IsValue v vs → list_all is_word ws ≡ true → list_all is_word (vs ++ ws) ≡ true
-with-value (number least greatest) (w ∷ []) ws h e = rw (name-passes w h.0) e
+with-value (in_range least greatest) (w ∷ []) ws h e = rw (name-passes w h.0) e
 with-value name (w ∷ []) ws h e = rw (name-passes w h) e
 with-value nothing [] ws h e = e
 with-value v vs ws h e = absurd h

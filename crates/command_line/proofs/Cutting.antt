@@ -3,7 +3,7 @@ use Rattle.std.proofs.Common.{◌≡◌, ◌∙◌, sym, ap, refl, subst, ℕ, z
 use Rattle.clap.specs.Walk.{Row, Text, Walk, walked, settled, used}
 use Rattle.clap.specs.Kinds.{Kinds, or_else}
 use Rattle.clap.specs.Faults.{walk_fault, settle_fault, use_fault}
-use Rattle.command_line.specs.Words.{OptionName, Value, number, name, nothing, option_id, word_of, value_of, is_name, Item, positional, option as an_option, words_of}
+use Rattle.command_line.specs.Words.{OptionName, Value, in_range, name, nothing, option_id, word_of, value_of, is_name, Item, positional, option as an_option, words_of}
 use Rattle.command_line.specs.Inner.Reading.{IsWord, of_option, of_name, AreWords, no_word, a_word}
 use Rattle.command_line.specs.Inner.Rules.{place_id}
 use Rattle.command_line.proofs.Built.{ArePlaces, full_rule, full_place, rules_with, long-is, id-is, long-word, not-dashes, place-at, place-by}
@@ -45,14 +45,14 @@ module _ (places : List Value) (are : ArePlaces places) where
   open-next : (o : OptionName) (rows : List Row) (p : Option (Text × List Text)) (k : ℕ) (v : Value) → value_of o ≡ v → (v ≡ nothing → ⊥)
       → walked (rules_with places) [] (between rows p k) (word_of o) ≡ opened (settled_at places are rows p) (option_id o) k
   unfolding walked
-  open-next o rows p k (number least greatest) e valued = rw (not-dashes o, long-word o, long-is places o, e) refl
+  open-next o rows p k (in_range least greatest) e valued = rw (not-dashes o, long-word o, long-is places o, e) refl
   open-next o rows p k name e valued = rw (not-dashes o, long-word o, long-is places o, e) refl
   open-next o rows p k nothing e valued = absurd (valued refl)
 
   value-next : (o : OptionName) (rows : List Row) (k : ℕ) (w : Text) (v : Value) → value_of o ≡ v → (v ≡ nothing → ⊥) → is_name w ≡ true
       → walked (rules_with places) [] (opened rows (option_id o) k) w ≡ between rows (Some (option_id o, w ∷ [])) k
   unfolding walked
-  value-next o rows k w (number least greatest) e valued h = let f = name-long places are w h in rw (f.0, f.1, f.2, id-is places o, e, same-bytes places are (option_id o)) refl
+  value-next o rows k w (in_range least greatest) e valued h = let f = name-long places are w h in rw (f.0, f.1, f.2, id-is places o, e, same-bytes places are (option_id o)) refl
   value-next o rows k w name e valued h = let f = name-long places are w h in rw (f.0, f.1, f.2, id-is places o, e, same-bytes places are (option_id o)) refl
   value-next o rows k w nothing e valued h = absurd (valued refl)
 
@@ -128,7 +128,7 @@ module _ (places : List Value) (are : ArePlaces places) where
       }
 
   is-shaped : (v : Value) (w : Text) → (v ≡ nothing → ⊥) → is_name w ≡ true → IsShaped v (w ∷ [])
-  is-shaped (number least greatest) w valued h = h
+  is-shaped (in_range least greatest) w valued h = h
   is-shaped name w valued h = h
   is-shaped nothing w valued h = absurd (valued refl)
 
@@ -190,19 +190,19 @@ module _ (places : List Value) (are : ArePlaces places) where
   by-last : (v : Value) (o : OptionName) (rows : List Row) (p : Option (Text × List Text)) (k : ℕ) → value_of o ≡ v
       → all_faults (between rows p k) (word_of o ∷ []) ≡ [] → Reads rows p k (word_of o ∷ [])
   by-last nothing o rows p k is e = after-flag o rows p k [] is e (λ rs q f. no-words rs q k f)
-  by-last (number least greatest) o rows p k is e = absurd (no-value o rows p k (number least greatest) is (λ x. cc) e)
+  by-last (in_range least greatest) o rows p k is e = absurd (no-value o rows p k (in_range least greatest) is (λ x. cc) e)
   by-last name o rows p k is e = absurd (no-value o rows p k name is (λ x. cc) e)
 
   by-option : (v : Value) (o q : OptionName) (rows : List Row) (p : Option (Text × List Text)) (k : ℕ) (later : List Text) → value_of o ≡ v
       → all_faults (between rows p k) (word_of o ∷ word_of q ∷ later) ≡ [] → GoesOn k (word_of q ∷ later) → Reads rows p k (word_of o ∷ word_of q ∷ later)
   by-option nothing o q rows p k later is e go = after-flag o rows p k (word_of q ∷ later) is e go
-  by-option (number least greatest) o q rows p k later is e go = absurd (other-value o q rows p k later (number least greatest) is (λ x. cc) e)
+  by-option (in_range least greatest) o q rows p k later is e go = absurd (other-value o q rows p k later (in_range least greatest) is (λ x. cc) e)
   by-option name o q rows p k later is e go = absurd (other-value o q rows p k later name is (λ x. cc) e)
 
   by-name : (v : Value) (o : OptionName) (rows : List Row) (p : Option (Text × List Text)) (k : ℕ) (x : Text) (later : List Text) → value_of o ≡ v → is_name x ≡ true
       → all_faults (between rows p k) (word_of o ∷ x ∷ later) ≡ [] → GoesOn k (x ∷ later) → GoesOn k later → Reads rows p k (word_of o ∷ x ∷ later)
   by-name nothing o rows p k x later is h e go after = after-flag o rows p k (x ∷ later) is e go
-  by-name (number least greatest) o rows p k x later is h e go after = after-value o rows p k x later (number least greatest) is (λ y. cc) h e after
+  by-name (in_range least greatest) o rows p k x later is h e go after = after-value o rows p k x later (in_range least greatest) is (λ y. cc) h e after
   by-name name o rows p k x later is h e go after = after-value o rows p k x later name is (λ y. cc) h e after
 
   abbrev AfterFirst : ℕ → List Text → Type 0
@@ -259,7 +259,7 @@ module _ (places : List Value) (are : ArePlaces places) where
       → settles places are rows p ≡ [] → use_fault false (full_rule o) vs (settled_at places are rows p) ≡ [] → PassesOn k items → ItemsPass k (used (full_rule o) vs (settled_at places are rows p)) items
       → (all_faults (between rows p k) (word_of o ∷ (vs ++ words_of items)) ≡ []) × (last_rows (between rows p k) (word_of o ∷ (vs ++ words_of items)) ≡ rows_after k (used (full_rule o) vs (settled_at places are rows p)) items)
   option-passes nothing [] o items k rows p is shape settle used_so go pass = flag-passes o items k rows p is settle used_so go pass
-  option-passes (number least greatest) (w ∷ []) o items k rows p is shape settle used_so go pass = value-passes (number least greatest) o w items k rows p is (λ x. cc) shape settle used_so go pass
+  option-passes (in_range least greatest) (w ∷ []) o items k rows p is shape settle used_so go pass = value-passes (in_range least greatest) o w items k rows p is (λ x. cc) shape settle used_so go pass
   option-passes name (w ∷ []) o items k rows p is shape settle used_so go pass = value-passes name o w items k rows p is (λ x. cc) shape settle used_so go pass
   option-passes v vs o items k rows p is shape settle used_so go pass = absurd shape
 

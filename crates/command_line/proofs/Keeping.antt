@@ -6,7 +6,7 @@ use Rattle.clap.specs.Walk.{Row, Text, one_of, first_of, row_text, rows_of}
 use Rattle.clap.specs.Matches.{one_text, first_value}
 use Rattle.clap.specs.declared.parser.matches.Found.{Found}
 use Rattle.clap.proofs.WalkLemmas.{one_text-rows, first_value-rows}
-use Rattle.command_line.specs.Words.{OptionName, Settings, Mrs, Lattice, number, option_id, value_of, number_of, number_or, only, IsValue, Item, positional, option as an_option, AreItems, positionals, value_in, FillPlaces}
+use Rattle.command_line.specs.Words.{OptionName, Settings, Mrs, Lattice, in_range, option_id, value_of, number_of, number_or, only, IsValue, Item, positional, option as an_option, AreItems, positionals, value_in, FillPlaces}
 use Rattle.command_line.specs.declared.reading.Places.{Places}
 use Rattle.command_line.specs.declared.reading.Places.TheVariants.{NoPlace, OneName, TwoNames, TwoNumbers}
 use Rattle.command_line.specs.Inner.Matches.{final, item_rows}
@@ -39,7 +39,7 @@ option-text : (o : OptionName) (items : List Item) (f : Found) → rows_of f ≡
     → one_text f (option_id o) ≡ option_and_then row_text (option_map (option_row o) (value_in o items))
 option-text o items f rows e g = one_text-rows f (option_id o) ∙ ap (one_of (option_id o)) rows ∙ ap (option_and_then row_text) (value-final o items e g)
 
-pub number-kept : (o : OptionName) (least greatest default r : ℕ) (items : List Item) (f : Found) → value_of o ≡ number least greatest → rows_of f ≡ final (item_rows 0 items) → AreItems items
+pub number-kept : (o : OptionName) (least greatest default r : ℕ) (items : List Item) (f : Found) → value_of o ≡ in_range least greatest → rows_of f ≡ final (item_rows 0 items) → AreItems items
     → bytes_eq (option_id Lattice) (option_id o) ≡ false → bytes_eq (option_id Mrs) (option_id o) ≡ false
     → (one_text f (option_id o) ≡ None → r ≡ default)
     → ((t : Text) → one_text f (option_id o) ≡ Some t → IsNumeral 10 (without_leading_plus t) → number_of t < 2 ^ 64 → r ≡ number_of t)
@@ -49,7 +49,7 @@ number-kept o least greatest default r items f is rows are e g absent given = by
     text : one_text f (option_id o) ≡ option_and_then row_text (option_map (option_row o) (value_in o items))
     text = option-text o items f rows e g
 
-    by_number : (vs : List Text) → value_in o items ≡ Some vs → IsValue (number least greatest) vs → IsBounded (number least greatest) → r ≡ number_or default (Some vs)
+    by_number : (vs : List Text) → value_in o items ≡ Some vs → IsValue (in_range least greatest) vs → IsBounded (in_range least greatest) → r ≡ number_or default (Some vs)
     by_number (w ∷ []) there fits few = given w (text ∙ ap (λ v. option_and_then row_text (option_map (option_row o) v)) there ∙ rw is refl) fits.1.0 (omega (arith, few, fits))
     by_number vs there fits few = absurd fits
 

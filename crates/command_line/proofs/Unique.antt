@@ -1,7 +1,7 @@
 -- Words have one form.
 use Rattle.std.proofs.Common.{◌≡◌, ◌∙◌, sym, ap, ap₂, refl, subst, ℕ, List, [], ◌∷◌, ◌++◌, true, false, inl, inr, codes}
 use Rattle.std.proofs.lemmas.Slice.Eq.{bytes_eq-Decides}
-use Rattle.command_line.specs.Words.{OptionName, Value, number, name, nothing, is_name, option_id, word_of, value_of, number_of, IsValue, Item, positional, option as an_option, words_of, AreItems, positionals, options_of, Options, AreArguments, Task, parse, generate, types, expand, check, self_test, scope, batch, transfer, command_word, places_of, HasNames, Form, help, version, run, IsForm}
+use Rattle.command_line.specs.Words.{OptionName, Value, in_range, name, nothing, is_name, option_id, word_of, value_of, number_of, IsValue, Item, positional, option as an_option, words_of, AreItems, positionals, options_of, Options, AreArguments, Task, parse, generate, types, expand, check, self_test, scope, batch, transfer, command_word, places_of, HasNames, Form, help, version, run, IsForm}
 use Rattle.command_line.specs.Inner.Reading.{command_named}
 use Rattle.command_line.proofs.Uses.{ids-apart}
 use Rattle.command_line.proofs.Choosing.{no-dash}
@@ -23,11 +23,11 @@ not-name o = refl
 
 -- the values of one option, and what follows them
 same-value : (v : Value) (vs us ws xs : List (List ℕ)) → IsValue v vs → IsValue v us → vs ++ ws ≡ us ++ xs → (vs ≡ us) × (ws ≡ xs)
-same-value (number l g) (a ∷ []) (b ∷ []) ws xs h k e = (ap (λ x. x ∷ []) (head-same a b ws xs e), tail-same a b ws xs e)
+same-value (in_range l g) (a ∷ []) (b ∷ []) ws xs h k e = (ap (λ x. x ∷ []) (head-same a b ws xs e), tail-same a b ws xs e)
 same-value name (a ∷ []) (b ∷ []) ws xs h k e = (ap (λ x. x ∷ []) (head-same a b ws xs e), tail-same a b ws xs e)
 same-value nothing [] [] ws xs h k e = (refl, e)
-same-value (number l g) [] us ws xs h k e = absurd h
-same-value (number l g) (a ∷ b ∷ vs) us ws xs h k e = absurd h
+same-value (in_range l g) [] us ws xs h k e = absurd h
+same-value (in_range l g) (a ∷ b ∷ vs) us ws xs h k e = absurd h
 same-value name [] us ws xs h k e = absurd h
 same-value name (a ∷ b ∷ vs) us ws xs h k e = absurd h
 same-value nothing (a ∷ vs) us ws xs h k e = absurd h
@@ -70,8 +70,8 @@ same-task (expand a x) (expand b y) names e h k = let s = second-name a b x y na
 same-task (check a) (check b) names e h k = ap check (one-name a b names h k)
 same-task (self_test a x) (self_test b y) names e h k =
     let s = second-name h.0 k.0 h.1 k.1 names h.2 k.2 in
-    let seed : a ≡ b = h.3 ∙ ap number_of s.0 ∙ sym k.3 in
-    let size : x ≡ y = h.4 ∙ ap number_of s.1 ∙ sym k.4 in λ i. self_test (seed i) (size i)
+    let number : a ≡ b = h.3 ∙ ap number_of s.0 ∙ sym k.3 in
+    let size : x ≡ y = h.4 ∙ ap number_of s.1 ∙ sym k.4 in λ i. self_test (number i) (size i)
 same-task scope scope names e h k = refl
 same-task (batch a x) (batch b y) names e h k = let s = second-name a b x y names h k in λ i. batch (s.0 i) (s.1 i)
 same-task (transfer a) (transfer b) names e h k = ap transfer (one-name a b names h k)

@@ -15,7 +15,7 @@ use Rattle.clap.specs.declared.builder.value_parser.Reading.TheVariants.{AsWritt
 use Rattle.clap.specs.declared.parser.matches.ValueSource.TheVariants.{CommandLine}
 use Rattle.clap.specs.declared.builder.value_parser.ValueParser.{ValueParser}
 use Rattle.clap.specs.declared.builder.value_parser.ValueParser.TheVariants as vp
-use Rattle.command_line.specs.Words.{OptionName, Workers, Edges, Readings, Lexical, Unary, Empty, Settings, Mrs, Lattice, Value, number, name, nothing, option_id, value_of, is_name, number_of, IsNumber, IsValue, Item, positional, option as an_option, AreItems, IsNotIn, AreOnce, positionals}
+use Rattle.command_line.specs.Words.{OptionName, Workers, Edges, Readings, Lexical, Unary, Empty, Settings, Mrs, Lattice, Value, in_range, name, nothing, option_id, value_of, is_name, number_of, IsNumber, IsValue, Item, positional, option as an_option, AreItems, IsNotIn, AreOnce, positionals}
 use Rattle.command_line.specs.Inner.Rules.{place_id}
 pub use Rattle.command_line.specs.Inner.Matches.{row_by, values_given, item_rows}
 use Rattle.command_line.proofs.Built.{ArePlaces, none, one, two, numbers, full_rule_by, full_place, full_parser, flag_rule}
@@ -59,21 +59,21 @@ number-Decides least greatest w few =
 
 -- the numbers of a value fit in 64 bits
 abbrev pub IsBounded : Value → Type 0
-IsBounded (number least greatest) = greatest < 2 ^ 64
+IsBounded (in_range least greatest) = greatest < 2 ^ 64
 IsBounded v = Unit {0}
 
 pub value-accepts : (v : Value) (w : Text) → IsBounded v → accepts false (full_parser v) w ≡ true → IsShaped v (w ∷ []) → IsValue v (w ∷ [])
-value-accepts (number least greatest) w few e h = (h, (number-Decides least greatest w few).0 e)
+value-accepts (in_range least greatest) w few e h = (h, (number-Decides least greatest w few).0 e)
 value-accepts name w few e h = h
 value-accepts nothing w few e h = absurd h
 
 pub accepts-value : (v : Value) (w : Text) → IsBounded v → IsValue v (w ∷ []) → accepts false (full_parser v) w ≡ true
-accepts-value (number least greatest) w few h = (number-Decides least greatest w few).1 h.1
+accepts-value (in_range least greatest) w few h = (number-Decides least greatest w few).1 h.1
 accepts-value name w few h = refl
 accepts-value nothing w few h = absurd h
 
 pub value-shaped : (v : Value) (vs : List Text) → IsValue v vs → IsShaped v vs
-value-shaped (number least greatest) (w ∷ []) h = h.0
+value-shaped (in_range least greatest) (w ∷ []) h = h.0
 value-shaped name (w ∷ []) h = h
 value-shaped nothing [] h = tt
 value-shaped v vs h = absurd h
@@ -111,8 +111,8 @@ record Use (v : Value) (id : Text) (vs : List Text) (rows : List Row) : Type 0 w
   row : used (full_rule_by v id) vs rows ≡ rows ++ row_by id (values_given v vs) ∷ []
 
 option-use : (v : Value) (id : Text) (vs : List Text) (rows : List Row) → IsBounded v → IsShaped v vs → use_fault false (full_rule_by v id) vs rows ≡ [] → Use v id vs rows
-option-use (number least greatest) id (w ∷ []) rows few h e =
-    let p = one-passes id (vp.Unsigned least greatest) w rows e in record { new = p.0; value = value-accepts (number least greatest) w few p.1 h; row = new-row id (w ∷ []) rows p.0 }
+option-use (in_range least greatest) id (w ∷ []) rows few h e =
+    let p = one-passes id (vp.Unsigned least greatest) w rows e in record { new = p.0; value = value-accepts (in_range least greatest) w few p.1 h; row = new-row id (w ∷ []) rows p.0 }
 option-use name id (w ∷ []) rows few h e =
     let p = one-passes id vp.String w rows e in record { new = p.0; value = h; row = new-row id (w ∷ []) rows p.0 }
 option-use nothing id [] rows few h e =
@@ -121,14 +121,14 @@ option-use v id vs rows few h e = absurd h
 
 use-option : (v : Value) (id : Text) (vs : List Text) (rows : List Row) → IsBounded v → IsValue v vs → has_row id rows ≡ false
     → (use_fault false (full_rule_by v id) vs rows ≡ []) × (used (full_rule_by v id) vs rows ≡ rows ++ row_by id (values_given v vs) ∷ [])
-use-option (number least greatest) id (w ∷ []) rows few h new = (passes-one id (vp.Unsigned least greatest) w rows new (accepts-value (number least greatest) w few h), new-row id (w ∷ []) rows new)
+use-option (in_range least greatest) id (w ∷ []) rows few h new = (passes-one id (vp.Unsigned least greatest) w rows new (accepts-value (in_range least greatest) w few h), new-row id (w ∷ []) rows new)
 use-option name id (w ∷ []) rows few h new = (passes-one id vp.String w rows new refl, new-row id (w ∷ []) rows new)
 use-option nothing id [] rows few h new = (passes-flag id rows new, new-row id (codes "true" ∷ []) rows new)
 use-option v id vs rows few h new = absurd h
 
 -- the use of a place
 place-row : (k : ℕ) (v : Value) (w : Text) (rows : List Row) → has_row (place_id k) rows ≡ false → used (full_place k v) (w ∷ []) rows ≡ rows ++ row_by (place_id k) (w ∷ []) ∷ []
-place-row k (number least greatest) w rows new = new-row (place_id k) (w ∷ []) rows new
+place-row k (in_range least greatest) w rows new = new-row (place_id k) (w ∷ []) rows new
 place-row k name w rows new = new-row (place_id k) (w ∷ []) rows new
 place-row k nothing w rows new = new-row (place_id k) (w ∷ []) rows new
 
@@ -169,8 +169,8 @@ bounded-places places (suc k) v one e = cc
 bounded-places places zero v two e = let same : name ≡ v = cc in subst IsBounded same tt
 bounded-places places (suc zero) v two e = let same : name ≡ v = cc in subst IsBounded same tt
 bounded-places places (suc (suc k)) v two e = cc
-bounded-places places zero v numbers e = let same : number 0 18446744073709551615 ≡ v = cc in subst IsBounded same (omega arith)
-bounded-places places (suc zero) v numbers e = let same : number 1 1000 ≡ v = cc in subst IsBounded same (omega arith)
+bounded-places places zero v numbers e = let same : in_range 0 18446744073709551615 ≡ v = cc in subst IsBounded same (omega arith)
+bounded-places places (suc zero) v numbers e = let same : in_range 1 1000 ≡ v = cc in subst IsBounded same (omega arith)
 bounded-places places (suc (suc k)) v numbers e = cc
 
 place-shaped : (places : List Value) (k : ℕ) (v : Value) (w : Text) → ArePlaces places → slice_get places k ≡ Some v → is_name w ≡ true → IsShaped v (w ∷ [])
@@ -180,8 +180,8 @@ place-shaped places (suc k) v w one e h = cc
 place-shaped places zero v w two e h = let same : name ≡ v = cc in subst (λ x. IsShaped x (w ∷ [])) same h
 place-shaped places (suc zero) v w two e h = let same : name ≡ v = cc in subst (λ x. IsShaped x (w ∷ [])) same h
 place-shaped places (suc (suc k)) v w two e h = cc
-place-shaped places zero v w numbers e h = let same : number 0 18446744073709551615 ≡ v = cc in subst (λ x. IsShaped x (w ∷ [])) same h
-place-shaped places (suc zero) v w numbers e h = let same : number 1 1000 ≡ v = cc in subst (λ x. IsShaped x (w ∷ [])) same h
+place-shaped places zero v w numbers e h = let same : in_range 0 18446744073709551615 ≡ v = cc in subst (λ x. IsShaped x (w ∷ [])) same h
+place-shaped places (suc zero) v w numbers e h = let same : in_range 1 1000 ≡ v = cc in subst (λ x. IsShaped x (w ∷ [])) same h
 place-shaped places (suc (suc k)) v w numbers e h = cc
 
 or-true : (a b : Bool) → (a || b) ≡ true → (a ≡ true) ⊎ (b ≡ true)

@@ -7,7 +7,7 @@ use Rattle.clap.specs.Lexer.{long_of, short_of}
 use Rattle.clap.specs.Kinds.{Kinds, or_else}
 use Rattle.clap.specs.Faults.{walk_fault, settle_fault, use_fault}
 use Rattle.clap.specs.declared.error.kind.ErrorKind.TheVariants as kind
-use Rattle.command_line.specs.Words.{OptionName, Value, number, name, nothing, option_id, word_of, value_of, is_name}
+use Rattle.command_line.specs.Words.{OptionName, Value, in_range, name, nothing, option_id, word_of, value_of, is_name}
 use Rattle.command_line.specs.Inner.Rules.{place_id}
 use Rattle.command_line.proofs.Built.{ArePlaces, full_rule, flag_rule, full_place, rules_with, shape_with, long-is, id-is, long-word, not-dashes, place-at, no-place}
 
@@ -66,7 +66,7 @@ module _ (places : List Value) (are : ArePlaces places) where
   pub open-turn : (o : OptionName) (rows : List Row) (p : Option (Text × List Text)) (k : ℕ) (ws : List Text) (v : Value) → value_of o ≡ v → (v ≡ nothing → ⊥)
       → walks (between rows p k) (word_of o ∷ ws) ≡ or_else (settles rows p) (walks (opened (settled_at rows p) (option_id o) k) ws)
   unfolding walk_fault walked
-  open-turn o rows p k ws (number least greatest) e valued = rw (not-dashes o, long-word o, long-is places o, e) (ap (λ x. or_else x (walks (opened (settled_at rows p) (option_id o) k) ws)) (or-nil (settles rows p)))
+  open-turn o rows p k ws (in_range least greatest) e valued = rw (not-dashes o, long-word o, long-is places o, e) (ap (λ x. or_else x (walks (opened (settled_at rows p) (option_id o) k) ws)) (or-nil (settles rows p)))
   open-turn o rows p k ws name e valued = rw (not-dashes o, long-word o, long-is places o, e) (ap (λ x. or_else x (walks (opened (settled_at rows p) (option_id o) k) ws)) (or-nil (settles rows p)))
   open-turn o rows p k ws nothing e valued = absurd (valued refl)
 
@@ -74,7 +74,7 @@ module _ (places : List Value) (are : ArePlaces places) where
   pub value-turn : (o : OptionName) (rows : List Row) (k : ℕ) (w : Text) (ws : List Text) (v : Value) → value_of o ≡ v → (v ≡ nothing → ⊥) → is_name w ≡ true
       → walks (opened rows (option_id o) k) (w ∷ ws) ≡ walks (between rows (Some (option_id o, w ∷ [])) k) ws
   unfolding walk_fault walked
-  value-turn o rows k w ws (number least greatest) e valued h = let f = name-long w h in rw (f.0, f.1, f.2, id-is places o, e, same-bytes (option_id o)) refl
+  value-turn o rows k w ws (in_range least greatest) e valued h = let f = name-long w h in rw (f.0, f.1, f.2, id-is places o, e, same-bytes (option_id o)) refl
   value-turn o rows k w ws name e valued h = let f = name-long w h in rw (f.0, f.1, f.2, id-is places o, e, same-bytes (option_id o)) refl
   value-turn o rows k w ws nothing e valued h = absurd (valued refl)
 
@@ -94,7 +94,7 @@ module _ (places : List Value) (are : ArePlaces places) where
 
   -- an option without its value
   pub open-end : (o : OptionName) (rows : List Row) (k : ℕ) (v : Value) → value_of o ≡ v → (v ≡ nothing → ⊥) → settles rows (Some (option_id o, [])) ≡ [] → ⊥
-  open-end o rows k (number least greatest) e valued h = let bad : kind.InvalidValue ∷ [] ≡ [] = sym (rw (id-is places o, e) refl) ∙ h in cc
+  open-end o rows k (in_range least greatest) e valued h = let bad : kind.InvalidValue ∷ [] ≡ [] = sym (rw (id-is places o, e) refl) ∙ h in cc
   open-end o rows k name e valued h = let bad : kind.InvalidValue ∷ [] ≡ [] = sym (rw (id-is places o, e) refl) ∙ h in cc
   open-end o rows k nothing e valued h = absurd (valued refl)
 
@@ -112,9 +112,9 @@ module _ (places : List Value) (are : ArePlaces places) where
     where
       by_values : (v u : Value) → value_of o ≡ v → value_of q ≡ u → (v ≡ nothing → ⊥) → ⊥
       by_values nothing u e f valued = valued refl
-      by_values (number a b) (number l g) e f valued = let step : walks (opened rows (option_id o) k) (word_of q ∷ ws) ≡ kind.InvalidValue ∷ [] = rw (not-dashes q, long-word q, long-is places q, f, id-is places o, e) refl in let bad : kind.InvalidValue ∷ [] ≡ [] = sym step ∙ h in cc
-      by_values (number a b) name e f valued = let step : walks (opened rows (option_id o) k) (word_of q ∷ ws) ≡ kind.InvalidValue ∷ [] = rw (not-dashes q, long-word q, long-is places q, f, id-is places o, e) refl in let bad : kind.InvalidValue ∷ [] ≡ [] = sym step ∙ h in cc
-      by_values (number a b) nothing e f valued = let step : walks (opened rows (option_id o) k) (word_of q ∷ ws) ≡ kind.InvalidValue ∷ [] = rw (not-dashes q, long-word q, long-is places q, f, id-is places o, e) refl in let bad : kind.InvalidValue ∷ [] ≡ [] = sym step ∙ h in cc
-      by_values name (number l g) e f valued = let step : walks (opened rows (option_id o) k) (word_of q ∷ ws) ≡ kind.InvalidValue ∷ [] = rw (not-dashes q, long-word q, long-is places q, f, id-is places o, e) refl in let bad : kind.InvalidValue ∷ [] ≡ [] = sym step ∙ h in cc
+      by_values (in_range a b) (in_range l g) e f valued = let step : walks (opened rows (option_id o) k) (word_of q ∷ ws) ≡ kind.InvalidValue ∷ [] = rw (not-dashes q, long-word q, long-is places q, f, id-is places o, e) refl in let bad : kind.InvalidValue ∷ [] ≡ [] = sym step ∙ h in cc
+      by_values (in_range a b) name e f valued = let step : walks (opened rows (option_id o) k) (word_of q ∷ ws) ≡ kind.InvalidValue ∷ [] = rw (not-dashes q, long-word q, long-is places q, f, id-is places o, e) refl in let bad : kind.InvalidValue ∷ [] ≡ [] = sym step ∙ h in cc
+      by_values (in_range a b) nothing e f valued = let step : walks (opened rows (option_id o) k) (word_of q ∷ ws) ≡ kind.InvalidValue ∷ [] = rw (not-dashes q, long-word q, long-is places q, f, id-is places o, e) refl in let bad : kind.InvalidValue ∷ [] ≡ [] = sym step ∙ h in cc
+      by_values name (in_range l g) e f valued = let step : walks (opened rows (option_id o) k) (word_of q ∷ ws) ≡ kind.InvalidValue ∷ [] = rw (not-dashes q, long-word q, long-is places q, f, id-is places o, e) refl in let bad : kind.InvalidValue ∷ [] ≡ [] = sym step ∙ h in cc
       by_values name name e f valued = let step : walks (opened rows (option_id o) k) (word_of q ∷ ws) ≡ kind.InvalidValue ∷ [] = rw (not-dashes q, long-word q, long-is places q, f, id-is places o, e) refl in let bad : kind.InvalidValue ∷ [] ≡ [] = sym step ∙ h in cc
       by_values name nothing e f valued = let step : walks (opened rows (option_id o) k) (word_of q ∷ ws) ≡ kind.InvalidValue ∷ [] = rw (not-dashes q, long-word q, long-is places q, f, id-is places o, e) refl in let bad : kind.InvalidValue ∷ [] ≡ [] = sym step ∙ h in cc

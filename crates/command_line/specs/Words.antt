@@ -39,18 +39,18 @@ word_of o = 45 ∷ 45 ∷ option_id o
 
 -- what stands after an option's word, or at a place of a positional word: a number from `least` to `greatest`, a name, or nothing
 pub data Value : Type 0 where
-  number : (least greatest : ℕ) → Value
+  in_range : (least greatest : ℕ) → Value
   name : Value
   nothing : Value
 
 -- what stands after an option's word
 abbrev pub value_of : OptionName → Value
-value_of Workers = number 1 64
-value_of Edges = number 1 20000
-value_of Readings = number 1 100000
-value_of Lexical = number 0 15
-value_of Unary = number 0 32
-value_of Empty = number 0 16
+value_of Workers = in_range 1 64
+value_of Edges = in_range 1 20000
+value_of Readings = in_range 1 100000
+value_of Lexical = in_range 0 15
+value_of Unary = in_range 0 32
+value_of Empty = in_range 0 16
 value_of Settings = name
 value_of Mrs = nothing
 value_of Lattice = nothing
@@ -65,7 +65,7 @@ IsNumber least greatest word = IsNumeral 10 (without_leading_plus word) × (leas
 
 -- These words are such a value. No value begins with `-`.
 abbrev pub IsValue : Value → List (List ℕ) → Type 0
-IsValue (number least greatest) (word ∷ []) = (is_name word ≡ true) × IsNumber least greatest word
+IsValue (in_range least greatest) (word ∷ []) = (is_name word ≡ true) × IsNumber least greatest word
 IsValue name (word ∷ []) = is_name word ≡ true
 IsValue nothing [] = Unit {0}
 IsValue _ words = ⊥
@@ -165,7 +165,7 @@ pub data Task : Type 0 where
   types : (grammar : List ℕ) → Task
   expand : (grammar entry : List ℕ) → Task
   check : (grammar : List ℕ) → Task
-  self_test : (seed size : ℕ) → Task
+  self_test : (number size : ℕ) → Task
   scope : Task
   batch : (grammar profile : List ℕ) → Task
   transfer : (rules : List ℕ) → Task
@@ -177,7 +177,7 @@ command_word (generate grammar) = codes "generate"
 command_word (types grammar) = codes "types"
 command_word (expand grammar entry) = codes "expand"
 command_word (check grammar) = codes "check"
-command_word (self_test seed size) = codes "self-test"
+command_word (self_test number size) = codes "self-test"
 command_word scope = codes "scope"
 command_word (batch grammar profile) = codes "batch"
 command_word (transfer rules) = codes "transfer"
@@ -186,7 +186,7 @@ command_word (transfer rules) = codes "transfer"
 abbrev pub places_of : Task → List Value
 places_of (expand grammar entry) = name ∷ name ∷ []
 places_of (batch grammar profile) = name ∷ name ∷ []
-places_of (self_test seed size) = number 0 18446744073709551615 ∷ number 1 1000 ∷ []
+places_of (self_test number size) = in_range 0 18446744073709551615 ∷ in_range 1 1000 ∷ []
 places_of scope = []
 places_of one = name ∷ []
 
@@ -197,7 +197,7 @@ HasNames (generate grammar) names = names ≡ grammar ∷ []
 HasNames (types grammar) names = names ≡ grammar ∷ []
 HasNames (expand grammar entry) names = names ≡ grammar ∷ entry ∷ []
 HasNames (check grammar) names = names ≡ grammar ∷ []
-HasNames (self_test seed size) names = (a : List ℕ) × (b : List ℕ) × (names ≡ a ∷ b ∷ []) × (seed ≡ number_of a) × (size ≡ number_of b)
+HasNames (self_test number size) names = (a : List ℕ) × (b : List ℕ) × (names ≡ a ∷ b ∷ []) × (number ≡ number_of a) × (size ≡ number_of b)
 HasNames scope names = names ≡ []
 HasNames (batch grammar profile) names = names ≡ grammar ∷ profile ∷ []
 HasNames (transfer rules) names = names ≡ rules ∷ []
@@ -216,7 +216,7 @@ IsForm words (run task options) = (rest : List (List ℕ)) × (names : List (Lis
 
 -- the number is in such a value's range
 abbrev pub IsWithin : Value → ℕ → Type 0
-IsWithin (number least greatest) n = (least ≤ n) × (n ≤ greatest)
+IsWithin (in_range least greatest) n = (least ≤ n) × (n ≤ greatest)
 IsWithin value n = ⊥
 
 -- each number is in its option's range

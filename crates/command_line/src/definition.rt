@@ -1,7 +1,7 @@
 //! The command line as `clap` reads it: the options, and the places of the positional words.
 ghost use Rattle.std.specs.Prelude.{◌≡◌, false, IfOk};
 ghost use Rattle.clap.specs.Words.{rule_of, app_of};
-ghost use Rattle.command_line.specs.Words.{Value, number, name, nothing};
+ghost use Rattle.command_line.specs.Words.{Value, in_range, name, nothing};
 ghost use Rattle.command_line.specs.Inner.Rules.{option_rule_by, place_rule_by, options_app};
 
 use clap::builder::ValueParser;
@@ -10,7 +10,7 @@ use std::alloc::{AllocError, Global};
 
 // An option whose value is a number in this range.
 fn number_option<'a>(alloc: Global, id: &'a str, least: u64, greatest: u64) -> Arg<'a>
-    ensures rule { rule_of result ≡ option_rule_by (number least greatest) id.entry.now }
+    ensures rule { rule_of result ≡ option_rule_by (in_range least greatest) id.entry.now }
     ensures local { result.global ≡ false }
 {
     Arg::new(alloc, id)
@@ -44,7 +44,7 @@ pub fn name_place<'a>(alloc: Global, id: &'a str) -> Arg<'a>
 
 /// The place of a positional word that is a number in this range.
 pub fn number_place<'a>(alloc: Global, id: &'a str, least: u64, greatest: u64) -> Arg<'a>
-    ensures rule { rule_of result ≡ place_rule_by (number least greatest) id.entry.now }
+    ensures rule { rule_of result ≡ place_rule_by (in_range least greatest) id.entry.now }
     ensures local { result.global ≡ false }
 {
     Arg::new(alloc, id)

@@ -1,6 +1,6 @@
 //! Laws of words.
 ghost use Rattle.std.specs.Prelude.{◌≡◌, ℕ, List};
-ghost use Rattle.command_line.specs.Words.{Form, IsForm, Task, Options, run, number, IsWithin, AreWithin, self_test};
+ghost use Rattle.command_line.specs.Words.{Form, IsForm, Task, Options, run, in_range, IsWithin, AreWithin, self_test};
 
 /// Words have one form at most.
 pub fn one_form()
@@ -10,5 +10,5 @@ pub fn one_form()
 /// The numbers of a form are in their ranges: those of its options, and the size of a workload.
 pub fn numbers_are_within()
     ensures options { (words : List (List ℕ)) (task : Task) (options : Options) → IsForm words (run task options) → AreWithin options }
-    ensures workload { (words : List (List ℕ)) (seed size : ℕ) (options : Options) → IsForm words (run (self_test seed size) options) → IsWithin (number 1 1000) size }
+    ensures workload { (words : List (List ℕ)) (number size : ℕ) (options : Options) → IsForm words (run (self_test number size) options) → IsWithin (in_range 1 1000) size }
 {}

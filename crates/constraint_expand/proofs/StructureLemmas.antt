@@ -28,7 +28,7 @@ use Rattle.constraint_expand.specs.Systems.{Settled, words_of, constraint_claims
 use Rattle.constraint_expand.specs.declared.books.Instance.{Instance}
 use Rattle.constraint_expand.specs.Books.{InstanceMap, instance_of, IsInstanceOf, IsConstraintOf, AreConstraints, AreInstances}
 use Rattle.constraint_expand.specs.Faults.{claims_of_definition, IsInconsistent}
-use Rattle.constraint_expand.specs.Shaped.{IsShaped, AddsInstance, AreShaped, IsAnswerFor, HasNoConstraint, HasNoShape, IsFaultyType, IsFaultyAmongTypes, IsFaultyHere, IsFaultyAmongInstances}
+use Rattle.constraint_expand.specs.Shaped.{IsInstanceBy, AddsInstance, AreShaped, IsAnswerFor, HasNoConstraint, HasNoShape, IsFaultyType, IsFaultyAmongTypes, IsFaultyHere, IsFaultyAmongInstances}
 use Rattle.constraint_expand.proofs.FirstLemmas.{first_here}
 use Rattle.constraint_expand.specs.Found.{HasNoneBefore, IsStructureFault}
 use Rattle.constraint_expand.proofs.ListLemmas.{bools}
@@ -203,7 +203,7 @@ structure_of_instances types s ps feats g (NoStructure name k) types_for sys all
 pub instances_are : (types : TypeTable) (s : Settled) (ps : List PlacedTree) (feats : List Name) (g : Grammar) (is : List InstanceMap) → g.types ≡ types →
     AreShaped g (words_of types s.lists feats) ps is → AreInstances g s feats ps is
 instances_are types s ps feats g is same h =
-    zip_moved (IsShaped g (words_of types s.lists feats)) (IsInstanceOf g s feats) (instances_in ps) is
+    zip_moved (IsInstanceBy g (words_of types s.lists feats)) (IsInstanceOf g s feats) (instances_in ps) is
     (λ p i r. record {
       status = r.status;
       structure = subst (λ y. IsUnified (system_of g) (facts_source (instance_claims (words_of y s.lists feats) p)) (Some (reader_of i.structure))) (sym same) r.structure;
@@ -220,38 +220,38 @@ adds_one g w p old new graph o some is answer picked =
     let here = subst (IsAnswerFor g (instance_claims w p)) some answer in (
       record { status = p.status; structure = graph } ∷ [],
       is,
-      subst (λ b. AllZip (IsShaped g w) (cond b (p ∷ []) []) (record { status = p.status; structure = graph } ∷ [])) (sym picked)
+      subst (λ b. AllZip (IsInstanceBy g w) (cond b (p ∷ []) []) (record { status = p.status; structure = graph } ∷ [])) (sym picked)
           (record { status = refl; structure = here.unified; answer = here.answer }, tt),
     )
 
 pub adds_none : (g : Grammar) (w : WordTable) (p : PlacedTree) (old : List InstanceMap) → defines_instance p ≡ false → AddsInstance g w p old old
 adds_none g w p old picked =
-    ([], sym (append-nil old), subst (λ b. AllZip (IsShaped g w) (cond b (p ∷ []) []) []) (sym picked) tt)
+    ([], sym (append-nil old), subst (λ b. AllZip (IsInstanceBy g w) (cond b (p ∷ []) []) []) (sym picked) tt)
 
-pub instances_none : (g : Grammar) (w : WordTable) (ps : List PlacedTree) → AllZip (IsShaped g w) (filter defines_instance (take 0 ps)) []
+pub instances_none : (g : Grammar) (w : WordTable) (ps : List PlacedTree) → AllZip (IsInstanceBy g w) (filter defines_instance (take 0 ps)) []
 instances_none g w [] = tt
 instances_none g w (p ∷ ps) = tt
 
 pub instances_next : (g : Grammar) (w : WordTable) (ps : List PlacedTree) (i : ℕ) (p : PlacedTree) (old new : List InstanceMap) → i < length ps → statement_at ps i ≡ p →
-    AddsInstance g w p old new → AllZip (IsShaped g w) (filter defines_instance (take i ps)) old → AllZip (IsShaped g w) (filter defines_instance (take (i + 1) ps)) new
+    AddsInstance g w p old new → AllZip (IsInstanceBy g w) (filter defines_instance (take i ps)) old → AllZip (IsInstanceBy g w) (filter defines_instance (take (i + 1) ps)) new
 instances_next g w ps i p old new lt here (more, is, shaped) had =
-    subst (λ l. AllZip (IsShaped g w) (filter defines_instance (take (i + 1) ps)) l) (sym is)
-    (subst (λ l. AllZip (IsShaped g w) l (old ++ more))
+    subst (λ l. AllZip (IsInstanceBy g w) (filter defines_instance (take (i + 1) ps)) l) (sym is)
+    (subst (λ l. AllZip (IsInstanceBy g w) l (old ++ more))
     (sym (filter_more defines_instance ps i no_statement lt ∙ ap (λ q. filter defines_instance (take i ps) ++ filter defines_instance (q ∷ [])) here))
-    (zip_join (IsShaped g w) (filter defines_instance (take i ps)) (filter defines_instance (p ∷ [])) old more had shaped))
+    (zip_join (IsInstanceBy g w) (filter defines_instance (take i ps)) (filter defines_instance (p ∷ [])) old more had shaped))
 
 -- an instance that was added has a structure
 pub instance_has : (g : Grammar) (w : WordTable) (p : PlacedTree) (old new : List InstanceMap) → AddsInstance g w p old new → defines_instance p ≡ true → HasNoShape g w p → ⊥
 instance_has g w p old new (more, is, shaped) picked none =
-    go more (subst (λ b. AllZip (IsShaped g w) (cond b (p ∷ []) []) more) picked shaped)
+    go more (subst (λ b. AllZip (IsInstanceBy g w) (cond b (p ∷ []) []) more) picked shaped)
   where
-    go : (ms : List InstanceMap) → AllZip (IsShaped g w) (p ∷ []) ms → ⊥
+    go : (ms : List InstanceMap) → AllZip (IsInstanceBy g w) (p ∷ []) ms → ⊥
     go [] h = h
     go (m ∷ ms) h = none h.0.structure.0
 
 pub instances_all : (g : Grammar) (w : WordTable) (ps : List PlacedTree) (i : ℕ) (all : List InstanceMap) → length ps ≤ i →
-    AllZip (IsShaped g w) (filter defines_instance (take i ps)) all → AreShaped g w ps all
-instances_all g w ps i all past had = subst (λ l. AllZip (IsShaped g w) (filter defines_instance l) all) (take_all i ps past) had
+    AllZip (IsInstanceBy g w) (filter defines_instance (take i ps)) all → AreShaped g w ps all
+instances_all g w ps i all past had = subst (λ l. AllZip (IsInstanceBy g w) (filter defines_instance l) all) (take_all i ps past) had
 
 -- the fault of one type is the first, where all before it have constraints
 pub faulty_type : (g : Grammar) (ps : List PlacedTree) (t : ℕ) (e : ExpandFault) → HasNoConstraint g t → IsFaultyType g.types ps t e → ((u : ℕ) → u < t → HasNoConstraint g u → ⊥) →

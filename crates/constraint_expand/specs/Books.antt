@@ -12,6 +12,7 @@ use Rattle.fs_graph.specs.GraphMap.{GraphMap, reader_of}
 use Rattle.fs_unify.specs.Rules.{Grammar, IsGrammar, system_of}
 use Rattle.fs_unify.specs.Given.{facts_source}
 use Rattle.fs_unify.specs.Placing.{IsAnswerIn}
+use Rattle.body_facts.specs.Claimed.{WordTable}
 use Rattle.constraint_expand.specs.declared.books.Book.{Book}
 use Rattle.constraint_expand.specs.declared.books.BookNames.{BookNames}
 use Rattle.constraint_expand.specs.declared.books.Instance.{Instance}
@@ -81,11 +82,15 @@ pub record InstanceMap : Type 0 where
 abbrev pub instance_of : Instance → InstanceMap
 instance_of i = record { status = i.status; structure = i.structure }
 
--- an instance has its definition's status and the structure of what its body says
-pub record IsInstanceOf (g : Grammar) (s : Settled) (feats : List Name) (p : PlacedTree) (i : InstanceMap) : Type 0 where
+-- an instance has its definition's status and the structure of what its body says, by a table of words
+pub record IsInstanceBy (g : Grammar) (w : WordTable) (p : PlacedTree) (i : InstanceMap) : Type 0 where
   pub status : i.status ≡ p.status
-  pub structure : IsUnified (system_of g) (facts_source (instance_claims (words_of g.types s.lists feats) p)) (Some (reader_of i.structure))
+  pub structure : IsUnified (system_of g) (facts_source (instance_claims w p)) (Some (reader_of i.structure))
   pub answer : IsAnswerIn g i.structure
+
+-- that of the grammar's own types and features, and of the names of lists that are settled
+abbrev pub IsInstanceOf : Grammar → Settled → List Name → PlacedTree → InstanceMap → Type 0
+IsInstanceOf g s feats = IsInstanceBy g (words_of g.types s.lists feats)
 
 -- the structure of a type's constraint
 pub record IsConstraintOf (g : Grammar) (t : ℕ) (graph : GraphMap) : Type 0 where

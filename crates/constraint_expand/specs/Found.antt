@@ -1,5 +1,5 @@
 -- What is found in one statement, and among the statements of one kind.
-use Rattle.std.specs.Prelude.{ℕ, ◌≡◌, ◌<◌, ◌&&◌, ◌++◌, map, length, slice_index_or, Bool, true, if◌then◌else◌, List, [], ◌∷◌, Some, String, Vec, string_bytes}
+use Rattle.std.specs.Prelude.{ℕ, ◌≡◌, ◌<◌, ◌&&◌, map, length, slice_index_or, Bool, true, if◌then◌else◌, List, [], ◌∷◌, Some, String, Vec, string_bytes}
 use Rattle.std.specs.Global.{Global}
 use Rattle.std.specs.List.{list_any, range_with_len, flat_map, AllZip}
 use Rattle.std.specs.Str.{bytes_eq}
@@ -13,6 +13,7 @@ use Rattle.constraint_expand.specs.declared.kinds.Kind.{Kind}
 use Rattle.placed_statements.specs.declared.fault.ExpandFault.{ExpandFault}
 use Rattle.placed_statements.specs.declared.fault.ExpandFault.TheVariants.{UnknownName, NoIntro, Intro, NoStructure, NoMemory}
 use Rattle.placed_statements.specs.Placings.{PlacedTree}
+pub use Rattle.placed_statements.specs.Names.{has_name, with_each}
 use Rattle.constraint_expand.specs.Statements.{name_of, adds_to, speaks_of_type, defines_type, statement_at, IsFirstAmong}
 use Rattle.constraint_expand.specs.Kinds.{picks}
 use Rattle.constraint_expand.specs.Features.{uses_in, writings_in, writers_of, AreFeatures}
@@ -31,9 +32,6 @@ has_text_key keys n = list_any (λ k. bytes_eq n (string_bytes k)) keys
 -- a statement defines a type of this name
 abbrev pub defines_named : Name → PlacedTree → Bool
 defines_named n p = defines_type p && bytes_eq n (name_of p)
-
-abbrev pub has_name : List Name → Name → Bool
-has_name names n = list_any (bytes_eq n) names
 
 -- none of the statements before a place that a test picks has P
 abbrev pub HasNoneBefore : (PlacedTree → Bool) → List PlacedTree → (PlacedTree → Type 0) → ℕ → Type 0
@@ -73,11 +71,6 @@ abbrev pub IsStructureFault : TypeTable → Settled → List PlacedTree → Expa
 IsStructureFault types s ps (NoStructure name k) = IsNoStructure types s ps (string_bytes name) k
 IsStructureFault types s ps NoMemory = Unit {0}
 IsStructureFault types s ps _ = ⊥
-
--- the list, and each of the names that isn't there yet in turn
-abbrev pub with_each : List Name → List Name → List Name
-with_each ns [] = ns
-with_each ns (x ∷ xs) = with_each (if has_name ns x then ns else ns ++ x ∷ []) xs
 
 -- the numbers of the writers that are noted for a feature
 abbrev pub numbers_noted : List (String Global × Vec Ty Global) → Name → List ℕ

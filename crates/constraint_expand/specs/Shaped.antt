@@ -16,29 +16,25 @@ use Rattle.placed_statements.specs.Placings.{PlacedTree}
 use Rattle.constraint_expand.specs.Statements.{name_of, statement_at, defines_type, defines_instance, instances_in, IsFirstAmong}
 use Rattle.constraint_expand.specs.Conditions.{IsDefined}
 use Rattle.constraint_expand.specs.Systems.{constraint_claims, instance_claims}
+pub use Rattle.constraint_expand.specs.Books.{IsInstanceBy}
 use Rattle.constraint_expand.specs.Books.{InstanceMap}
 
 -- claims of a grammar's types and features
 abbrev pub HaveClaimsIn : Grammar → List Claim → Type 0
 HaveClaimsIn g claims = (c : Claim) → Has c claims → IsClaimIn (count_of g.types) (length g.introducers) c
 
--- an instance with its definition's status and structure
-pub record IsShaped (g : Grammar) (w : WordTable) (p : PlacedTree) (i : InstanceMap) : Type 0 where
-  pub status : i.status ≡ p.status
-  pub structure : IsUnified (system_of g) (facts_source (instance_claims w p)) (Some (reader_of i.structure))
-  pub answer : IsAnswerIn g i.structure
-
 -- what is answered for claims: the structure of their closure, or none
 pub record IsAnswerFor (g : Grammar) (claims : List Claim) (o : Option GraphMap) : Type 0 where
   pub unified : IsUnified (system_of g) (facts_source claims) (option_map reader_of o)
   pub answer : IfSome o (IsAnswerIn g)
 
+-- the instances of statements, by a table of words
 abbrev pub AreShaped : Grammar → WordTable → List PlacedTree → List InstanceMap → Type 0
-AreShaped g w ps is = AllZip (IsShaped g w) (instances_in ps) is
+AreShaped g w ps is = AllZip (IsInstanceBy g w) (instances_in ps) is
 
 -- the instance of a statement goes last, if the statement defines one
 abbrev pub AddsInstance : Grammar → WordTable → PlacedTree → List InstanceMap → List InstanceMap → Type 0
-AddsInstance g w p old new = (more : List InstanceMap) × (new ≡ old ++ more) × AllZip (IsShaped g w) (filter defines_instance (p ∷ [])) more
+AddsInstance g w p old new = (more : List InstanceMap) × (new ≡ old ++ more) × AllZip (IsInstanceBy g w) (filter defines_instance (p ∷ [])) more
 
 -- a type, and an instance, without structure
 abbrev pub HasNoConstraint : Grammar → ℕ → Type 0

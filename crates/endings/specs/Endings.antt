@@ -11,7 +11,7 @@ use Rattle.endings.specs.declared.Status.{Status}
 use Rattle.endings.specs.declared.Status.TheVariants.{Done, Items, Usage as UsageStatus, Grammar as GrammarStatus, ReadFault, WriteFault, NoMemory as NoMemoryStatus}
 use Rattle.endings.specs.Meanings.{Meaning, Shelves, FileFault, Fails}
 use Rattle.endings.specs.declared.pieces.Report.{Report}
-use Rattle.endings.specs.Reports.{AreAnswers, Streams, output_of, Served, IsServedTo, IsServedToLast, IsServedInPart, Said, IsSaidInPart}
+use Rattle.endings.specs.Reports.{Streams, output_of, Served, IsServedTo, IsServedToLast, IsServedInPart, Said, IsSaidInPart}
 
 -- How a command ends that met no fault of its files. `idle` says that the source is as it was.
 abbrev pub Runs : Bool → (List (List ℕ) → List (List ℕ) → Bool → Type 0) → Streams → (idle : Type 0) → Result Bool Stop → Type 0
@@ -116,7 +116,3 @@ Comes good m h (Err fault) = NotCome m h fault
 -- The whole report of a command, whatever the lines of the input are.
 abbrev pub Made : Meaning → Shelves → Result Report Fault → Type 0
 Made m h = Comes (λ r. (lines : List (List ℕ)) → m.report h.files lines (map (λ l. l.items) r.lines.items) r.refused) m h
-
--- What answers lines, so that the answers are the command's report.
-abbrev pub Readied : {X : Type 0} → (X → ℕ → List ℕ → List (List ℕ) → Bool → Type 0) → Meaning → Shelves → Result X Fault → Type 0
-Readied answers m h = Comes (λ x. (lines pieces : List (List ℕ)) (refused : Bool) → AreAnswers (answers x) 1 lines pieces refused → m.report h.files lines pieces refused) m h

@@ -1,12 +1,11 @@
-//! Commands of two kinds: those that make a whole report of their files, and those that answer lines.
-ghost use Rattle.std.specs.Prelude.{◌≡◌, true, false};
+//! Commands that make a whole report of their files.
+ghost use Rattle.std.specs.Prelude.{◌≡◌, false};
 ghost use Rattle.std.specs.Thread.{IsSync};
 ghost use Rattle.endings.specs.Meanings.{Meaning, shelves};
 ghost use Rattle.endings.specs.Reports.{streams};
-ghost use Rattle.endings.specs.Endings.{Ended, Made, Readied};
+ghost use Rattle.endings.specs.Endings.{Ended, Made};
 
 use crate::Fault;
-use crate::lines::{Answers, serve};
 use crate::pieces::{Report, put_report};
 use lkb_io::{Shelf, Sink, Source};
 use std::alloc::Global;
@@ -50,39 +49,5 @@ pub fn write_whole<W: Whole, S: Shelf, I: Source, O: Sink, Rt: Threads + Wait + 
     let _input = input;
     let report = command.report(rt, alloc, shelf, gate)?;
     let refused = put_report(&report, out)?;
-    Ok(refused)
-}
-
-/// A command that answers each line of its input, by what its files give.
-pub trait ByLines {
-    /// What the files give.
-    type Loaded: Answers + Drop;
-
-    /// What the command is to do.
-    ghost meaning: { Self → Meaning };
-
-    /// What the files give, or their first fault.
-    fn load<S: Shelf>(&self, alloc: Global, shelf: &mut S) -> Result<Self::Loaded, Fault>
-        ensures readied { Readied Self.Loaded.IsAnswer (meaning self.now) (shelves S.files S.faults S.asked shelf.old shelf.new) result }
-        ensures unopened { (meaning self.now).opens ≡ false → shelf.new ≡ shelf.old };
-}
-
-/// Answers all lines of the source, and flushes.
-pub fn answer_lines<L: ByLines, S: Shelf, I: Source, O: Sink, Rt: Threads + Wait + Sync>(
-    rt: &Rt,
-    alloc: Global,
-    command: &L,
-    shelf: &mut S,
-    input: &mut I,
-    out: &mut O,
-    gate: &dyn Gate,
-) -> Result<bool, Fault>
-    requires { (L.meaning command.now).reads ≡ true }
-    ensures ended { Ended (L.meaning command.now) (shelves S.files S.faults S.asked shelf.old shelf.new) (streams I.left I.faults O.written O.flushed O.faults input.old input.new out.old out.new)
-        (input.new ≡ input.old) ((input.new ≡ input.old) × (out.new ≡ out.old)) result }
-    ensures unopened { (L.meaning command.now).opens ≡ false → shelf.new ≡ shelf.old }
-{
-    let loaded = command.load(alloc, shelf)?;
-    let refused = serve(rt, alloc, &loaded, input, out, gate)?;
     Ok(refused)
 }

@@ -1,6 +1,5 @@
 -- The texts of faults of files. Each is one line, which ends with byte 10.
-use Rattle.std.specs.Prelude.{ℕ, List, [], ◌∷◌, ◌++◌, Bool, map, codes, if◌then◌else◌, true, false, string_bytes, String}
-use Rattle.std.specs.Global.{Global}
+use Rattle.std.specs.Prelude.{ℕ, List, [], ◌∷◌, ◌++◌, Bool, map, codes, if◌then◌else◌, true, false, string_bytes}
 use Rattle.std.specs.Char.{to_ascii_uppercase}
 use Rattle.std.specs.Fmt.{decimal}
 use Rattle.tdl_lexer.specs.declared.LexFault.{LexFault}
@@ -95,7 +94,3 @@ found_text f = (codes "lkb: " ++ f.file) ++ (place_text f.why f.at ++ cause_text
 -- `lkb: FILE: NAME`, for a fault of a whole file
 abbrev pub file_text : List ℕ → List ℕ → List ℕ
 file_text file name = (codes "lkb: " ++ file) ++ (codes ": " ++ (name ++ 10 ∷ []))
-
--- a fault by its file, its place there and its cause
-abbrev pub fault_at : String Global → ℕ → Why → FoundFault
-fault_at file at why = record { file = string_bytes file; at = at; why = why }

@@ -55,6 +55,8 @@ pub fn complete(alloc: Global, h: Hierarchy, strings: &[String]) -> Result<Types
     let family = closed(alloc, &h)?;
     let count = h.count();
     let mut added = member_lists(alloc, count, &family.sets.as_slice()[count as usize..])?;
+    // The answer takes as much room as the family does, so this goes first.
+    drop(family);
     added.sort()?;
     Ok(Types::of_sets(alloc, h, added, strings)?)
 }

@@ -119,7 +119,7 @@ fn structure_lines(
     requires { IsGraphIn (count_of types.now) (length feats.now) graph.now }
     ensures { IfOk result (λ texts. AreLinesOf types.now (map string_bytes feats.now) (reader_of graph.now) (map (λ t. t.items) texts.items)) }
 {
-    let _nodes = graph.nodes();
+    graph.laws();
     let list = graph.paths(alloc)?;
     line_texts(alloc, list, types, feats)
 }

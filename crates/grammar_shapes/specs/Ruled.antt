@@ -1,21 +1,16 @@
 -- Phrase rules in code, as a system of rules.
 use Rattle.std.specs.Prelude.{◌<◌, ◌≤◌, List, All, length, map}
-use Rattle.std.specs.List.{range_with_len}
 use Rattle.fs_model.specs.Claims.{Path, Has}
 use Rattle.fs_graph.specs.GraphMap.{reader_of}
 use Rattle.fs_closing.specs.Rules.{Grammar, system_of}
 use Rattle.fs_unify.specs.Entering.{IsWellFormed}
-use Rattle.rule_model.specs.Paths.{paths_up_to}
 use Rattle.rule_model.specs.Cuts.{Cut}
 use Rattle.rule_model.specs.Mothers.{Rule, RuleSystem}
 use Rattle.rule_model.specs.Said.{rule_said}
+pub use Rattle.fs_trim.specs.Cutting.{paths_in}
 use Rattle.fs_trim.specs.Cutting.{IsShort}
 use Rattle.grammar_shapes.specs.declared.phrase_rule.PhraseRule.{PhraseRule}
 use Rattle.grammar_shapes.specs.Sketches.{paths_of}
-
--- each path that may be
-abbrev pub paths_in : Grammar → List Path
-paths_in g = paths_up_to (range_with_len 0 (length g.introducers)) g.path_limit
 
 abbrev pub places_of : PhraseRule → List Path
 places_of r = paths_of r.places.items

@@ -20,5 +20,5 @@ pub fn structure_laws(_system: &TypeSystem, graph: &Graph)
     requires consistent { IsConsistent (system_of _system.now) (Told (source_alone (reader_of graph.now))) }
     ensures { IsShort _system.now graph.now }
 {
-    let _ = graph.nodes();
+    graph.laws();
 }

@@ -130,7 +130,7 @@ impl<'a> RuleTable<'a> {
             result ≡ sketches_meet self.now.grammar.types (sketch_below r.structure.now self.now.checks (slice_index_or (places_of r) place [])) (numbers_of daughter.now) }
     {
         let structure = self.rules[rule as usize].structure;
-        let _ = structure.nodes();
+        structure.laws();
         let sketch = &self.sketches[rule as usize][place as usize];
         sketches_meet(self.system.types(), sketch, daughter)
     }

@@ -171,7 +171,7 @@ impl<'a> GrammarShapes<'a> {
         ensures belongs { IfOk result (Belongs self.now) }
         ensures shape { IfOk result (λ s. IsAbstract (rules_of self.now) (Meant (rules_of self.now) (view (paths_in (grammar_of self.now)) (reader_of full.now))) (meaning_of self.now s)) }
     {
-        let _ = full.nodes();
+        full.laws();
         let Ok(alone) = alone_of(alloc, full) else {
             return Err(NoMemory);
         };
@@ -194,7 +194,7 @@ impl<'a> GrammarShapes<'a> {
         match parts.get(last) {
             Some(part) => {
                 let daughter: &Place = &part.shape;
-                let _ = daughter.graph.nodes();
+                daughter.graph.laws();
                 self.rules.passes(rule, last, &daughter.sketch)
             }
             None => unreachable!(),

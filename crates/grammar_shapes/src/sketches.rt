@@ -16,7 +16,7 @@ use type_hierarchy::{Ty, Types};
 fn type_along(graph: &Graph, path: &[Feat]) -> Option<Ty>
     ensures { type_number result ≡ type_along graph.now (path_of path.now) }
 {
-    let _ = graph.nodes();
+    graph.laws();
     match graph.at(path) {
         Some(node) => Some(graph.ty(node)),
         None => None,

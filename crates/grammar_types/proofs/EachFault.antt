@@ -18,7 +18,7 @@ use Rattle.grammar_files.specs.declared.fault.Why.TheVariants.{Typing}
 use Rattle.grammar_files.specs.Faults.{FoundFault}
 use Rattle.grammar_files.specs.Walks.{WalkedTree}
 use Rattle.grammar_types.specs.Typings.{is_heeded, statement_at, no_statement, name_written, body_written, type_definitions, adds_to, defines_under, has_name, names_under, top_names, parents_added, declared_in, decls_in, IsRepeatUnder, IsRepeat, HasNoRepeat, IsTypesFault, repeats, unsettled, fault_of}
-use Rattle.grammar_types.specs.Outcomes.{IsText, HaveTexts}
+use Rattle.grammar_types.specs.Outcomes.{IsStringBytes, HaveTexts}
 use Rattle.grammar_types.proofs.FirstPlaces.{FirstBelow, first_below}
 use Rattle.grammar_types.proofs.ReachedNodes.{cyclic_told}
 use Rattle.grammar_types.proofs.SettleLists.{bools, true_not_false}
@@ -130,19 +130,19 @@ module _ (top text : Name) (ps : List PlacedTree) (texts : HaveTexts ps) where
   defined_there k h = has_at (type_definitions ps) k no_statement (within ps k h)
 
   -- the names of declarations and of their parents are texts
-  name_text : (k : ℕ) → k < length ds → IsText (at_place ds k).name
+  name_text : (k : ℕ) → k < length ds → IsStringBytes (at_place ds k).name
   name_text k h =
       let there_it : Has (definition k) (type_definitions ps) = defined_there k h in
-      subst (λ d. IsText d.name) (sym (declared_at k h))
+      subst (λ d. IsStringBytes d.name) (sym (declared_at k h))
       (texts.defined (definition k) (kept defines_type (definition k) ps there_it) (front_true (is_define (definition k).statement) (is_of_types (definition k).status) (passes defines_type (definition k) ps there_it)))
 
-  parent_text : (k i : ℕ) → k < length ds → i < length (at_place ds k).parents → IsText (slice_index_or (at_place ds k).parents i [])
+  parent_text : (k i : ℕ) → k < length ds → i < length (at_place ds k).parents → IsStringBytes (slice_index_or (at_place ds k).parents i [])
   parent_text k i h l = found (split n (top_names (body_of (definition k))) (parents_added (name_of (definition k)) ps) (subst (λ d. Has n d.parents) (declared_at k h) (has_at (at_place ds k).parents i [] l)))
     where
       n : Name
       n = slice_index_or (at_place ds k).parents i []
 
-      found : Has n (top_names (body_of (definition k))) ⊎ Has n (parents_added (name_of (definition k)) ps) → IsText n
+      found : Has n (top_names (body_of (definition k))) ⊎ Has n (parents_added (name_of (definition k)) ps) → IsStringBytes n
       found (inl m) = texts.parents (definition k) n (kept defines_type (definition k) ps (defined_there k h)) m
       found (inr m) =
           let r = unflat (λ p. top_names (body_written p.statement)) n (filter (adds_to (name_of (definition k))) ps) m in
@@ -262,7 +262,7 @@ fault_or_none w texts = go (first_repeat w.statements)
     go (inl r) =
         let u : IsRepeatUnder r.1.0.0 w.statements r.0 = r.1.0.2 in
         let p : PlacedTree = statement_at w.statements r.0 in
-        let t : IsText (name_of p) = texts.defined p (has_at w.statements r.0 no_statement u.0) (front_true (is_define p.statement) (is_status r.1.0.0 p.status) u.1) in
+        let t : IsStringBytes (name_of p) = texts.defined p (has_at w.statements r.0 no_statement u.0) (front_true (is_define p.statement) (is_status r.1.0.0 p.status) u.1) in
         inl (fault_of w p (Typing (Duplicate t.0)), repeats r.0 t.0 r.1 t.1)
     go (inr once) =
         declared_so once (with_unknown w.settings.top_type w.settings.string_type w.statements texts (λ k d. not_duplicate w.statements k once d))

@@ -8,10 +8,10 @@ use Rattle.grammar_settings.specs.Forms.{Name}
 use Rattle.grammar_types.specs.Typings.{top_names}
 
 -- a string has these bytes
-abbrev pub IsText : Name → Type 0
-IsText n = (text : String Global) × (string_bytes text ≡ n)
+abbrev pub IsStringBytes : Name → Type 0
+IsStringBytes n = (text : String Global) × (string_bytes text ≡ n)
 
 -- the names that statements define, and those at the top of bodies, are texts
 pub record HaveTexts (ps : List PlacedTree) : Type 0 where
-  pub defined : (p : PlacedTree) → Has p ps → is_define p.statement ≡ true → IsText (name_of p)
-  pub parents : (p : PlacedTree) (n : Name) → Has p ps → Has n (top_names (body_of p)) → IsText n
+  pub defined : (p : PlacedTree) → Has p ps → is_define p.statement ≡ true → IsStringBytes (name_of p)
+  pub parents : (p : PlacedTree) (n : Name) → Has p ps → Has n (top_names (body_of p)) → IsStringBytes n

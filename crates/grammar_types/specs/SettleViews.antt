@@ -8,15 +8,11 @@ use Rattle.std.specs.String.{string_bytes}
 use Rattle.tdl_reader.specs.declared.Status.{Status}
 use Rattle.placed_statements.specs.Placings.{PlacedTree}
 use Rattle.placed_statements.specs.Statements.{defines_type}
+pub use Rattle.placed_statements.specs.Names.{with_each}
 use Rattle.type_hierarchy.specs.Decls.{Declared, texts}
 use Rattle.placed_statements.specs.BodyStrings.{strings_of_body}
 use Rattle.grammar_settings.specs.Forms.{Name}
 use Rattle.grammar_types.specs.Typings.{is_heeded, IsRepeatUnder, IsRepeat, body_written, name_written, names_under, has_name, adds_to, top_names, defines_under}
-
--- the names, and those of the others that aren't among them yet
-abbrev pub with_each : List Name → List Name → List Name
-with_each ns [] = ns
-with_each ns (x ∷ xs) = with_each (if has_name ns x then ns else ns ++ x ∷ []) xs
 
 -- the strings of a statement's body, if it is heeded
 abbrev pub strings_written : PlacedTree → List Name

@@ -8,6 +8,7 @@ use Rattle.tdl_reader.specs.declared.Status.{Status}
 use Rattle.tdl_reader.specs.Trees.{TermTree, of_name, of_text, of_coref, of_avm, of_list, of_diff, BodyTree, no_terms, and_term, StatementTree}
 use Rattle.placed_statements.specs.Placings.{PlacedTree}
 use Rattle.placed_statements.specs.BodyStrings.{strings_of_body}
+pub use Rattle.placed_statements.specs.Names.{has_name}
 pub use Rattle.placed_statements.specs.Statements.{is_status, is_heeded, place_of, is_define, is_addendum, name_written, body_written, type_definitions, adds_to, no_statement, statement_at}
 use Rattle.type_hierarchy.specs.declared.decl.TypeFault.{TypeFault}
 use Rattle.type_hierarchy.specs.declared.decl.TypeFault.TheVariants.{Duplicate, Unknown, Cycle, Reserved, TooMany, NoMemory}
@@ -62,9 +63,6 @@ once (x ∷ xs) = x ∷ filter (λ y. not (bytes_eq x y)) (once xs)
 -- the strings of all bodies that are heeded, each once, in order of writing
 abbrev pub strings_in : List PlacedTree → List Name
 strings_in ps = once (flat_map (λ p. strings_of_body (body_written p.statement)) (filter (λ p. is_heeded p.status) ps))
-
-abbrev pub has_name : List Name → Name → Bool
-has_name names n = list_any (bytes_eq n) names
 
 -- a definition under this status whose name an earlier one has
 abbrev pub IsRepeatUnder : Status → List PlacedTree → ℕ → Type 0

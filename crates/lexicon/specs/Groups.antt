@@ -2,6 +2,7 @@
 use Rattle.std.specs.Prelude.{ℕ, ◌≡◌, false, List, [], ◌∷◌, String, Vec, map, if◌then◌else◌, string_bytes}
 use Rattle.std.specs.Global.{Global}
 use Rattle.word_lists.specs.Words.{Word, Each}
+pub use Rattle.word_lists.specs.Words.{words_in}
 use Rattle.lexicon.specs.declared.groups.Group.{Group}
 use Rattle.lexicon.specs.Entries.{EntryTree, same_words, with_words, last_word}
 
@@ -9,9 +10,6 @@ use Rattle.lexicon.specs.Entries.{EntryTree, same_words, with_words, last_word}
 pub record GroupTree : Type 0 where
   pub words : List Word
   pub entries : List ℕ
-
-abbrev pub words_in : Vec (String Global) Global → List Word
-words_in v = map string_bytes v.items
 
 abbrev pub group_of : Group → GroupTree
 group_of g = record { words = words_in g.words; entries = g.entries.items }

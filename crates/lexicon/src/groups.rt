@@ -65,7 +65,8 @@ fn note_entry(
         add_entry(alloc, groups, entry.number, &entry.words)?;
         return Ok(());
     }
-    let mut groups = Vec::new(alloc);
+    // Room for one: most words are the last of one group alone.
+    let mut groups = Vec::with_capacity(alloc, 1)?;
     add_entry(alloc, &mut groups, entry.number, &entry.words)?;
     let key = String::from_str(alloc, last)?;
     index.insert(key, groups)?;

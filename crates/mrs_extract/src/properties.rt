@@ -131,7 +131,7 @@ impl Spread {
         ensures told { OnOk result (map property_of self.new.found.items ++ properties_of graph.now types.now (paths_of paths.now) (pending graph.now (paths_of paths.now) (length graph.now.types) (numbers_of self.new.path.items) (reverse self.new.waiting.items))
             ≡ map property_of self.old.found.items ++ properties_of graph.now types.now (paths_of paths.now) (pending graph.now (paths_of paths.now) (length graph.now.types) (numbers_of self.old.path.items) (next ∷ reverse self.old.waiting.items))) }
     {
-        let _nodes = graph.nodes();
+        graph.laws();
         let to = next.arc.to;
         self.path.truncate(next.depth);
         self.path.push(next.arc.feat)?;
@@ -165,7 +165,7 @@ pub(crate) fn properties(
     ensures order { IfOk result (λ v. Rise (map (λ q. q.name) (map property_of v.items))) }
     ensures props { IfOk result (λ v. (q : Property) → Contains (map property_of v.items) q ↔ IsPropertyAt graph.now types.now (paths_of paths.now) n.0 q.name q.value) }
 {
-    let _nodes = graph.nodes();
+    graph.laws();
     let mut spread = Spread {
         path: Vec::new(alloc),
         waiting: Vec::new(alloc),

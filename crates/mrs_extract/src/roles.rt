@@ -148,7 +148,7 @@ fn roles_by_arc(
     ensures nodes { OnOk result (numbers.new.nodes ≡ all_noted numbers.old.nodes (role_nodes graph.now types.now (paths_of paths.now) at.0)) }
     ensures each { IfOk result (λ v. AllZip (IsArgumentAt graph.now types.now (paths_of paths.now) numbers.new.nodes) (role_arcs graph.now (paths_of paths.now) at.0) (map argument_of v.items)) }
 {
-    let _nodes = graph.nodes();
+    graph.laws();
     let arcs = graph.arcs(at);
     let mut roles = Vec::new(alloc);
     for k in 0..arcs.len() {
@@ -184,7 +184,7 @@ pub(crate) fn roles_at(
     ensures nodes { OnOk result (numbers.new.nodes ≡ all_noted numbers.old.nodes (role_nodes graph.now types.now (paths_of paths.now) at.0)) }
     ensures are { IfOk result (λ v. AreRolesAt graph.now types.now (paths_of paths.now) numbers.new.nodes at.0 (map argument_of v.items)) }
 {
-    let _nodes = graph.nodes();
+    graph.laws();
     let roles = roles_by_arc(alloc, graph, types, paths, numbers, at)?;
     let roles = in_order(roles)?;
     Ok(roles)

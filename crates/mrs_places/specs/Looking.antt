@@ -1,6 +1,7 @@
 -- Where the parts of a structure's MRS are looked for, and what is missing first.
 use Rattle.std.specs.Prelude.{ℕ, ◌≡◌, ◌≢◌, ◌==◌, Bool, true, false, Option, Some, None, Result, Ok, Err, List, [], ◌∷◌, ◌++◌, map}
-use Rattle.fs_graph.specs.GraphMap.{GraphMap, type_at, arcs_at, arc_to}
+pub use Rattle.fs_graph.specs.GraphMap.{arc_named as arc_by}
+use Rattle.fs_graph.specs.GraphMap.{GraphMap, type_at}
 use Rattle.type_hierarchy.specs.Table.{TypeTable, is_below}
 use Rattle.mrs_places.specs.Paths.{Feature, Paths}
 
@@ -18,10 +19,6 @@ pub record Place : Type 0 where
   pub path : NamedPath
 
 -- the end of an arc, where the grammar has the feature and the node the arc
-abbrev pub arc_by : GraphMap → ℕ → Option ℕ → Option ℕ
-arc_by g n None = None
-arc_by g n (Some f) = arc_to (arcs_at g n) f
-
 abbrev pub step : GraphMap → ℕ → Feature → Option ℕ
 step g n f = arc_by g n f.number
 

@@ -31,7 +31,7 @@ fn mrs_at(alloc: Global, graph: &Graph, paths: &MrsPaths) -> Result<Node, NoMrs>
     ensures told { Tells (λ m. mrs_place (paths_of paths.now) m.0) (IsAt graph.now root (paths_of paths.now).mrs_path) result }
     ensures inside { IfOk result (λ m. m.0 < length graph.now.types) }
 {
-    let _nodes = graph.nodes();
+    graph.laws();
     match follow(graph, Node(0), &paths.mrs_path) {
         Some(m) => Ok(m),
         None => Err(missing_after(alloc, &[], &paths.mrs_path)),

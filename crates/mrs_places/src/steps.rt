@@ -24,7 +24,7 @@ pub fn step(graph: &Graph, n: Node, feat: &MrsFeat) -> Option<Node>
     ensures at { option_map (λ m. m.0) result ≡ step graph.now n.0 (feature_of feat.now) }
     ensures inside { IfSome result (λ m. m.0 < length graph.now.types) }
 {
-    let _nodes = graph.nodes();
+    graph.laws();
     match feat.feat {
         None => None,
         Some(feat) => find_arc(graph.arcs(n), feat),

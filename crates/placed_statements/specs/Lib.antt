@@ -1,3 +1,4 @@
 pub mod Placings
 pub mod Statements
 pub mod BodyStrings
+pub mod Names

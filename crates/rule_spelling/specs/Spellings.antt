@@ -1,16 +1,11 @@
 -- The spelling that lexical rules have in their definitions (DELPH-IN TDL).
-use Rattle.std.specs.Prelude.{◌&&◌, Bool, true, false, List, [], map, filter, Option, None, Some, Vec, String, string_bytes}
-use Rattle.std.specs.Global.{Global}
+use Rattle.std.specs.Prelude.{◌&&◌, Bool, true, false, List, [], map, filter, Option, None, Some}
 use Rattle.tdl_reader.specs.declared.Status.TheVariants.{LexRule}
 use Rattle.tdl_reader.specs.Trees.{StatementTree, defines, AffixTree, GroupTree as WrittenGroup, SignTree as WrittenSign, one_char, one_of}
 use Rattle.placed_statements.specs.Placings.{PlacedTree}
 use Rattle.placed_statements.specs.Statements.{defines_instance, is_status}
-use Rattle.word_lists.specs.Words.{Word}
+pub use Rattle.grammar_settings.specs.SettingsViews.{names_in}
 use Rattle.spelling_rules.specs.Trees.{SignTree, letter, variable, GroupTree, RuleTree}
-
--- the names of a list of texts
-abbrev pub names_in : Vec (String Global) Global → List Word
-names_in v = map string_bytes v.items
 
 abbrev pub sign_written : WrittenSign → SignTree
 sign_written (one_char c) = letter c

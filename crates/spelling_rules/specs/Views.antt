@@ -1,7 +1,7 @@
 -- What contracts see of spelling rules.
 use Rattle.std.specs.Prelude.{ℕ, List, Vec, String, map, string_bytes}
 use Rattle.std.specs.Global.{Global}
-use Rattle.word_lists.specs.Words.{Word}
+pub use Rattle.word_lists.specs.Words.{words_in}
 use Rattle.spelling_rules.specs.declared.rules.SpellSign.{SpellSign}
 use Rattle.spelling_rules.specs.declared.rules.SpellSign.TheVariants.{Char, Set}
 use Rattle.spelling_rules.specs.declared.rules.SpellGroup.{SpellGroup}
@@ -26,10 +26,6 @@ rule_of r = record { suffix = r.suffix; groups = map group_of r.groups.items }
 
 abbrev pub line_of : Irregular → LineTree
 line_of l = record { rule = l.rule; stem = string_bytes l.stem; form = string_bytes l.form }
-
--- the words of a list of texts
-abbrev pub words_in : Vec (String Global) Global → List Word
-words_in v = map string_bytes v.items
 
 abbrev pub letters_in : Vec ℕ Global → List ℕ
 letters_in v = v.items

@@ -12,7 +12,7 @@ use std::alloc::Global;
 fn lowered(alloc: Global, text: &str) -> Result<String, NoMemory>
     ensures { IfOk result (λ v. string_bytes v ≡ encode_utf8_all (lower (chars text.now))) }
 {
-    let mut out = String::new(alloc);
+    let mut out = String::with_capacity(alloc, text.len())?;
     let mut rest = text;
     while let Some((c, after)) = first(rest) {
         out.push(c.to_ascii_lowercase())?;
@@ -25,7 +25,7 @@ fn lowered(alloc: Global, text: &str) -> Result<String, NoMemory>
 fn unescaped(alloc: Global, text: &str) -> Result<String, NoMemory>
     ensures { IfOk result (λ v. string_bytes v ≡ encode_utf8_all (unescaped false (chars text.now))) }
 {
-    let mut out = String::new(alloc);
+    let mut out = String::with_capacity(alloc, text.len())?;
     let mut escaped = false;
     let mut rest = text;
     while let Some((c, after)) = first(rest) {

@@ -3,6 +3,7 @@ use Rattle.std.specs.Prelude.{ℕ, Bool, true, false, not, ◌==◌, ◌&&◌, �
 use Rattle.std.specs.Option.{unwrap_or}
 use Rattle.std.specs.Char.{is_whitespace}
 use Rattle.caseless.specs.Caseless.{default_case_fold}
+use Rattle.tdl_lexer.specs.Spelling.{after_first}
 use Rattle.tdl_reader.specs.Trees.{SetTree, SignTree, one_char, one_of, GroupTree}
 
 -- the one character that a character folds to, where it is one
@@ -94,13 +95,9 @@ but_last [] = []
 but_last (c ∷ []) = []
 but_last (c ∷ d ∷ cs) = c ∷ but_last (d ∷ cs)
 
-abbrev pub but_first : List ℕ → List ℕ
-but_first [] = []
-but_first (c ∷ cs) = cs
-
 -- what stands between a group's parentheses
 abbrev pub inside : List ℕ → List ℕ
-inside cs = but_last (but_first cs)
+inside cs = but_last (after_first cs)
 
 -- A group of a spelling rule: two runs without white space, of signs whose letter sets are defined, the variables of the second among those of the first.
 abbrev pub group_signs : List SetTree → List ℕ → Option GroupTree

@@ -1,15 +1,12 @@
 -- The characters of a text that the code borrows.
 use Rattle.std.specs.Prelude.{ℕ, List, map, Vec}
 use Rattle.std.specs.declared.alloc.Global.{Global}
-use Rattle.std.specs.Str.{chars}
 use denote.Ref.{Bor}
+pub use Rattle.tdl_lexer.specs.Scan.{chars_of}
 use Rattle.tdl_reader.specs.declared.LetterSet.{LetterSet}
 use Rattle.tdl_reader.specs.declared.Sign.{Sign}
 use Rattle.tdl_reader.specs.Trees.{SetTree, SignTree}
 use Rattle.tdl_reader.specs.Views.{set_of, sign_of}
-
-abbrev pub chars_of : Bor (List ℕ) → List ℕ
-chars_of text = chars text.now
 
 abbrev pub set_at : Bor LetterSet → SetTree
 set_at s = set_of s.now

@@ -4,7 +4,8 @@ ghost use Rattle.std.specs.Prelude.{◌≡◌, ◌+◌, ℕ, List, [], ◌∷◌
 ghost use Rattle.std.specs.Option.{option_map};
 ghost use Rattle.std.specs.Str.{chars};
 ghost use Rattle.std.specs.Char.{len_utf8};
-ghost use Rattle.tdl_reader.specs.GroupScan.{only, fold, fold_all, after_white, run, after_run, is_nothing, set_named, sign_at, signs_after, signs, occurs, all_occur, but_last, but_first, inside, read_group, after_word, ends_with, is_closing, members_in, set_with, set_in, read_letters};
+ghost use Rattle.tdl_reader.specs.GroupScan.{only, fold, fold_all, after_white, run, after_run, is_nothing, set_named, sign_at, signs_after, signs, occurs, all_occur, but_last, inside, read_group, after_word, ends_with, is_closing, members_in, set_with, set_in, read_letters};
+ghost use Rattle.tdl_lexer.specs.Spelling.{after_first};
 ghost use Rattle.tdl_reader.specs.Texts.{chars_of, set_at, signs_in, members_at};
 ghost use Rattle.tdl_reader.specs.Trees.{one_of};
 ghost use Rattle.tdl_reader.specs.Views.{set_of, sign_of, group_in};
@@ -242,7 +243,7 @@ fn but_last(text: &str) -> &str
 
 /// The text without its first character.
 fn but_first(text: &str) -> &str
-    ensures { chars result.now ≡ but_first (chars text.now) }
+    ensures { chars result.now ≡ after_first (chars text.now) }
 {
     match first(text) {
         Some((_, rest)) => rest,

@@ -8,7 +8,8 @@ ghost use Rattle.tdl_reader.specs.States.{tok_in, IsOfText, frame_of, stack_of, 
 ghost use Rattle.tdl_reader.specs.Views.{term_of, attr_of, body_in};
 
 use crate::terms::{
-    Frame, Point, Seen, avm, closed, diff, list, open_end, tail, term, unexpected, value_in, whole,
+    Frame, Point, Seen, add, avm, closed, diff, list, open_end, tail, term, unexpected, value_in,
+    whole,
 };
 use crate::{Attr, Body, ReadFault, Term};
 use std::alloc::Global;
@@ -19,7 +20,7 @@ fn with_attr(mut attrs: Vec<Attr>, path: Vec<String>, body: Body) -> Result<Vec<
     ensures found { IfOk result (λ v. map attr_of v.items ≡ map attr_of attrs.items ++ record { path = map string_bytes path.items; body = body_in body } ∷ []) }
     ensures fault { IfErr result (λ e. e ≡ ReadFault.NoMemory) }
 {
-    attrs.push(Attr { path, body })?;
+    add(&mut attrs, 1, Attr { path, body })?;
     Ok(attrs)
 }
 
@@ -28,7 +29,7 @@ fn with_item(mut items: Vec<Body>, body: Body) -> Result<Vec<Body>, ReadFault>
     ensures found { IfOk result (λ v. map body_in v.items ≡ map body_in items.items ++ body_in body ∷ []) }
     ensures fault { IfErr result (λ e. e ≡ ReadFault.NoMemory) }
 {
-    items.push(body)?;
+    add(&mut items, 1, body)?;
     Ok(items)
 }
 
@@ -43,7 +44,7 @@ fn with_feature(
     ensures found { IfOk result (λ v. map string_bytes v.items ≡ map string_bytes path.items ++ value (tok_in seen.entry) ∷ []) }
     ensures fault { IfErr result (λ e. e ≡ ReadFault.NoMemory) }
 {
-    path.push(value_in(alloc, seen)?)?;
+    add(&mut path, 1, value_in(alloc, seen)?)?;
     Ok(path)
 }
 
@@ -189,7 +190,7 @@ fn after_term(
     ensures fault { IfErr result (λ e. IsStop (point_step (stack_of frames.old.items) (got_term (map term_of terms.items) (term_of last)) seen.entry.token.kind (tok_in seen.entry)) seen.entry.token.from e) }
 {
     if seen.token.kind == TokenKind::And {
-        terms.push(last)?;
+        add(&mut terms, 2, last)?;
         return Ok(Point::WantTerm { terms });
     }
     after_body(alloc, frames, whole(terms, last)?, seen)

@@ -1,6 +1,6 @@
 //! What a body holds while it is read, and its terms.
 
-ghost use Rattle.std.specs.Prelude.{◌≡◌, List, map, IfOk, IfErr, IsTrue, string_bytes};
+ghost use Rattle.std.specs.Prelude.{◌≡◌, List, [], ◌∷◌, ◌++◌, map, IfOk, IfErr, OnOk, IsTrue, string_bytes};
 ghost use Rattle.tdl_lexer.specs.Spelling.{has_value};
 ghost use Rattle.tdl_reader.specs.Toks.{value};
 ghost use Rattle.tdl_reader.specs.Trees.{body_of, attrs_of, items_of, of_avm, of_list, of_diff, of_name, of_text, of_coref, closed, tail_of, open_end};
@@ -185,12 +185,34 @@ pub(crate) fn tail(body: Body) -> Rest
     Rest::Tail { body }
 }
 
+// Room for so many items in a list that has none.
+fn reserve<T>(list: &mut Vec<T>, count: usize) -> Result<(), ReadFault>
+    ensures found { OnOk result (list.new.items ≡ list.old.items) }
+    ensures fault { IfErr result (λ e. e ≡ ReadFault.NoMemory) }
+{
+    if list.is_empty() {
+        list.reserve_exact(count)?;
+    }
+    Ok(())
+}
+
+/// Adds an item to a list. The first one takes room for so many and no more: most lists of a grammar have one or two items,
+/// and they are kept as long as the statement is.
+pub(crate) fn add<T: Drop>(list: &mut Vec<T>, count: usize, item: T) -> Result<(), ReadFault>
+    ensures found { OnOk result (list.new.items ≡ list.old.items ++ item ∷ []) }
+    ensures fault { IfErr result (λ e. e ≡ ReadFault.NoMemory) }
+{
+    reserve(list, count)?;
+    list.push(item)?;
+    Ok(())
+}
+
 /// The body of these terms and a last one.
 pub(crate) fn whole(mut terms: Vec<Term>, last: Term) -> Result<Body, ReadFault>
     ensures found { IfOk result (λ b. body_in b ≡ body_of (map term_of terms.items) (term_of last)) }
     ensures fault { IfErr result (λ e. e ≡ ReadFault.NoMemory) }
 {
-    terms.push(last)?;
+    add(&mut terms, 1, last)?;
     Ok(Body { terms })
 }
 

@@ -49,6 +49,10 @@ pub has_bit-past : (a : List ℕ) (x : ℕ) → 64 * length a ≤ x → has_bit 
 has_bit-past a x h =
     ap (λ w. bit_at w (x % 64) == 1) (get_or_past a (x / 64) 0 (omega arith)) ∙ ap (λ w. w == 1) (bit_at-zero (x % 64))
 
+pub none_in_empty : (a : List ℕ) (k x : ℕ) → slice_index a k ≡ 0 → k ≡ x / 64 → has_bit a x ≡ false
+none_in_empty a k x e same =
+    ap (λ w. bit_at w (x % 64) == 1) (subst (λ j. slice_index a j ≡ 0) same e) ∙ ap (λ w. w == 1) (bit_at-zero (x % 64))
+
 -- the bit of a word: at 64 * k + i
 pub has_bit-at : (a : List ℕ) (k i : ℕ) → i < 64 → has_bit a (64 * k + i) ≡ (bit_at (slice_index a k) i == 1)
 has_bit-at a k i h =

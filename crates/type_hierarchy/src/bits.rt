@@ -97,6 +97,26 @@ pub fn is_word_subset(a: &[u64], b: &[u64], word: u32) -> bool
     true
 }
 
+// The number at which the first word from this one on begins that has a bit, and `count` where there is none.
+fn past_empty(words: &[u64], word: usize, count: u32) -> u32
+    requires within { count ≤ 64 * length words.now }
+    requires not_past { 64 * word < count + 64 }
+    ensures low { (n : ℕ) → n ≤ 64 * word → n ≤ count → n ≤ result }
+    ensures high { result ≤ count }
+    ensures none_before { (x : ℕ) → 64 * word ≤ x → x < result → has_bit words.now x ≡ false }
+{
+    let end = word_count(count);
+    let mut i = word;
+    while i < end {
+        let left = words[i];
+        if left != 0 {
+            return (64 * i) as u32;
+        }
+        i += 1;
+    }
+    count
+}
+
 /// The first member from `from` on that is below `count`, and `count` where there is none.
 pub fn next(words: &[u64], from: u32, count: u32) -> u32
     requires rising { from ≤ count }
@@ -112,7 +132,7 @@ pub fn next(words: &[u64], from: u32, count: u32) -> u32
         if left != 0 {
             return at.saturating_add(left.trailing_zeros()).min(count);
         }
-        at = at.saturating_add(64 - at % 64).min(count);
+        at = past_empty(words, (at / 64) as usize + 1, count);
     }
     count
 }

@@ -1,5 +1,5 @@
 -- Words as their bytes, lists of words in byte order, and lists that are noted for words.
-use Rattle.std.specs.Prelude.{ℕ, ◌≡◌, ◌⊎◌, List, [], ◌∷◌, String, Vec, string_bytes}
+use Rattle.std.specs.Prelude.{ℕ, ◌≡◌, ◌⊎◌, List, [], ◌∷◌, String, Vec, map, string_bytes}
 use Rattle.std.specs.Global.{Global}
 use Rattle.std.specs.declared.cmp.Ordering.{Ordering}
 use Rattle.std.specs.declared.cmp.Ordering.TheVariants.{Less, Equal, Greater}
@@ -12,6 +12,10 @@ use Rattle.std.specs.Str.{bytes_eq}
 -- a word is the list of its bytes
 abbrev pub Word : Type 0
 Word = List ℕ
+
+-- the words of a list of texts
+abbrev pub words_in : Vec (String Global) Global → List Word
+words_in v = map string_bytes v.items
 
 -- x is in a list
 abbrev pub Has : {X : Type 0} → X → List X → Type 0

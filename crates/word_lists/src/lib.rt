@@ -34,7 +34,7 @@ impl<T: Drop> From<AllocFailed<T>> for NoMemory {
 pub fn copied(alloc: Global, words: &[String]) -> Result<Vec<String>, NoMemory>
     ensures { IfOk result (λ v. map string_bytes v.items ≡ map string_bytes words.now) }
 {
-    let mut out = Vec::new(alloc);
+    let mut out = Vec::with_capacity(alloc, words.len())?;
     for word in words {
         out.push(word.clone()?)?;
     }

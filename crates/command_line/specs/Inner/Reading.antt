@@ -5,7 +5,7 @@ use Rattle.command_line.specs.declared.reading.Places.{Places}
 use Rattle.command_line.specs.declared.reading.Places.TheVariants.{NoPlace, OneName, TwoNames, TwoNumbers}
 use Rattle.command_line.specs.declared.tasks.CommandName.{CommandName}
 use Rattle.command_line.specs.declared.tasks.CommandName.TheVariants as named
-use Rattle.command_line.specs.Words.{OptionName, Workers, Edges, Readings, Lexical, Unary, Empty, Settings, Mrs, Lattice, Value, number, name, Task, parse, generate, types, expand, check, self_test, scope, batch, transfer, Form, help, version, is_name, word_of, number_of}
+use Rattle.command_line.specs.Words.{OptionName, Workers, Edges, Readings, Lexical, Unary, Empty, Settings, Mrs, Lattice, Value, in_range, name, Task, parse, generate, types, expand, check, self_test, scope, batch, transfer, Form, help, version, is_name, word_of, number_of}
 
 -- a word of a command line after the command's: that of an option, or a name
 pub data IsWord : List ℕ → Type 0 where
@@ -21,7 +21,7 @@ abbrev pub places_in : Places → List Value
 places_in NoPlace = []
 places_in OneName = name ∷ []
 places_in TwoNames = name ∷ name ∷ []
-places_in TwoNumbers = number 0 18446744073709551615 ∷ number 1 1000 ∷ []
+places_in TwoNumbers = in_range 0 18446744073709551615 ∷ in_range 1 1000 ∷ []
 
 -- the positional words, by the places that there are
 abbrev pub names_in : Places → List ℕ → List ℕ → List (List ℕ)

@@ -5,11 +5,11 @@ use Rattle.clap.specs.declared.builder.action.ArgAction.{ArgAction}
 use Rattle.clap.specs.declared.builder.action.ArgAction.TheVariants.{SetTrue}
 use Rattle.clap.specs.declared.builder.value_parser.ValueParser.{ValueParser}
 use Rattle.clap.specs.declared.builder.value_parser.ValueParser.TheVariants as vp
-use Rattle.command_line.specs.Words.{OptionName, Workers, Edges, Readings, Lexical, Unary, Empty, Settings, Mrs, Lattice, Value, number, nothing, option_id, value_of}
+use Rattle.command_line.specs.Words.{OptionName, Workers, Edges, Readings, Lexical, Unary, Empty, Settings, Mrs, Lattice, Value, in_range, nothing, option_id, value_of}
 
 -- what reads such a value, where `clap` isn't to take any text
 abbrev pub parser_by : Value → Option ValueParser
-parser_by (number least greatest) = Some (vp.Unsigned least greatest)
+parser_by (in_range least greatest) = Some (vp.Unsigned least greatest)
 parser_by value = None
 
 abbrev pub action_by : Value → Option ArgAction

@@ -13,7 +13,7 @@ loop-turn-init c =
     }
 
 pub step_at-requires-clause-inside : goal.step_at-requires-clause-inside
-step_at-requires-clause-inside c = reached_in c.args.graph.now c.loop-turn.node.0 c.loop-turn.turn c.nodes-nodes.ensures.graph c.loop-turn.invariant.reached
+step_at-requires-clause-inside c = reached_in c.args.graph.now c.loop-turn.node.0 c.loop-turn.turn c.laws.ensures c.loop-turn.invariant.reached
 
 pub returns-in-End : goal.returns-in-End
 returns-in-End c = passed_all c.args.types.now (names_of c.args.names.now) c.args.graph.now c.args.start.0 c.loop-turn.node.0 _ c.in-End.ensures c.loop-turn.invariant.passed
@@ -25,7 +25,7 @@ pub loop-turn-preserved : goal.loop-turn-preserved
 loop-turn-preserved c =
     let s = c.in-Item.ensures in
     record {
-      reached = reached_by c.args.graph.now c.loop-turn.node.0 c.in-Item.rest.0 c.loop-turn.turn _ c.nodes-nodes.ensures.graph c.loop-turn.invariant.reached s.3;
+      reached = reached_by c.args.graph.now c.loop-turn.node.0 c.in-Item.rest.0 c.loop-turn.turn _ c.laws.ensures c.loop-turn.invariant.reached s.3;
       passed = passed_cell c.args.types.now (names_of c.args.names.now) c.args.graph.now c.args.start.0 c.loop-turn.node.0 c.in-Item.first.0 c.in-Item.rest.0 _ _ s.0 s.1 s.2 s.3
           (ap (map (λ n. n.0)) c.in_ok-push-in-Item.ensures.items ∙ map-append (λ n. n.0) c.loop-turn.out.items (c.in-Item.first ∷ [])) c.loop-turn.invariant.passed;
     }

@@ -13,7 +13,7 @@ pub words_of-requires-clause-inside : goal.words_of-requires-clause-inside
 words_of-requires-clause-inside c =
     let size = length c.args.graph.now.types in
     subst (λ l. All (λ n. n.0 < size) l) (sym c.deref.ensures.value)
-    (nodes_in c.in-Some.nodes.items size (list_in c.args.types.now (names_of c.args.names.now) c.args.graph.now (map (option_map (λ f. f.0)) c.args.path.now) (map (λ n. n.0) c.in-Some.nodes.items) c.nodes-nodes.ensures.graph (subst (λ o. IsListAt c.args.types.now (names_of c.args.names.now) c.args.graph.now (map (option_map (λ f. f.0)) c.args.path.now) (option_map (λ v. map (λ n. n.0) v.items) o)) c.in-Some.is c.in_ok-nodes.ensures)))
+    (nodes_in c.in-Some.nodes.items size (list_in c.args.types.now (names_of c.args.names.now) c.args.graph.now (map (option_map (λ f. f.0)) c.args.path.now) (map (λ n. n.0) c.in-Some.nodes.items) c.laws.ensures (subst (λ o. IsListAt c.args.types.now (names_of c.args.names.now) c.args.graph.now (map (option_map (λ f. f.0)) c.args.path.now) (option_map (λ v. map (λ n. n.0) v.items) o)) c.in-Some.is c.in_ok-nodes.ensures)))
 
 pub returns-in_default : goal.returns-in_default
 returns-in_default c = λ ws h.

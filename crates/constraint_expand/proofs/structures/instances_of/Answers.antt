@@ -7,7 +7,7 @@ use Rattle.constraint_expand.specs.Statements.{defines_instance}
 use Rattle.constraint_expand.specs.Systems.{instance_claims}
 use Rattle.constraint_expand.specs.Books.{instance_of}
 use Rattle.constraint_expand.specs.declared.books.Instance.{Instance}
-use Rattle.constraint_expand.specs.Shaped.{HaveClaimsIn, IsShaped, HasNoShape, IsFaultyAmongInstances}
+use Rattle.constraint_expand.specs.Shaped.{HaveClaimsIn, IsInstanceBy, HasNoShape, IsFaultyAmongInstances}
 use Rattle.constraint_expand.proofs.FirstLemmas.{at_placed, placed_within, none_first, none_next}
 use Rattle.constraint_expand.proofs.MissingLemmas.{at_exit}
 use Rattle.constraint_expand.proofs.StructureLemmas.{instances_none, instances_next, instance_has, instances_all, faulty_here}
@@ -30,7 +30,7 @@ loop-i-init c =
     let w = table_of c.args.words.now in
     let ps = map placed_of c.args.statements.now in
     record {
-      shaped = subst (λ (l : List Instance). AllZip (IsShaped g w) (filter defines_instance (take 0 ps)) (map instance_of l)) (sym c.new-instances.ensures.items) (instances_none g w ps);
+      shaped = subst (λ (l : List Instance). AllZip (IsInstanceBy g w) (filter defines_instance (take 0 ps)) (map instance_of l)) (sym c.new-instances.ensures.items) (instances_none g w ps);
       none = none_first defines_instance ps (HasNoShape g w);
     }
 

@@ -9,7 +9,7 @@ use Rattle.grammar_commands.proofs.NamedLines.{lines-named}
 use Rattle.grammar_commands.proofs.expansion.structure_lines.Goals as goal
 
 pub line_texts-requires : goal.line_texts-requires
-line_texts-requires c = lines-named (count_of c.args.types.now) (length c.args.feats.now) c.args.graph.now c.nodes-nodes.ensures.graph c.requires (lines_of c.in_ok-list.list) c.in_ok-list.ensures
+line_texts-requires c = lines-named (count_of c.args.types.now) (length c.args.feats.now) c.args.graph.now c.laws.ensures c.requires (lines_of c.in_ok-list.list) c.in_ok-list.ensures
 
 pub returns : goal.returns
 returns c =

@@ -6,5 +6,5 @@ use Rattle.grammar_shapes.proofs.sketches.type_along.Goals as goal
 
 pub ty-requires : goal.ty-requires
 ty-requires c =
-    let is = c.nodes.ensures.graph in
+    let is = c.laws.ensures in
     (walk_ends (table_of c.args.graph.now) is.numbered.table 0 c.in-Some.node.0 (path_of c.args.path.now) is.numbered.filled (sym c.in-Some.ensures)).0

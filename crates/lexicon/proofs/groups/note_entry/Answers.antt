@@ -23,10 +23,10 @@ returns-in-Some c = λ done h n.
 pub returns : goal.returns
 returns c = λ done h n.
     note_step (λ m. get_by_text c.args.index.now m) (λ m. get_by_text c.insert.new.self m) c.last_of-last.result.now (string_bytes c.in_ok-key.key)
-    c.new-groups.result c.add_entry-2.new.groups (entry_of c.args.entry.now) done n c.in_ok-key.ensures.ok
+    c.in_ok-groups.groups c.add_entry-2.new.groups (entry_of c.args.entry.now) done n c.in_ok-key.ensures.ok
     (c.last_of-last.ensures ∙ ap (λ l. last_word (map string_bytes l)) c.deref.ensures.value)
-    (c.new-groups.ensures.items ∙ ap (λ o. option_map_or (λ q. q.items) o []) c.in_default.ensures.value)
-    (c.in_ok-add_entry-2.ensures ∙ ap (λ l. with_entry c.args.entry.now.number (map string_bytes l) (map group_of c.new-groups.result.items)) c.deref-2.ensures.value)
+    (c.in_ok-groups.ensures.items ∙ ap (λ o. option_map_or (λ q. q.items) o []) c.in_default.ensures.value)
+    (c.in_ok-add_entry-2.ensures ∙ ap (λ l. with_entry c.args.entry.now.number (map string_bytes l) (map group_of c.in_ok-groups.groups.items)) c.deref-2.ensures.value)
     (subst (λ m. get_by_text c.insert.new.self n ≡ cond (bytes_eq (string_bytes c.in_ok-key.key) n) (Some c.add_entry-2.new.groups) (get_by_text m n)) c.get_mut.follows.holds-at-none
     (hash_map_updates_text (string_bytes c.in_ok-key.key) c.get_mut.follows.lender-at-none c.insert.new.self _ c.in_ok-insert.ensures.updates n))
     (h n)

@@ -9,7 +9,7 @@ pub loop-next-init : goal.loop-next-init
 loop-next-init c =
     let g = c.args.graph.now in
     let p = paths_of c.args.paths.now in
-    let is = c.nodes-nodes.ensures.graph in
+    let is = c.laws.ensures in
     let count = sym (count_map _ c.args.paths.now.feats.items) in
     record {
       waiting = begin_waiting g is p c.args.types.now c.args.n.0 c.requires.inside c.requires.of _ count _ c.new.ensures.items _ _ c.new-2.ensures.items c.in_ok-wait.ensures;
@@ -21,7 +21,7 @@ in_order-requires c =
     let g = c.args.graph.now in
     let p = paths_of c.args.paths.now in
     let none : c.loop-next.spread.waiting.items ≡ [] = search rules in
-    found_differ g c.args.types.now p c.nodes-nodes.ensures.graph c.requires.paths c.requires.of c.args.n.0 c.requires.inside _
+    found_differ g c.args.types.now p c.laws.ensures c.requires.paths c.requires.of c.args.n.0 c.requires.inside _
     (all_found g c.args.types.now p c.args.n.0 _ c.loop-next.spread.waiting.items (map property_of c.loop-next.spread.found.items) none c.loop-next.invariant.told)
 
 pub returns-clause-props : goal.returns-clause-props
@@ -29,5 +29,5 @@ returns-clause-props c =
     let g = c.args.graph.now in
     let p = paths_of c.args.paths.now in
     let none : c.loop-next.spread.waiting.items ≡ [] = search rules in
-    told_exactly g c.args.types.now p c.nodes-nodes.ensures.graph c.args.n.0 c.requires.inside (map property_of c.loop-next.spread.found.items) _
+    told_exactly g c.args.types.now p c.laws.ensures c.args.n.0 c.requires.inside (map property_of c.loop-next.spread.found.items) _
     (all_found g c.args.types.now p c.args.n.0 _ c.loop-next.spread.waiting.items (map property_of c.loop-next.spread.found.items) none c.loop-next.invariant.told) c.in_ok-props.ensures.same

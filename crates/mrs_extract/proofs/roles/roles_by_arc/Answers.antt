@@ -5,7 +5,7 @@ use Rattle.mrs_extract.proofs.Numbering.{nodes_next, roles_next}
 use Rattle.mrs_extract.proofs.roles.roles_by_arc.Goals as goal
 
 pub put_role-requires-clause-to_in : goal.put_role-requires-clause-to_in
-put_role-requires-clause-to_in c = arc_to_in _ c.nodes-nodes.ensures.graph _ _ _ _ c.requires.inside c.arcs-arcs.ensures c.loop-k-test.true
+put_role-requires-clause-to_in c = arc_to_in _ c.laws.ensures _ _ _ _ c.requires.inside c.arcs-arcs.ensures c.loop-k-test.true
 
 pub loop-k-preserved : goal.loop-k-preserved
 loop-k-preserved c =

@@ -1,4 +1,4 @@
-use Rattle.std.proofs.Common.{◌≡◌, ◌/◌, true, refl, subst, inl, inr, arith}
+use Rattle.std.proofs.Common.{◌≡◌, ◌+◌, ◌*◌, ◌/◌, true, refl, subst, inl, inr, arith}
 use Rattle.std.proofs.lemmas.Bool.{cases_lt}
 use Rattle.type_hierarchy.specs.Bits.{has_bit}
 use Rattle.type_hierarchy.proofs.BitLemmas.{next_in_word, none_in_word}
@@ -23,13 +23,21 @@ returns-then-left-ne0-clause-member c = λ less.
 
 pub loop-at-preserved : goal.loop-at-preserved
 loop-at-preserved c =
-    let s = c.saturating_add-in-loop-at.ensures in
-    let m = c.min-at.ensures in
+    let p = c.past_empty-at.ensures in
+    let l = p.low (c.loop-at.at + 1) (omega arith) (omega arith) in
     record {
-      low = omega (arith, c.loop-at.invariant.low);
-      high = omega arith;
+      low = omega (arith, c.loop-at.invariant.low, l);
+      high = p.high;
       none_before = λ x low high. elim (cases_lt x c.loop-at.at) [
         | inl before ↦ c.loop-at.invariant.none_before x low before
-        | inr after ↦ none_in_word c.args.words.now c.loop-at.at _ refl c.if-left-ne0.false x after (omega arith)
+        | inr after ↦ elim (cases_lt x (64 * (c.loop-at.at / 64 + 1))) [
+          | inl here ↦ none_in_word c.args.words.now c.loop-at.at _ refl c.if-left-ne0.false x after (omega arith)
+          | inr past ↦ p.none_before x (omega arith) high
+        ]
       ];
     }
+
+pub loop-at-smaller : goal.loop-at-smaller
+loop-at-smaller c =
+    let l = c.past_empty-at.ensures.low (c.loop-at.at + 1) (omega arith) (omega arith) in
+    omega (arith, l)

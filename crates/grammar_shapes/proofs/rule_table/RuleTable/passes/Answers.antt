@@ -37,7 +37,7 @@ sketches_meet-requires-clause-a_in c =
     let at = got rules c.args.rule r l c.index.ensures in
     let h = c.requires.place r (subst (λ v. slice_get v.rules c.args.rule ≡ Some r) c.self.view_is at) in
     let e = sketch_is checks rules c.self.inside.sketches.items c.self.invariant.sketched c.args.rule r at c.index-2.result.now c.index-2.ensures l c.args.place h c.index-sketch.result.now c.index-sketch.ensures in
-    let t = types_below c.self.inside.system.now rules c.args.rule r at c.self.invariant.rules_in c.nodes.ensures.graph (slice_index_or (places_of r) c.args.place []) checks c.index-sketch.result.now.items e in
+    let t = types_below c.self.inside.system.now rules c.args.rule r at c.self.invariant.rules_in c.laws.ensures (slice_index_or (places_of r) c.args.place []) checks c.index-sketch.result.now.items e in
     subst (λ os. All (λ o. IfSome o (λ t. t.0 < count_of c.types.result.now)) os) (sym c.deref.ensures.value)
     (subst (λ n. All (λ o. IfSome o (λ t. t.0 < count_of n)) c.index-sketch.result.now.items) (sym c.types.ensures) t)
 

@@ -38,7 +38,7 @@ passes-requires-clause-types_in _ c =
     let part = c.in-Some.part.now in
     let at = map_get (λ p. p.shape) (parts_of c.args.parts.now) (c.args.parts.now.count - 1) part (sym c.in-Some.ensures) in
     let is = rule_at (BelongsIn g (cut_of c.args.self.now.restrictors) checks) (shapes_of c.args.parts.now) (c.args.parts.now.count - 1) part.shape at c.requires.shapes in
-    let graph = subst (λ p. IsGraph p.graph) c.deref-daughter.ensures c.nodes.ensures.graph in
+    let graph = subst (λ p. IsGraph p.graph) c.deref-daughter.ensures c.laws.ensures in
     subst (λ os. All (λ o. IfSome o (λ t. t.0 < count_of g.types)) os) (sym (c.deref.ensures.value ∙ ap (λ p. p.sketch.items) c.deref-daughter.ensures))
     (types_in (count_of g.types) (length g.introducers) (graph_of part.shape) graph is.short.graph_in checks _ is.sketched)
 

@@ -42,7 +42,7 @@ returns-in-Ok-Some-clause-shape c =
     subst (λ ps. IsTrimmed (system_of g) (source_of ps) [] cut (Some (reader_of c.in-Ok-Some.graph))) c.in-Ok.ensures
     (subst (λ g. IsTrimmed (system_of g) (source_of c.in-Ok.alone) [] cut (Some (reader_of c.in-Ok-Some.graph))) c.system-system.ensures made) in
     subst (λ graph. IsAbstract (rules_of c.args.self.now) (Meant (rules_of c.args.self.now) (view (paths_in g) full)) (view (paths_in g) (reader_of graph))) (sym c.in_ok-shape_of-in-Ok-Some.ensures.graph)
-    (leaves_are_made (rules_of c.args.self.now) full (reader_of c.in-Ok-Some.graph) (inside g c.args.full.now (short_where g c.args.full.now c.nodes.ensures.graph c.requires.in_range c.requires.consistent)) (inside g c.in-Ok-Some.graph known) alone)
+    (leaves_are_made (rules_of c.args.self.now) full (reader_of c.in-Ok-Some.graph) (inside g c.args.full.now (short_where g c.args.full.now c.laws.ensures c.requires.in_range c.requires.consistent)) (inside g c.in-Ok-Some.graph known) alone)
 
 pub unreachable-requires : goal.unreachable-requires
 unreachable-requires c =

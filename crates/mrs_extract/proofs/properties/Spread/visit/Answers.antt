@@ -11,7 +11,7 @@ note-requires-clause-path c =
     let p = paths_of c.args.paths.now in
     let e = new_path _ _ _ _ _ c.truncate.ensures.items c.in_ok-push.ensures.items in
     subst (λ fs. All (λ f. f < length c.args.paths.now.feats.items) (numbers_of fs)) (sym c.deref.ensures.value)
-    (still_waiting c.args.graph.now c.nodes-nodes.ensures.graph p _ _ _ c.args.next _ c.requires.waiting e c.args.types.now (sym (count_map _ _)) c.requires.feats_in).path_in
+    (still_waiting c.args.graph.now c.laws.ensures p _ _ _ c.args.next _ c.requires.waiting e c.args.types.now (sym (count_map _ _)) c.requires.feats_in).path_in
 
 pub returns-clause-waiting : goal.returns-clause-waiting
 returns-clause-waiting c =
@@ -19,7 +19,7 @@ returns-clause-waiting c =
     let e = new_path _ _ _ _ _ c.truncate.ensures.items c.in_ok-push.ensures.items in
     let n : vec_len c.push.new.self ≡ length c.push.new.self.items = search rules in
     let deep = c.len.ensures ∙ n ∙ sym (count_numbers c.push.new.self.items) in
-    now_waiting c.args.graph.now c.nodes-nodes.ensures.graph p _ _ _ c.args.next _ c.requires.waiting e _ deep _ c.in_ok-wait.ensures c.args.types.now (sym (count_map _ _)) c.requires.feats_in
+    now_waiting c.args.graph.now c.laws.ensures p _ _ _ c.args.next _ c.requires.waiting e _ deep _ c.in_ok-wait.ensures c.args.types.now (sym (count_map _ _)) c.requires.feats_in
 
 pub returns-clause-fewer : goal.returns-clause-fewer
 returns-clause-fewer c =
@@ -27,7 +27,7 @@ returns-clause-fewer c =
     let e = new_path _ _ _ _ _ c.truncate.ensures.items c.in_ok-push.ensures.items in
     let n : vec_len c.push.new.self ≡ length c.push.new.self.items = search rules in
     let deep = c.len.ensures ∙ n ∙ sym (count_numbers c.push.new.self.items) in
-    now_fewer c.args.graph.now c.nodes-nodes.ensures.graph p _ _ _ c.args.next _ c.requires.waiting e _ deep _ c.in_ok-wait.ensures
+    now_fewer c.args.graph.now c.laws.ensures p _ _ _ c.args.next _ c.requires.waiting e _ deep _ c.in_ok-wait.ensures
 
 pub returns-clause-told : goal.returns-clause-told
 returns-clause-told c =
@@ -35,5 +35,5 @@ returns-clause-told c =
     let e = new_path _ _ _ _ _ c.truncate.ensures.items c.in_ok-push.ensures.items in
     let n : vec_len c.push.new.self ≡ length c.push.new.self.items = search rules in
     let deep = c.len.ensures ∙ n ∙ sym (count_numbers c.push.new.self.items) in
-    now_told c.args.graph.now c.nodes-nodes.ensures.graph p _ _ _ c.args.next _ c.requires.waiting e _ deep _ c.in_ok-wait.ensures c.args.types.now _ _
+    now_told c.args.graph.now c.laws.ensures p _ _ _ c.args.next _ c.requires.waiting e _ deep _ c.in_ok-wait.ensures c.args.types.now _ _
     (subst (λ fs. map property_of c.note.new.found.items ≡ map property_of c.args.self.now.found.items ++ properties_of c.args.graph.now c.args.types.now p (record { path = numbers_of fs; end = c.args.next.arc.to.0 } ∷ [])) c.deref.ensures.value c.in_ok-note.ensures)
