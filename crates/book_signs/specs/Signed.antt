@@ -6,7 +6,7 @@ use Rattle.tdl_reader.specs.declared.Status.TheVariants.{Entry, LexRule, Rule, R
 use Rattle.fs_model.specs.Claims.{Path}
 use Rattle.fs_graph.specs.GraphMap.{GraphMap, reader_of}
 use Rattle.fs_unify.specs.Rules.{Grammar, system_of}
-use Rattle.rule_model.specs.Paths.{paths_up_to}
+pub use Rattle.fs_trim.specs.Cutting.{paths_in}
 use Rattle.fs_model.specs.Sources.{Source}
 use Rattle.rule_model.specs.Views.{view}
 use Rattle.rule_model.specs.Said.{source_said}
@@ -30,10 +30,6 @@ abbrev pub known_of : List (Option ℕ) → List ℕ
 known_of [] = []
 known_of (None ∷ fs) = known_of fs
 known_of (Some f ∷ fs) = f ∷ known_of fs
-
--- each path that may be: of features of the grammar, and no longer than its limit
-abbrev pub paths_in : Grammar → List Path
-paths_in g = paths_up_to (range_with_len 0 (length g.introducers)) g.path_limit
 
 -- the path of an element of the list at a path: a rest for each element before it, and then its first
 abbrev pub element_path : Path → ℕ → ℕ → ℕ → Path

@@ -3,7 +3,8 @@
 ghost use Rattle.std.specs.Prelude.{◌≡◌, ◌<◌, length, Some, IfOk};
 ghost use Rattle.fs_model.specs.Claims.{IsOrder};
 ghost use Rattle.fs_unify.specs.Rules.{system_of};
-ghost use Rattle.fs_trim.specs.Cutting.{cut_of, IsShort};
+ghost use Rattle.fs_unify.specs.Owing.{ListsOwed};
+ghost use Rattle.fs_trim.specs.Cutting.{cut_of, owed_of, IsShort};
 ghost use Rattle.rule_model.specs.Mothers.{daughters_cut, restrictors_cut};
 ghost use Rattle.item_model.specs.Signs.{rule_system};
 ghost use Rattle.book_signs.specs.Signed.{IsSignsOf, facts_of};
@@ -17,7 +18,7 @@ use constraint_expand::Book;
 use fs_graph::Graph;
 use fs_paths::Feat;
 use fs_trim::Cut;
-use fs_unify::TypeSystem;
+use fs_unify::{Owed, TypeSystem};
 use std::alloc::Global;
 use std::marker::Model;
 use word_lists::NoMemory;
@@ -29,6 +30,8 @@ pub struct SignBook<'a> {
     book: &'a Book,
     places: Vec<Vec<Vec<Feat>>>,
     daughters: Cut,
+    // what a mother owes when she has lost them
+    owed: Owed,
     restrictors: Cut,
     kinds: Kinds,
 }
@@ -43,7 +46,7 @@ impl<'a> Model for SignBook<'a> {
 
     ghost view = { λ s. record { book = s.book.now; places = map (λ p. paths_of p.items) s.places.items } };
 
-    ghost invariant = { λ s. AreKept s.book.now (map (λ p. paths_of p.items) s.places.items) (cut_of s.daughters) (cut_of s.restrictors) s.kinds };
+    ghost invariant = { λ s. AreKept s.book.now (map (λ p. paths_of p.items) s.places.items) (cut_of s.daughters) (cut_of s.restrictors) s.owed s.kinds };
 }
 
 impl<'a> SignBook<'a> {
@@ -62,10 +65,14 @@ impl<'a> SignBook<'a> {
             at_root: Vec::new(alloc),
             anywhere: known(alloc, &book.names.restrictors)?,
         };
+        let Ok(owed) = fs_trim::owed(alloc, &book.system, &daughters) else {
+            return Err(NoMemory);
+        };
         Ok(SignBook {
             book,
             places,
             daughters,
+            owed,
             restrictors,
             kinds,
         })
@@ -104,6 +111,13 @@ impl<'a> SignBook<'a> {
         &self.daughters
     }
 
+    /// What a mother owes when she has lost them: the rules with a fact that speaks of her daughters.
+    pub fn owed(&self) -> &Owed
+        ensures { ListsOwed self.now.book.system (owed_of (daughters_cut (rule_system (signs_of self.now)))) result.now }
+    {
+        &self.owed
+    }
+
     /// What abstract structures lack.
     pub fn restrictors(&self) -> &Cut
         ensures { cut_of result.now ≡ restrictors_cut (rule_system (signs_of self.now)) }
@@ -119,7 +133,7 @@ impl<'a> SignBook<'a> {
         ensures short { IsShort self.now.book.system result.now }
     {
         let structure = &self.book.instances[place as usize].structure;
-        let _nodes = structure.nodes();
+        structure.laws();
         structure
     }
 
@@ -129,7 +143,7 @@ impl<'a> SignBook<'a> {
         ensures places { places_at (signs_of self.now) place ≡ Some (paths_of result.now) }
         ensures within { ArePathsIn self.now.book.system (paths_of result.now) }
     {
-        let _nodes = self.book.instances[place as usize].structure.nodes();
+        self.book.instances[place as usize].structure.laws();
         &self.places[place as usize]
     }
 

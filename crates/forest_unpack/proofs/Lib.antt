@@ -1,4 +1,5 @@
 pub mod Memos
+pub mod Reaching
 pub mod Taken
 pub mod Adding
 pub mod Growing

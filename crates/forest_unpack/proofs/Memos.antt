@@ -206,7 +206,7 @@ module _ {X T C W V : Type 0} (value : T → V) where
   pub numbered_none : (known : List V) (items : List (Item X T C W)) → items ≡ [] → All (IsNumbered value known) items
   numbered_none known items is = subst (All (IsNumbered value known)) (sym is) (All-nil (IsNumbered value known))
 
-  made_is : (table : List (Option (Vec (Item X T C W) Global))) (host : ℕ) (x : Option (Vec (Item X T C W) Global)) (made : Vec (Item X T C W) Global) → IsListed table host → x ≡ get_or table host x → x ≡ Some made → slice_get table host ≡ Some (Some made)
+  pub made_is : (table : List (Option (Vec (Item X T C W) Global))) (host : ℕ) (x : Option (Vec (Item X T C W) Global)) (made : Vec (Item X T C W) Global) → IsListed table host → x ≡ get_or table host x → x ≡ Some made → slice_get table host ≡ Some (Some made)
   made_is [] host x made is e f = absurd is
   made_is (y ∷ ys) zero x made is e f = ap Some (sym e ∙ f)
   made_is (y ∷ ys) (suc n) x made is e f = made_is ys n x made is e f

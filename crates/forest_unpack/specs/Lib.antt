@@ -1,4 +1,5 @@
 pub mod Parts
+pub mod Reached
 pub mod Counted
 pub mod Items
 pub mod Plans

@@ -6,7 +6,7 @@ ghost use Rattle.std.specs.List.Sorted.{IsPermutation, IsSortedBy};
 ghost use Rattle.std.specs.Ordering.{is_lt};
 ghost use Rattle.derivation.specs.Order.{compare_trees};
 ghost use Rattle.forest_unpack.specs.Items.{items_of, list_at, IsListed};
-ghost use Rattle.forest_unpack.specs.Inner.Memos.{AreAccepted, IsNumbered, IsReady, known_in};
+ghost use Rattle.forest_unpack.specs.Inner.Memos.{AreAccepted, AreReached, IsNumbered, IsReachedItem, IsReady, known_in};
 ghost use Rattle.forest_unpack.specs.Keeping.{Kept};
 ghost use Rattle.forest_unpack.specs.Counted.{derivation_in};
 ghost use Rattle.derivation.specs.Views.{derivation_of};
@@ -60,6 +60,7 @@ fn accepted<F: Fulls>(
     told: &mut Vec<Option<bool>>,
 ) -> Result<bool, NoMemory>
     requires numbered { IsNumbered (F.value fulls.now) (known_in (F.value fulls.now) _memo.now) item.now }
+    requires reached { IsReachedItem (F.value fulls.now) (F.wholes fulls.now) (F.named fulls.now) item.now }
     requires told { AreAccepted (F.wholes fulls.now) (known_in (F.value fulls.now) _memo.now) cover.now told.old.items }
     ensures told { OnOk result (AreAccepted (F.wholes fulls.now) (known_in (F.value fulls.now) _memo.now) cover.now told.new.items) }
     ensures is { IfOk result (λ yes. IsTrue yes ↔ (F.wholes fulls.now).accepted (F.value fulls.now (arc_value item.now.full)) cover.now) }
@@ -88,6 +89,7 @@ fn keep_one<F: Fulls>(
     into: &mut Vec<CountedTree>,
 ) -> Result<(), NoMemory>
     requires numbered { IsNumbered (F.value fulls.now) (known_in (F.value fulls.now) memo.now) item.now }
+    requires reached { IsReachedItem (F.value fulls.now) (F.wholes fulls.now) (F.named fulls.now) item.now }
     requires told { AreAccepted (F.wholes fulls.now) (known_in (F.value fulls.now) memo.now) cover.now told.old.items }
     ensures told { OnOk result (AreAccepted (F.wholes fulls.now) (known_in (F.value fulls.now) memo.now) cover.now told.new.items) }
     ensures kept { OnOk result (Kept (F.value fulls.now) (F.wholes fulls.now) cover.now (items_of (F.value fulls.now) (item.now ∷ [])) into.old.items into.new.items) }
@@ -119,7 +121,8 @@ fn keep<F: Fulls>(
     items: &[Item<F>],
     into: &mut Vec<CountedTree>,
 ) -> Result<(), NoMemory>
-    requires { All (IsNumbered (F.value fulls.now) (known_in (F.value fulls.now) memo.now)) items.now }
+    requires numbered { All (IsNumbered (F.value fulls.now) (known_in (F.value fulls.now) memo.now)) items.now }
+    requires reached { All (IsReachedItem (F.value fulls.now) (F.wholes fulls.now) (F.named fulls.now)) items.now }
     ensures { OnOk result (Kept (F.value fulls.now) (F.wholes fulls.now) cover.now (items_of (F.value fulls.now) items.now) into.old.items into.new.items) }
 {
     let mut told = none_told(alloc, memo.known.len())?;
@@ -143,6 +146,7 @@ pub fn keep_host<F: Fulls>(
     requires host { host < length table.now }
     requires listed { IsListed table.now host }
     requires ready { IsReady (F.value fulls.now) (F.wholes fulls.now) memo.now table.now }
+    requires reached { AreReached (F.value fulls.now) (F.wholes fulls.now) (F.named fulls.now) table.now }
     ensures { OnOk result (Kept (F.value fulls.now) (F.wholes fulls.now) cover.now (list_at (F.value fulls.now) table.now host) into.old.items into.new.items) }
 {
     match &table[host as usize] {

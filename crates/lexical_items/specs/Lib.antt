@@ -1,3 +1,4 @@
+pub mod Fulls
 pub mod Places
 pub mod Said
 pub mod Seen

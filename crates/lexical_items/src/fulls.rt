@@ -6,6 +6,7 @@ ghost use Rattle.chart_model.specs.At.{At};
 ghost use Rattle.rule_model.specs.Structures.{Structure};
 ghost use Rattle.item_model.specs.Signs.{Signs, an_entry, a_lexical_rule};
 ghost use Rattle.item_model.specs.Lexical.{IsEntry, IsUnderRule};
+ghost use Rattle.lexical_items.specs.Fulls.{IsLexicalFull};
 ghost use Rattle.lexical_items.specs.Places.{ArePlaces};
 
 use crate::NoMemory;
@@ -48,7 +49,7 @@ pub trait LexicalFulls {
             ((f : Structure) → IsEntry (signs self.now) place f → ⊥)
             (λ full. IsEntry (signs self.now) place (value self.now full))) };
 
-    /// What the lexical rule at this place makes of a full structure; none exactly where there is none.
+    /// What the lexical rule at this place makes of the full structure of a lexical tree; none exactly where there is none.
     fn under(
         &self,
         alloc: Global,
@@ -56,7 +57,8 @@ pub trait LexicalFulls {
         place: u32,
         full: &Self::Full,
     ) -> Result<Option<Self::Full>, NoMemory>
-        requires { (n : ℕ) × At (rules_of self.now) n place }
+        requires place { (n : ℕ) × At (rules_of self.now) n place }
+        requires lexical { IsLexicalFull (signs self.now) (value self.now full.now) }
         ensures { IfOk result (λ o. MatchOption o
             ((f : Structure) → IsUnderRule (signs self.now) place (value self.now full.now) f → ⊥)
             (λ made. IsUnderRule (signs self.now) place (value self.now full.now) (value self.now made))) };

@@ -1,17 +1,17 @@
 -- A rule that doesn't apply to what another says itself of its mothers applies to none of them.
-use Rattle.std.proofs.Common.{ℕ, ◌≡◌, Bool, true, false, List, [], ◌∷◌, map, Option, None, Some, refl, sym, ◌∙◌, ap, subst}
-use Rattle.std.specs.Prelude.{◌↔◌, IsTrue, All, if◌then◌else◌, option_map, slice_get}
-use Rattle.fs_model.specs.Claims.{Path, Claim, exists_at, same, below, IsOrder}
+use Rattle.std.proofs.Common.{ℕ, ◌≡◌, Bool, true, false, List, [], ◌∷◌, None, Some, refl, sym, ◌∙◌, ap, subst}
+use Rattle.std.specs.Prelude.{◌↔◌, IsTrue, if◌then◌else◌, option_map}
+use Rattle.fs_model.specs.Claims.{Path, Claim, IsOrder}
 use Rattle.fs_model.specs.Closure.{Closure, given_claim, IsConsistent}
-use Rattle.fs_model.specs.Sources.{Reader, Source, Told, Tells, tells_exists, tells_same, tells_below}
+use Rattle.fs_model.specs.Sources.{Reader, Told, Tells, tells_exists, tells_same, tells_below}
 use Rattle.fs_graph.specs.GraphMap.{GraphMap, reader_of}
 use Rattle.fs_unify.specs.Rules.{system_of}
+use Rattle.fs_unify.specs.Owing.{OwedRules}
 use Rattle.fs_unify.specs.Placing.{PlacedGraph, source_of}
-use Rattle.rule_model.specs.Structures.{Structure, Beside, beside_here, beside_there, Says, says_type, says_equal}
+use Rattle.rule_model.specs.Structures.{Structure, Beside, beside_here, beside_there, Says}
 use Rattle.rule_model.specs.Cuts.{Cut, Kept, kept_exists, kept_same, kept_below, is_kept}
-use Rattle.rule_model.specs.Mothers.{Rule, RuleSystem, Parts, of_rule, of_daughter, Meant, Whole, Applies, IsFull, daughters_cut}
+use Rattle.rule_model.specs.Mothers.{Rule, RuleSystem, Parts, of_rule, of_daughter, Meant, Whole, Applies, daughters_cut}
 use Rattle.rule_model.specs.Views.{view, without, IsKeptOf, inside_none, inside_more, source_of as source_at}
-use Rattle.rule_model.specs.Said.{source_said}
 use Rattle.rule_model.proofs.Closures.{grows, moved, falls, keeps_more}
 use Rattle.rule_model.proofs.MotherLaws.{full_meant}
 use Rattle.rule_model.proofs.SaidLemmas.{said_is_says, said_is_consistent}
@@ -23,7 +23,7 @@ use Rattle.book_signs.specs.Trees.{SignTree, signs_of, rule_at, facts_at, places
 use Rattle.rule_trees.specs.Mothers.{view_in, IsShortIn}
 use Rattle.rule_trees.specs.Inner.Placed.{placed_with}
 use Rattle.rule_trees.specs.Inner.Following.{IsOwnOf, NeverApplies}
-use Rattle.rule_trees.proofs.MakingLemmas.{inside, all_inside, rule_with, rule_by, rule_is, same_source}
+use Rattle.rule_trees.proofs.MakingLemmas.{inside, rule_with, rule_by, rule_is, same_source}
 use Rattle.rule_trees.proofs.CopyLemmas.{same_view}
 
 -- what a cut graph tells is what the cut keeps of what the graph tells
@@ -58,12 +58,12 @@ module _ (t : SignTree) where
       subst (λ fs. Kept (daughters_cut S) (Closure g.system (Told fs)) c) (sym is) said
 
   -- what unification shows
-  pub never_applies : (place : ℕ) (structure : GraphMap) (places : List Path) (daughter : GraphMap) (parts : List PlacedGraph) (good : Bool) → facts_at g place ≡ Some (facts_of t.book.system structure) → places_at g place ≡ Some places → IsShortIn t structure → IsShortIn t daughter →
-      parts ≡ placed_with structure places (daughter ∷ []) → IsTrue good ↔ IsConsistent (system_of t.book.system) (Told (source_of parts)) → good ≡ false → NeverApplies t place daughter
-  never_applies place structure places daughter parts good facts at own short are answer off rule here ok =
+  pub never_applies : (owed : OwedRules) (place : ℕ) (structure : GraphMap) (places : List Path) (daughter : GraphMap) (parts : List PlacedGraph) (good : Bool) → facts_at g place ≡ Some (facts_of t.book.system structure) → places_at g place ≡ Some places → IsShortIn t structure → IsShortIn t daughter →
+      parts ≡ placed_with owed structure places (daughter ∷ []) → IsTrue good ↔ IsConsistent (system_of t.book.system) (Told (source_of parts)) → good ≡ false → NeverApplies t place daughter
+  never_applies owed place structure places daughter parts good facts at own short are answer off rule here ok =
       let is : rule_at g place ≡ Some (rule_by t structure places) = rule_is (rule_at g place) (facts_of t.book.system structure) places facts at in
       let same : rule ≡ rule_by t structure places = (let z : Some rule ≡ Some (rule_by t structure places) = sym here ∙ is in cc) in
-      let source : source_of parts ≡ source_at (rule_with structure places) (reader_of daughter ∷ []) = ap source_of are ∙ same_source structure places (daughter ∷ []) in
+      let source : source_of parts ≡ source_at (rule_with structure places) (reader_of daughter ∷ []) = ap source_of are ∙ same_source owed structure places (daughter ∷ []) in
       let refused : IsConsistent g.system (Told (source_at (rule_with structure places) (reader_of daughter ∷ []))) → ⊥ =
       λ k. not_true good off (answer.1 (subst (λ src. IsConsistent g.system (Told src)) (sym source) k)) in
       none_applies S (rule_by t structure places) (reader_of daughter ∷ []) (inside_more (inside t daughter short) inside_none)

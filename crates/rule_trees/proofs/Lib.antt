@@ -6,3 +6,4 @@ pub mod LexicalLemmas
 pub mod WithinLemmas
 pub mod LineLemmas
 pub mod FollowLemmas
+pub mod OweLemmas

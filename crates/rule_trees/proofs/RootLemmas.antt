@@ -7,6 +7,7 @@ use Rattle.fs_model.specs.Closure.{Closure, given_claim, AreConsistent, IsConsis
 use Rattle.fs_model.specs.Sources.{Source, Told}
 use Rattle.fs_graph.specs.GraphMap.{GraphMap, reader_of}
 use Rattle.fs_unify.specs.Rules.{system_of}
+use Rattle.fs_unify.specs.Owing.{OwedFacts, OwedRules, IsWellFormedBut, ListsOwed}
 use Rattle.fs_unify.specs.Placing.{PlacedGraph, IsPlacedIn, source_of}
 use Rattle.rule_model.specs.Structures.{Structure, Beside, beside_here, beside_there, Says}
 use Rattle.rule_model.specs.Mothers.{Rule, Parts, of_rule, of_daughter}
@@ -24,7 +25,7 @@ use Rattle.book_signs.proofs.KindLemmas.{kinded, has_kind, root_kind}
 use Rattle.rule_trees.specs.Mothers.{view_in, IsShortIn}
 use Rattle.rule_trees.specs.Inner.Placed.{placed_both}
 use Rattle.rule_trees.specs.Inner.Rooting.{IsRootedBy}
-use Rattle.rule_trees.proofs.MakingLemmas.{inside, closed_part, open_part}
+use Rattle.rule_trees.proofs.MakingLemmas.{inside, closed_part, cut_part}
 
 -- a root as a rule with one daughter, at the root
 abbrev over_root : Source → Rule
@@ -42,7 +43,7 @@ parts_both : (g : Signs) (i : Instance) (f : Structure) (c : Claim) → Parts g.
 parts_both g i f c (of_rule _ h) = of_root c h
 parts_both g i f _ (of_daughter place m c b h) = at_the_root g i f m place c b h
 
-module _ (t : SignTree) (i : Instance) (root full : GraphMap) (facts : i.rule.facts ≡ facts_of t.book.system root) (own : IsShortIn t root) (short : IsShortIn t full) where
+module _ (t : SignTree) (owed : OwedRules) (i : Instance) (root full : GraphMap) (facts : i.rule.facts ≡ facts_of t.book.system root) (own : IsShortIn t root) (short : IsShortIn t full) where
   abbrev g : Signs
   g = signs_of t
 
@@ -52,19 +53,19 @@ module _ (t : SignTree) (i : Instance) (root full : GraphMap) (facts : i.rule.fa
   source : source_at (over_root i.rule.facts) (reader_of full ∷ []) ≡ source_at (rule_said g.paths (reader_of root) ([] ∷ [])) (reader_of full ∷ [])
   source = ap (λ (s : Source). source_at (over_root s) (reader_of full ∷ [])) facts
 
-  to_both : (c : Claim) → Told (source_of (placed_both root full)) c → Closure g.system (Both g i (view_in t full)) c
+  to_both : (c : Claim) → Told (source_of (placed_both owed root full)) c → Closure g.system (Both g i (view_in t full)) c
   to_both c h =
       grows g.system (λ d x. grows g.system (λ e y. given_claim e (parts_both g i (view_in t full) e y))
       (parts_to (rule_system g) (over_root i.rule.facts) (reader_of full ∷ []) all d (subst (λ s. Told s d) (sym source) x)))
       (alone_said g.system g.paths (reader_of root) ([] ∷ []) (reader_of full ∷ []) (inside t root own) (given_claim c h))
 
-  from_both : (c : Claim) → Both g i (view_in t full) c → Closure g.system (Told (source_of (placed_both root full))) c
+  from_both : (c : Claim) → Both g i (view_in t full) c → Closure g.system (Told (source_of (placed_both owed root full))) c
   from_both c h =
       said_alone g.system g.paths (reader_of root) ([] ∷ []) (reader_of full ∷ [])
       (subst (λ s. Closure g.system (Told s) c) source (parts_back (rule_system g) (over_root i.rule.facts) (reader_of full ∷ []) c (both_parts g i (view_in t full) c h)))
 
   -- unification of a root and a structure
-  pub rooted_together : IsConsistent (system_of t.book.system) (Told (source_of (placed_both root full))) ↔ AreConsistent g.system (Closure g.system (Both g i (view_in t full)))
+  pub rooted_together : IsConsistent (system_of t.book.system) (Told (source_of (placed_both owed root full))) ↔ AreConsistent g.system (Closure g.system (Both g i (view_in t full)))
   rooted_together = (λ ok. falls g.system (λ c a. grows g.system from_both a) ok, λ ok. falls g.system (λ c a. grows g.system to_both a) ok)
 
 got : {A : Type 0} (xs : List A) (n : ℕ) → n < length xs → (x : A) × (slice_get xs n ≡ Some x)
@@ -76,22 +77,22 @@ facts_here : (g : Signs) (place : ℕ) (i : Instance) (facts : Source) → slice
 facts_here g place i facts at h =
     let z : Some i.rule.facts ≡ Some facts = sym (ap (λ o. option_map (λ (r : Rule). r.facts) (option_map (λ (i : Instance). i.rule) o)) at) ∙ h in cc
 
-pub rooted_here : (t : SignTree) (place : ℕ) (root full : GraphMap) (parts : List PlacedGraph) (good : Bool) → place < length (signs_of t).instances → facts_at (signs_of t) place ≡ Some (facts_of t.book.system root) → IsShortIn t root → IsShortIn t full →
-    parts ≡ placed_both root full → IsTrue good ↔ IsConsistent (system_of t.book.system) (Told (source_of parts)) → IsTrue good ↔ IsRootedBy (signs_of t) (view_in t full) place
-rooted_here t place root full parts good lt facts own short are h =
+pub rooted_here : (t : SignTree) (owed : OwedRules) (place : ℕ) (root full : GraphMap) (parts : List PlacedGraph) (good : Bool) → place < length (signs_of t).instances → facts_at (signs_of t) place ≡ Some (facts_of t.book.system root) → IsShortIn t root → IsShortIn t full →
+    parts ≡ placed_both owed root full → IsTrue good ↔ IsConsistent (system_of t.book.system) (Told (source_of parts)) → IsTrue good ↔ IsRootedBy (signs_of t) (view_in t full) place
+rooted_here t owed place root full parts good lt facts own short are h =
     let i = got (signs_of t).instances place lt in
     let e = facts_here (signs_of t) place i.0 (facts_of t.book.system root) i.1 facts in
-    let both = rooted_together t i.0 root full e own short in
+    let both = rooted_together t owed i.0 root full e own short in
     let k = subst (λ ps. IsTrue good ↔ IsConsistent (system_of t.book.system) (Told (source_of ps))) are h in (
       λ y. record { root = i.0; at = i.1; unifies = both.0 (k.0 y) },
       λ r. k.1 (both.1 (let same : r.root ≡ i.0 = (let z : Some r.root ≡ Some i.0 = sym r.at ∙ i.1 in cc) in
           subst (λ x. AreConsistent (signs_of t).system (Closure (signs_of t).system (Both (signs_of t) x (view_in t full)))) same r.unifies)),
     )
 
-pub both_in : (t : SignTree) (root full : GraphMap) → IsClosed t.book.system root → IsShortIn t full → (p : PlacedGraph) → Has p (placed_both root full) → IsPlacedIn t.book.system p
-both_in t root full is short p (here) = closed_part t.book.system root is
-both_in t root full is short p (there here) = open_part t.book.system full short
-both_in t root full is short p (there (there h)) = elim h [ ]
+pub both_in : (t : SignTree) (facts : OwedFacts) (owed : OwedRules) → ListsOwed t.book.system facts owed → (root full : GraphMap) → IsClosed t.book.system root → IsShortIn t full → IsWellFormedBut (system_of t.book.system) (reader_of full) facts → (p : PlacedGraph) → Has p (placed_both owed root full) → IsPlacedIn t.book.system p
+both_in t facts owed lists root full is short owes p (here) = closed_part t.book.system root is
+both_in t facts owed lists root full is short owes p (there here) = cut_part t.book.system facts owed lists [] full (λ i d l. absurd (omega (arith, l))) short owes
+both_in t facts owed lists root full is short owes p (there (there h)) = elim h [ ]
 
 -- roots that were tried
 has_last : {A : Type 0} {x y : A} (xs : List A) → Has x (xs ++ y ∷ []) → Has x xs ⊎ (x ≡ y)

@@ -3,9 +3,10 @@ use Rattle.std.specs.Prelude.{ℕ, ◌≡◌, Option, Some, None, List, map, len
 use Rattle.fs_graph.specs.GraphMap.{GraphMap, reader_of}
 use Rattle.fs_trim.specs.Cutting.{IsShort}
 use Rattle.rule_model.specs.Structures.{Structure}
-use Rattle.rule_model.specs.Mothers.{IsFullAt}
+use Rattle.rule_model.specs.Mothers.{Rule, IsFull, IsFullAt}
 use Rattle.rule_model.specs.Views.{view}
 use Rattle.item_model.specs.Signs.{Instance, Signs, rule_system}
+use Rattle.item_model.specs.Lexical.{IsEntry}
 use Rattle.book_signs.specs.Trees.{SignTree, signs_of, rule_at}
 
 -- the structure that a graph is, on the paths that may be
@@ -15,6 +16,11 @@ view_in t graph = view (signs_of t).paths (reader_of graph)
 -- the rule at a place makes this full structure of its daughters'
 abbrev pub IsMother : Signs → ℕ → List Structure → Structure → Type 0
 IsMother g place fs f = IsFullAt (rule_system g) (rule_at g place) fs f
+
+-- a full structure is an entry's, or what a rule makes of some
+pub data IsMade (g : Signs) (f : Structure) : Type 0 where
+  made_entry : (entry : ℕ) → IsEntry g entry f → IsMade g f
+  made_mother : (rule : Rule) (fs : List Structure) → IsFull (rule_system g) rule fs f → IsMade g f
 
 -- no type and no feature of a graph is out of range, and no path is too long
 abbrev pub IsShortIn : SignTree → GraphMap → Type 0

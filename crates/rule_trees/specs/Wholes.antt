@@ -8,6 +8,7 @@ use Rattle.rule_model.specs.Mothers.{arity_at}
 use Rattle.rule_model.specs.Laws.{rules_full}
 use Rattle.item_model.specs.Signs.{Signs, rule_system, placed_rules, place_at}
 use Rattle.item_model.specs.Trees.{IsRooted}
+use Rattle.lexical_items.specs.Fulls.{IsLexicalFull}
 use Rattle.lexical_items.specs.Listed.{Lexeme}
 
 -- the tree and the full structure of a leaf's name, which is its place among the lexical trees
@@ -29,6 +30,12 @@ wholes_of g leaves end =
       place = λ rule. place_at (slice_get (placed_rules g) rule);
       accepted = λ f c. (c.from ≡ 0) × (c.to ≡ end) × IsRooted g f;
     }
+
+-- a leaf of this name is there, and its full structure is that of a lexical tree
+pub record IsLexicalAt (g : Signs) (leaves : List Lexeme) (name : ℕ) : Type 0 where
+  pub lexeme : Lexeme
+  pub at : slice_get leaves name ≡ Some lexeme
+  pub full : IsLexicalFull g lexeme.full
 
 -- a phrase rule of this number has so many daughters
 abbrev pub IsRuled : Signs → ℕ → ℕ → Type 0

@@ -6,6 +6,7 @@ ghost use Rattle.item_model.specs.Lexical.{IsUnderRule};
 ghost use Rattle.book_signs.specs.Trees.{signs_of};
 ghost use Rattle.rule_trees.specs.Mothers.{IsShortIn, HasDaughters};
 ghost use Rattle.rule_trees.specs.Inner.Following.{IsOwnOf, NeverApplies};
+ghost use Rattle.rule_trees.specs.Inner.Owing.{OwesDaughters};
 
 use crate::NoMemory;
 use crate::making::parts_with;
@@ -20,6 +21,7 @@ fn own_of(alloc: Global, signs: &SignBook<'_>, place: u32) -> Result<Graph, NoMe
     requires { place < length (signs_of signs.now).instances }
     ensures own { IfOk result (IsOwnOf signs.now place) }
     ensures short { IfOk result (IsShortIn signs.now) }
+    ensures owes { IfOk result (OwesDaughters signs.now) }
 {
     signs.laws();
     let own = keep(alloc, signs.structure(place), signs.daughters())?;
@@ -36,6 +38,7 @@ fn applies(
 ) -> Result<bool, NoMemory>
     requires rule { HasDaughters (signs_of signs.now) place 1 }
     requires short { IsShortIn signs.now daughter.now }
+    requires owes { OwesDaughters signs.now daughter.now }
     ensures { IfOk result (λ yes. yes ≡ false → NeverApplies signs.now place daughter.now) }
 {
     signs.laws();
@@ -44,6 +47,7 @@ fn applies(
         signs.structure(place),
         signs.places(place),
         &[daughter],
+        signs.owed(),
     )?;
     let yes = unifies(alloc, work, signs.system(), &parts)?;
     Ok(yes)

@@ -24,13 +24,13 @@ pub struct LineFulls<'a> {
 }
 
 impl<'a> Fulls for LineFulls<'a> {
-    ghost use Rattle.std.specs.Prelude.{◌<◌, length, map};
+    ghost use Rattle.std.specs.Prelude.{map};
     ghost use Rattle.cover.specs.declared.span.Span.{Span as SpanValue};
     ghost use Rattle.rule_model.specs.Structures.{Structure};
     ghost use Rattle.book_signs.specs.Trees.{signs_of};
     ghost use Rattle.lexical_items.specs.Views.{lexeme_seen};
     ghost use Rattle.rule_trees.specs.Mothers.{view_in};
-    ghost use Rattle.rule_trees.specs.Wholes.{wholes_of, IsRuled};
+    ghost use Rattle.rule_trees.specs.Wholes.{wholes_of, IsLexicalAt, IsRuled};
 
     type Full = FullStructure;
 
@@ -44,7 +44,7 @@ impl<'a> Fulls for LineFulls<'a> {
 
     ghost wholes = { λ s. wholes_of (signs_of s.signs.now) (map (lexeme_seen (λ full. view_in s.signs.now full.graph)) s.leaves.now) s.end };
 
-    ghost named = { λ s n. n < length s.leaves.now };
+    ghost named = { λ s. IsLexicalAt (signs_of s.signs.now) (map (lexeme_seen (λ full. view_in s.signs.now full.graph)) s.leaves.now) };
 
     ghost ruled = { λ s. IsRuled (signs_of s.signs.now) };
 

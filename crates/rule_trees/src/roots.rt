@@ -3,7 +3,8 @@
 ghost use Rattle.std.specs.Prelude.{◌≡◌, ◌↔◌, ◌<◌, length, IsTrue, IfOk};
 ghost use Rattle.item_model.specs.Trees.{IsRooted};
 ghost use Rattle.book_signs.specs.Trees.{signs_of};
-ghost use Rattle.rule_trees.specs.Mothers.{IsShortIn, view_in};
+ghost use Rattle.rule_trees.specs.Mothers.{IsShortIn, IsMade, view_in};
+ghost use Rattle.rule_trees.specs.Inner.Owing.{OwesDaughters};
 ghost use Rattle.rule_trees.specs.Inner.Rooting.{IsRootedBy};
 
 use crate::NoMemory;
@@ -22,25 +23,27 @@ fn rooted_by(
 ) -> Result<bool, NoMemory>
     requires within { place < length (signs_of signs.now).instances }
     requires short { IsShortIn signs.now full.now }
+    requires owes { OwesDaughters signs.now full.now }
     ensures { IfOk result (λ yes. IsTrue yes ↔ IsRootedBy (signs_of signs.now) (view_in signs.now full.now) place) }
 {
     signs.laws();
     let mut parts = Parts::new(alloc);
     parts.add_closed(Vec::new(alloc), signs.structure(place))?;
-    parts.add(Vec::new(alloc), full)?;
+    parts.add_cut(Vec::new(alloc), full, signs.owed())?;
     let yes = unifies(alloc, work, signs.system(), &parts)?;
     Ok(yes)
 }
 
-/// Whether some root unifies with a full structure, which is in range and has no path longer than the limit. Whatever the scratch
-/// holds, the answer is the same.
+/// Whether some root unifies with a full structure, which is in range, has no path longer than the limit, and is an entry's or made
+/// by a rule. Whatever the scratch holds, the answer is the same.
 pub fn rooted(
     alloc: Global,
     work: &mut Scratch,
     signs: &SignBook<'_>,
     full: &Graph,
 ) -> Result<bool, NoMemory>
-    requires { IsShortIn signs.now full.now }
+    requires short { IsShortIn signs.now full.now }
+    requires made { IsMade (signs_of signs.now) (view_in signs.now full.now) }
     ensures { IfOk result (λ yes. IsTrue yes ↔ IsRooted (signs_of signs.now) (view_in signs.now full.now)) }
 {
     let roots = signs.roots();

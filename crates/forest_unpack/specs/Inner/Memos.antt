@@ -8,6 +8,7 @@ use Rattle.forest_unpack.specs.declared.item.Item.{Item}
 use Rattle.forest_unpack.specs.declared.memo.Answer.{Answer}
 use Rattle.forest_unpack.specs.declared.memo.Memo.{Memo}
 use Rattle.forest_unpack.specs.declared.memo.Question.{Question}
+use Rattle.forest_unpack.specs.Reached.{IsReached}
 
 -- these numbers are those of these values
 abbrev pub AreNamed : {V : Type 0} → List V → List ℕ → List V → Type 0
@@ -68,6 +69,15 @@ module _ {X T C W V : Type 0} (value : T → V) where
     pub record StaysReady (old new : Memo X T C W) (table : List (Option (Vec (Item X T C W) Global))) : Type 0 where
       pub ready : IsReady new table
       pub known : Extends (known_in old) (known_in new)
+
+module _ {X T C W V : Type 0} (value : T → V) (w : Wholes V C) (named : ℕ → Type 0) where
+  -- the item's full structure is that of a leaf or under a rule
+  abbrev pub IsReachedItem : Item X T C W → Type 0
+  IsReachedItem item = IsReached w named (value (arc_value item.full))
+
+  -- so it is in each list that was made
+  abbrev pub AreReached : List (Option (Vec (Item X T C W) Global)) → Type 0
+  AreReached table = (h : ℕ) (made : Vec (Item X T C W) Global) → slice_get table h ≡ Some (Some made) → All IsReachedItem made.items
 
 -- what was found out of known full structures: whether trees of them and of this cover are asked for
 abbrev pub AreAccepted : {C V : Type 0} → Wholes V C → List V → C → List (Option Bool) → Type 0

@@ -1,5 +1,5 @@
 -- Which lexical rule may apply to what another makes; only private clauses cite it.
-use Rattle.std.specs.Prelude.{ℕ, ◌≡◌, Some, List, [], ◌∷◌}
+use Rattle.std.specs.Prelude.{ℕ, ◌≡◌, Some, [], ◌∷◌}
 use Rattle.fs_graph.specs.GraphMap.{GraphMap}
 use Rattle.rule_model.specs.Structures.{Says}
 use Rattle.rule_model.specs.Cuts.{Kept}
@@ -7,7 +7,7 @@ use Rattle.rule_model.specs.Mothers.{Rule, Applies, daughters_cut}
 use Rattle.fs_model.specs.Claims.{Claim}
 use Rattle.fs_model.specs.Closure.{Closure}
 use Rattle.fs_model.specs.Sources.{Told}
-use Rattle.item_model.specs.Signs.{Signs, rule_system}
+use Rattle.item_model.specs.Signs.{rule_system}
 use Rattle.book_signs.specs.Trees.{SignTree, signs_of, rule_at}
 use Rattle.rule_trees.specs.Mothers.{view_in}
 

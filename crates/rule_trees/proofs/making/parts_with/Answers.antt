@@ -16,5 +16,5 @@ loop-i-preserved c =
     let g = c.index-daughters-i.result.now in
     let at_place = ap path_of (c.in_ok-place.ensures.items ∙ c.deref.ensures.value) ∙ ap (λ (v : Vec Feat Global). path_of v.items) c.index-places-i.is ∙ sym (get_or-map (λ (v : Vec Feat Global). path_of v.items) c.args.places.now i c.index-places-i.result p lp) in
     let at_graph = ap (λ (b : Bor GraphMap). b.now) c.index-daughters-i.is ∙ sym (get_or-map (λ (b : Bor GraphMap). b.now) c.args.daughters.now i c.index-daughters-i.result g lg) in
-    daughters_next (paths_of c.args.places.now) (map (λ (b : Bor GraphMap). b.now) c.args.daughters.now) i p g c.loop-i.parts c.add.new.self _
-    (omega (arith, lp, length-map c.args.places.now (λ (v : Vec Feat Global). path_of v.items))) (omega (arith, lg, length-map c.args.daughters.now (λ (b : Bor GraphMap). b.now))) at_place at_graph c.in_ok-add.ensures.ok c.loop-i.invariant
+    daughters_next c.args.owed.now (paths_of c.args.places.now) (map (λ (b : Bor GraphMap). b.now) c.args.daughters.now) i p g c.loop-i.parts c.add_cut.new.self _
+    (omega (arith, lp, length-map c.args.places.now (λ (v : Vec Feat Global). path_of v.items))) (omega (arith, lg, length-map c.args.daughters.now (λ (b : Bor GraphMap). b.now))) at_place at_graph c.in_ok-add_cut.ensures.ok c.loop-i.invariant

@@ -3,6 +3,7 @@ use Rattle.book_signs.specs.Trees.{signs_of}
 use Rattle.forest_unpack.specs.Parts.{parts_of}
 use Rattle.rule_trees.specs.Mothers.{IsMother, IsMotherOf, IsShortIn, view_in}
 use Rattle.rule_trees.proofs.WithinLemmas.{no_mother, views_of}
+use Rattle.rule_trees.proofs.OweLemmas.{all_owe}
 use Rattle.rule_trees.proofs.mothers.mother_of.Goals as goal
 
 pub returns : goal.returns
@@ -14,6 +15,11 @@ returns c v m =
 
 pub made-requires-clause-short : goal.made-requires-clause-short
 made-requires-clause-short c = subst (λ xs. All (IsShortIn c.args.signs.now) (map (λ d. d.now) xs)) (sym c.deref.ensures.value) c.in_ok-daughters.ensures.short
+
+pub made-requires-clause-owes : goal.made-requires-clause-owes
+made-requires-clause-owes c =
+    all_owe c.args.signs.now (λ f. f.graph) (map (λ d. d.now) c.deref.result.now) (parts_of c.args.parts.now) (ap (map (λ d. d.now)) c.deref.ensures.value ∙ c.in_ok-daughters.ensures.all)
+    (subst (λ xs. All (IsShortIn c.args.signs.now) (map (λ d. d.now) xs)) (sym c.deref.ensures.value) c.in_ok-daughters.ensures.short) c.requires.made
 
 pub returns-in-Some : goal.returns-in-Some
 returns-in-Some c =

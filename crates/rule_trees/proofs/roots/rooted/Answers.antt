@@ -2,10 +2,14 @@ use Rattle.std.proofs.Common.{◌≡◌, true, false, sym, ◌∙◌, refl, arit
 use Rattle.book_signs.specs.Trees.{signs_of, roots_of}
 use Rattle.rule_trees.specs.Mothers.{view_in}
 use Rattle.rule_trees.proofs.RootLemmas.{none_rooted_first, root_below, root_next, root_found, root_none}
+use Rattle.rule_trees.proofs.OweLemmas.{made_owes}
 use Rattle.rule_trees.proofs.roots.rooted.Goals as goal
 
 pub rooted_by-requires-clause-within : goal.rooted_by-requires-clause-within
 rooted_by-requires-clause-within c = root_below (signs_of c.args.signs.now) c.roots-roots.result.now c.loop-i.i 0 c.roots-roots.ensures (omega arith)
+
+pub rooted_by-requires-clause-owes : goal.rooted_by-requires-clause-owes
+rooted_by-requires-clause-owes c = made_owes c.args.signs.now c.args.full.now c.requires.short c.requires.made
 
 pub loop-i-init : goal.loop-i-init
 loop-i-init c = none_rooted_first (signs_of c.args.signs.now) (view_in c.args.signs.now c.args.full.now) (roots_of (signs_of c.args.signs.now))

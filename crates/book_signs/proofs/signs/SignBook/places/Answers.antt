@@ -46,4 +46,4 @@ returns-clause-within c =
     let closed = each_at (λ i. IsClosed b.system i.structure) (instances_of b) c.args.place (instance_of c.index.result.now) c.self.invariant.whole.closed i in
     subst (λ (t : SignTree). ArePathsIn t.book.system (paths_of c.deref.result.now)) c.self.view_is
     (subst (λ l. ArePathsIn b.system (paths_of l)) (sym c.deref.ensures.value)
-    (places_within b (instance_of c.index.result.now) (paths_of c.index-2.result.now.items) c.nodes-nodes.ensures.graph closed.answer.graph_in here))
+    (places_within b (instance_of c.index.result.now) (paths_of c.index-2.result.now.items) c.laws.ensures closed.answer.graph_in here))

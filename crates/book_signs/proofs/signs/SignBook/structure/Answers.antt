@@ -42,6 +42,6 @@ returns-clause-short c =
     let at = seen_at instance_of b.instances.items c.args.place c.index.result.now z.0 c.index.ensures in
     let lists = lists_of (numbered_of b.names) in
     subst (λ (t : SignTree). IsShort t.book.system c.index.result.now.structure) c.self.view_is
-    (short_instance b.system lists c.index.result.now.structure c.nodes-nodes.ensures.graph
+    (short_instance b.system lists c.index.result.now.structure c.laws.ensures
     (each_at (λ i. IsReadable b.system.types lists b.system.path_limit i.structure) (instances_of b) c.args.place (instance_of c.index.result.now) c.self.invariant.whole.readable at)
     (each_at (λ i. IsClosed b.system i.structure) (instances_of b) c.args.place (instance_of c.index.result.now) c.self.invariant.whole.closed at).answer.graph_in)

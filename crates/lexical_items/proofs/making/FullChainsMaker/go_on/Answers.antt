@@ -1,13 +1,19 @@
-use Rattle.std.proofs.Common.{◌∙◌, sym, subst, arith}
+use Rattle.std.proofs.Common.{◌∙◌, map, sym, subst, arith}
 use Rattle.chart_model.specs.At.{At}
+use Rattle.lexical_items.specs.Places.{place_in}
 use Rattle.lexical_items.proofs.Treed.{placed}
 use Rattle.lexical_items.proofs.Outwards.{gone_on, rule_out, forbidden}
 use Rattle.lexical_items.proofs.making.FullChainsMaker.go_on.Goals as goal
 
-pub under-requires : goal.under-requires
-under-requires g c =
+pub under-requires-clause-place : goal.under-requires-clause-place
+under-requires-clause-place g c =
     let rules = g.F.LexicalFulls.rules_of c.args.self.now.fulls.now in
     (c.args.rule, subst (At rules c.args.rule) (sym c.rule_place-place.ensures) (placed rules c.args.rule (grind arith)))
+
+pub under-requires-clause-lexical : goal.under-requires-clause-lexical
+under-requires-clause-lexical g c =
+    let fulls = c.args.self.now.fulls.now in
+    record { entry = place_in (g.F.LexicalFulls.entries_of fulls) c.args.entry; rules = map (place_in (g.F.LexicalFulls.rules_of fulls)) c.args.rules.now; full = c.requires.full }
 
 pub returns-then-rule-rules : goal.returns-then-rule-rules
 returns-then-rule-rules g c =

@@ -3,6 +3,8 @@ use Rattle.std.proofs.Common.{map}
 use Rattle.forest_unpack.specs.Parts.{parts_of}
 use Rattle.rule_trees.specs.Mothers.{view_in}
 use Rattle.rule_trees.proofs.LineLemmas.{numbered_below, phrase_daughters, full_placed, full_numbered, match_both}
+use Rattle.lexical_items.specs.Views.{lexeme_seen}
+use Rattle.rule_trees.proofs.OweLemmas.{parts_made}
 use Rattle.rule_trees.proofs.line.LineFullsFulls.apply.Goals as goal
 
 pub bounds-phrase_rules-rule : goal.bounds-phrase_rules-rule
@@ -10,6 +12,11 @@ bounds-phrase_rules-rule c = numbered_below (signs_of c.args.self.now.signs.now)
 
 pub mother_of-requires-clause-rule : goal.mother_of-requires-clause-rule
 mother_of-requires-clause-rule c = phrase_daughters (signs_of c.args.self.now.signs.now) c.phrase_rules.result.now c.args.rule 0 c.args.parts.now.count c.phrase_rules.ensures c.requires.rule
+
+pub mother_of-requires-clause-made : goal.mother_of-requires-clause-made
+mother_of-requires-clause-made c =
+    let t = c.args.self.now.signs.now in
+    parts_made (signs_of t) (map (lexeme_seen (λ full. view_in t full.graph)) c.args.self.now.leaves.now) c.args.self.now.end (λ f. view_in t f.graph) (parts_of c.args.parts.now) c.requires.reached
 
 pub returns-in-Ok : goal.returns-in-Ok
 returns-in-Ok c =
