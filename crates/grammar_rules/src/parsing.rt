@@ -32,6 +32,7 @@ use lexicon::Lexicon;
 use morph_analysis::{Feeds, Lattice};
 use packed_items::answer_leaves;
 use rule_trees::{FullStructure, LineFulls, SignBook, SignFulls};
+use shape_memo::RememberedShapes;
 use spelling_rules::Spelling;
 use std::alloc::Global;
 use std::sync::{Arc, Wait};
@@ -77,14 +78,17 @@ fn shape_of(
     Ok(shape)
 }
 
+// The shapes of a line, which remember what rules made of equal ones.
+type LineShapes<'m, 's> = RememberedShapes<'m, GrammarShapes<'s>>;
+
 // Adds a lexical tree with its shape to the leaves of a chart, named by its number.
-fn add_leaf<'s>(
+fn add_leaf<'m, 's>(
     alloc: Global,
     work: &mut Scratch,
     signs: &SignBook<'_>,
     shapes: &GrammarShapes<'s>,
     tree: &LexTree<FullStructure>,
-    leaves: &mut Vec<Leaf<GrammarShapes<'s>>>,
+    leaves: &mut Vec<Leaf<LineShapes<'m, 's>>>,
 ) -> Result<(), NoMemory>
     requires shapes { AreShapesOf signs.now shapes.now }
     requires forward { tree.now.from < tree.now.to }
@@ -102,13 +106,13 @@ fn add_leaf<'s>(
 }
 
 // The leaves of a chart over these lexical trees.
-fn leaves_of<'s>(
+fn leaves_of<'m, 's>(
     alloc: Global,
     work: &mut Scratch,
     signs: &SignBook<'_>,
     shapes: &GrammarShapes<'s>,
     trees: &[LexTree<FullStructure>],
-) -> Result<Vec<Leaf<GrammarShapes<'s>>>, NoMemory>
+) -> Result<Vec<Leaf<LineShapes<'m, 's>>>, NoMemory>
     requires shapes { AreShapesOf signs.now shapes.now }
     requires forward { All (λ t. t.from < t.to) trees.now }
     requires sound { All (λ t. AreConsistent (signs_of signs.now).system (Meant (rule_system (signs_of signs.now)) (view_in signs.now t.full.graph))) trees.now }
@@ -157,6 +161,7 @@ fn answer_trees<'a, 's, R: Wait + Threads + Sync>(
 {
     let lexical = SignFulls { signs };
     lexical.laws();
+    let remembered = RememberedShapes::new(alloc, shapes)?;
     let leaves = leaves_of(alloc, &mut work.chart, signs, shapes, trees)?;
     let fulls = LineFulls {
         signs,
@@ -166,7 +171,7 @@ fn answer_trees<'a, 's, R: Wait + Threads + Sync>(
     let found = answer_leaves(
         rt,
         alloc,
-        shapes,
+        &remembered,
         &mut work.chart,
         &mut work.trees,
         crew,
