@@ -5,4 +5,5 @@ mod pieces;
 mod seen;
 mod text;
 
+pub use mrs_reading::{MrsFault, read};
 pub use text::write;

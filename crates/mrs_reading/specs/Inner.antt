@@ -1,0 +1,6 @@
+pub mod Stages
+pub mod Tables
+pub mod Built
+pub mod Reading
+pub mod Placing
+pub mod Predications
