@@ -1,0 +1,3 @@
+pub mod OneList
+pub mod ReadLemmas
+pub mod ListLemmas

@@ -1,0 +1,5 @@
+pub mod Contributing
+pub mod Bags
+pub mod Settling
+pub mod Indexing
+pub mod Inner

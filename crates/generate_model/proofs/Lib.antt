@@ -1,0 +1,12 @@
+pub mod Pruned
+pub mod CoverProofs
+pub mod BagLemmas
+pub mod Generated
+pub mod Right
+pub mod Contributed
+pub mod Threaded
+pub mod Embedded
+pub mod Dropped
+pub mod Roots
+pub mod OneSentences
+pub mod Told

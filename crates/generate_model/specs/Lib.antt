@@ -1,0 +1,11 @@
+pub mod Pruning
+pub mod Covers
+pub mod Realizations
+pub mod Generation
+pub mod Sentences
+pub mod Contributions
+pub mod Laws
+pub mod Threads
+pub mod Embedding
+pub mod Threading
+pub mod EarlyRoots
