@@ -4,6 +4,8 @@
 mod report;
 mod sentence;
 
-pub use report::{lines_of_no_lattice, lines_of_no_text, lines_of_refusal, lines_of_trees};
+pub use report::{
+    counts_line, lines_of_no_lattice, lines_of_no_text, lines_of_refusal, lines_of_trees, tree_line,
+};
 pub use sentence::words_of_line;
 pub use word_lists::NoMemory;

@@ -39,8 +39,8 @@ pub fn lines_of_no_lattice(alloc: Global, number: u64, at: u32) -> Result<Vec<Ve
     Ok(lines)
 }
 
-// `item N classes C readings K`.
-fn counts_line(
+/// `item N classes C readings K`.
+pub fn counts_line(
     alloc: Global,
     number: u64,
     classes: u32,
@@ -52,8 +52,13 @@ fn counts_line(
     Ok(line.into_bytes())
 }
 
-// Two blanks and a tree.
-fn tree_line(alloc: Global, names: &[String], nodes: bool, tree: &Tree) -> Result<Vec<u8>, NoMemory>
+/// Two blanks and a tree, with the nodes of its lexical trees where they are asked for.
+pub fn tree_line(
+    alloc: Global,
+    names: &[String],
+    nodes: bool,
+    tree: &Tree,
+) -> Result<Vec<u8>, NoMemory>
     requires { IsNamed (length names.now) (derivation_of tree.now) }
     ensures { IfOk result (λ line. line.items ≡ tree_line (map string_bytes names.now) nodes (derivation_of tree.now)) }
 {

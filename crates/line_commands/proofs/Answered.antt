@@ -6,8 +6,8 @@ use Rattle.parse_items.specs.Answers.{IsParseAnswer}
 use Rattle.morph_analysis.specs.Lattices.{LatticeTree}
 use Rattle.morph_analysis.specs.LatticeLines.{IsFirstWrong}
 use Rattle.lexical_items.specs.Seen.{lattice_seen}
-use Rattle.item_reports.specs.Reports.{no_text_line, no_lattice_line, answer_lines, is_refused}
-use Rattle.line_commands.specs.Answers.{Speech, Asked, IsLatticeOf, IsAnswer, no_text, no_lattice, answered}
+use Rattle.item_reports.specs.Reports.{no_text_line, no_lattice_line, is_refused}
+use Rattle.line_commands.specs.Answers.{Speech, Asked, IsLatticeOf, AreLinesOf, IsAnswer, no_text, no_lattice, answered}
 
 pub if-ok : {T E : Type 0} (r : Result T E) (P Q : T → Type 0) → ((t : T) → P t → Q t) → IfOk r P → IfOk r Q
 if-ok (Ok t) P Q f p = f t p
@@ -22,8 +22,8 @@ module _ (s : Speech) (asked : Asked) (number : ℕ) (line : List ℕ) where
   moved own other b c e f is = subst (λ d. IsAnswer s asked number line other d) (sym f) (subst (λ ls. IsAnswer s asked number line ls b) (sym e) is)
 
   pub answered-with : (lattice : LatticeTree) (a : Answer) → IsUtf8 line → IsLatticeOf asked.lattice (chars line) lattice → IsParseAnswer s.signs s.words (lattice_seen lattice) asked.lexical asked.limits a
-      → (lines : List (List ℕ)) (refused : Bool) → lines ≡ answer_lines s.names asked.lattice number a → refused ≡ is_refused a → IsAnswer s asked number line lines refused
-  answered-with lattice a u k is lines refused e f = moved (answer_lines s.names asked.lattice number a) lines (is_refused a) refused e f (answered lattice a u k is)
+      → (lines : List (List ℕ)) (refused : Bool) → AreLinesOf asked.mrs s asked.lattice number a lines → refused ≡ is_refused a → IsAnswer s asked number line lines refused
+  answered-with lattice a u k is lines refused w f = subst (IsAnswer s asked number line lines) (sym f) (answered lattice a lines u k is w)
 
   pub wrong-with : (at : ℕ) → IsUtf8 line → asked.lattice ≡ true → IsFirstWrong (chars line) at
       → (lines : List (List ℕ)) (refused : Bool) → lines ≡ no_lattice_line number at ∷ [] → refused ≡ true → IsAnswer s asked number line lines refused

@@ -7,3 +7,4 @@ pub mod CheckLemmas
 pub mod Answered
 pub mod Counts
 pub mod RuleLemmas
+pub mod Semantics

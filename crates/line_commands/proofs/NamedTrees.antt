@@ -43,5 +43,15 @@ answer-named g words lattice most limits (Trees classes trees) count e x =
     let exactly = x.1.2.2 in
     all-named (IsNamed count) trees (λ t k. let l = exactly.each t k in subst (λ n. IsNamed n t) (sym e) (tree-named g t l.structure l.full))
 
+-- have full structures
+pub answer-full : (g : Signs) (words : Words) (lattice : Lattice) (most : ℕ) (limits : Limits) (a : Answer) → IsParseAnswer g words lattice most limits a → inner.AreFull g a
+answer-full g words lattice most limits LexicalDepth x = tt
+answer-full g words lattice most limits ByUnaryChain x = tt
+answer-full g words lattice most limits ByEdges x = tt
+answer-full g words lattice most limits Readings x = tt
+answer-full g words lattice most limits (Trees classes trees) x =
+    let exactly = x.1.2.2 in
+    all-named (λ t. (f : Structure) × Full g t f) trees (λ t k. let l = exactly.each t k in (l.structure, l.full))
+
 pub unmap : {A B : Type 0} (P : B → Type 0) (f : A → B) (xs : List A) → All P (map f xs) → All (λ x. P (f x)) xs
 unmap P f xs h = λ k d lt. subst P (get_or-map f xs k d (f d) lt) (h k (f d) (subst (λ n. k < n) (sym (length-map xs f)) lt))

@@ -8,6 +8,7 @@ use Rattle.parse_items.specs.Answers.{ParseAnswersAreOne}
 use Rattle.grammar_load.specs.Loaded.{GrammarTree}
 use Rattle.grammar_load.specs.Outcomes.{IsSameGrammar}
 use Rattle.command_grammars.specs.Grammars.{never, HasGrammar, IsFirstFault, IsOfShelf}
+use Rattle.mrs_lines.specs.Laws.{LinesAreOne}
 use Rattle.line_commands.specs.Answers.{Asked, IsAnswer}
 use Rattle.line_commands.specs.Parsing.{parse_meaning}
 use Rattle.line_commands.proofs.OneReports.{OneLattice, OneWrong, Apart, one-answer, one-answers}
@@ -25,9 +26,9 @@ NotBoth = (files : List ℕ → Option (List ℕ)) (name : List ℕ) (settings :
 abbrev pub Calm : Type 0
 Calm = (h : Shelves) (name : List ℕ) (settings : Option (List ℕ)) (fault : FileFault) → IsFirstFault name settings h.files (has_failed h) fault → IsOfShelf h fault → (HasRisen h.faults_old h.faults_new → ⊥) → IsFirstFault name settings h.files never fault
 
-pub parse-laws : OneGrammar → OneFault → NotBoth → Calm → SameViews → OneSigns → OneLattice → OneWrong → Apart → ParseAnswersAreOne
+pub parse-laws : OneGrammar → OneFault → NotBoth → Calm → SameViews → OneSigns → OneLattice → OneWrong → Apart → ParseAnswersAreOne → LinesAreOne
     → (name : List ℕ) (settings : Option (List ℕ)) (asked : Asked) → Lawful (parse_meaning name settings asked)
-parse-laws one fault both calm views signs lattices wrongs apart answers name settings asked = record {
+parse-laws one fault both calm views signs lattices wrongs apart answers mrss name settings asked = record {
   loads = λ files lines pieces refused r. (r.1.0, r.1.1);
   one_first = λ files f g a b. fault files name settings f g a b;
   not_both = λ files f l a. both files name settings l.0 f l.1 a;
@@ -35,7 +36,7 @@ parse-laws one fault both calm views signs lattices wrongs apart answers name se
       let same = one files name settings p.1.0 q.1.0 p.1.1 q.1.1 in
       let speech = one-speech views signs (Some files) name settings p.1.0 q.1.0 q.1.1 same p.0 q.0 p.1.2 q.1.2 in
       let order = speech-ordered (Some files) name settings q.1.0 q.0 q.1.1 q.1.2 in
-      one-answers (IsAnswer q.0 asked) (one-answer lattices wrongs apart answers q.0 asked order) 1 lines pieces others refused may
+      one-answers (IsAnswer q.0 asked) (one-answer lattices wrongs apart answers mrss q.0 asked order) 1 lines pieces others refused may
       (subst (λ s. AreAnswers (IsAnswer s asked) 1 lines pieces refused) speech p.2) q.2);
   calm = λ h f x none. calm h name settings f x.0 x.1 none;
 }

@@ -27,6 +27,9 @@ use Rattle.grammar_load.specs.Outcomes.{IsSameGrammar}
 use Rattle.grammar_load.proofs.OneSystem.{tree-laws}
 use Rattle.command_grammars.specs.Grammars.{HasGrammar}
 use Rattle.endings.specs.Meanings.{Files}
+use Rattle.mrs_paths.specs.Settled.{paths_said}
+use Rattle.mrs_lines.specs.Lines.{Semantics}
+use Rattle.grammar_names.specs.Fitting.{mrs_paths_of}
 use Rattle.line_commands.specs.Answers.{Speech}
 use Rattle.line_commands.specs.Parsing.{IsSpeechOf}
 use Rattle.line_commands.proofs.SameBooks.{signs_on}
@@ -63,6 +66,13 @@ speech-ordered files name settings g s h is = subst IsOrder (sym is.signs.system
 words-same : (a b : Signs) (l m : List EntryTree) (p q : SpellingTree) → a ≡ b → l ≡ m → p ≡ q → words_said (entries_of a) (lexical_rules_of a) l p ≡ words_said (entries_of b) (lexical_rules_of b) m q
 words-same a b l m p q e f k = λ i. words_said (entries_of (e i)) (lexical_rules_of (e i)) (f i) (k i)
 
+abbrev semantics_of : GrammarTree → Semantics
+semantics_of g = record { types = g.book.system.types; paths = mrs_paths_of g }
+
+semantics-same : (g h : GrammarTree) → IsSameGrammar g h → semantics_of g ≡ semantics_of h
+semantics-same g h same = λ k.
+    record { types = (same.book.system k).types; paths = paths_said (same.book.system k).types (same.book.features k) (same.settings k) }
+
 -- grammars that are the same say the same
 pub one-speech : SameViews → OneSigns → (files : Files) (name : List ℕ) (settings : Option (List ℕ)) (g h : GrammarTree) → HasGrammar files name settings h → IsSameGrammar g h
     → (s t : Speech) → IsSpeechOf g s → IsSpeechOf h t → s ≡ t
@@ -72,4 +82,5 @@ one-speech views one files name settings g h has same s t a b =
     let signs : s.signs ≡ t.signs = only.one s.signs t.signs (signs_on views g.book h.book same.book s.signs a.signs) b.signs in
     let words : s.words ≡ t.words = a.words ∙ words-same s.signs t.signs g.lexicon h.lexicon g.spelling h.spelling signs same.lexicon same.spelling ∙ sym b.words in
     let names : s.names ≡ t.names = a.names ∙ same.names ∙ sym b.names in
-    λ k. record { signs = signs k; words = words k; names = names k }
+    let semantics : s.semantics ≡ t.semantics = a.semantics ∙ semantics-same g h same ∙ sym b.semantics in
+    λ k. record { signs = signs k; words = words k; names = names k; semantics = semantics k }

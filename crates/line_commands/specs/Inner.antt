@@ -3,3 +3,4 @@ pub mod Named
 pub mod Parsers
 pub mod Props
 pub mod Ruled
+pub mod Semantic

@@ -7,14 +7,16 @@ use Rattle.lexical_items.specs.Said.{words_said}
 use Rattle.endings.specs.Meanings.{Meaning, Files}
 use Rattle.endings.specs.Reports.{AreAnswers}
 use Rattle.command_grammars.specs.Grammars.{HasGrammar, IsFirstFault}
+use Rattle.grammar_names.specs.Fitting.{mrs_paths_of}
 use Rattle.line_commands.specs.Answers.{Speech, Asked, IsAnswer}
 
--- A grammar as its lines see it: the signs of its book, the words of its entries and the forms of its lexical rules by place, and
--- its names.
+-- A grammar as its lines see it: the signs of its book, the words of its entries and the forms of its lexical rules by place, its
+-- names, and by its settings where MRSs stand.
 pub record IsSpeechOf (g : GrammarTree) (speech : Speech) : Type 0 where
   pub signs : IsSignsOf g.book speech.signs
   pub words : speech.words ≡ words_said (entries_of speech.signs) (lexical_rules_of speech.signs) g.lexicon g.spelling
   pub names : speech.names ≡ g.names
+  pub semantics : speech.semantics ≡ record { types = g.book.system.types; paths = mrs_paths_of g }
 
 -- the grammar that some files say, as lines see it
 abbrev pub HasSpeech : Files → List ℕ → Option (List ℕ) → Speech → Type 0

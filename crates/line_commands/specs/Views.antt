@@ -7,12 +7,13 @@ use Rattle.spelling_rules.specs.Trees.{SpellingTree}
 use Rattle.item_model.specs.Signs.{Signs}
 use Rattle.lexical_items.specs.Said.{words_said}
 use Rattle.book_signs.specs.Trees.{entries_of, lexical_rules_of}
+use Rattle.mrs_lines.specs.Lines.{Semantics}
 use Rattle.line_commands.specs.Answers.{Speech, Asked}
 
 -- what is asked under these limits
-abbrev pub asked_with : declared.Limits → Bool → Asked
-asked_with limits lattice = record { limits = limits_in limits; lexical = limits.lexical; lattice = lattice }
+abbrev pub asked_with : declared.Limits → Bool → Bool → Asked
+asked_with limits lattice mrs = record { limits = limits_in limits; lexical = limits.lexical; lattice = lattice; mrs = mrs }
 
 -- these signs with a lexicon, a spelling and names
-abbrev pub speech_with : Signs → List EntryTree → SpellingTree → List (List ℕ) → Speech
-speech_with signs lexicon spelling names = record { signs = signs; words = words_said (entries_of signs) (lexical_rules_of signs) lexicon spelling; names = names }
+abbrev pub speech_with : Signs → List EntryTree → SpellingTree → List (List ℕ) → Semantics → Speech
+speech_with signs lexicon spelling names semantics = record { signs = signs; words = words_said (entries_of signs) (lexical_rules_of signs) lexicon spelling; names = names; semantics = semantics }

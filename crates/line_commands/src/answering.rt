@@ -1,6 +1,8 @@
 //! The answers to lines.
 
 ghost use Rattle.std.specs.Prelude.{◌≡◌, length};
+ghost use Rattle.line_commands.specs.Inner.Semantic.{ArePathsOf};
+ghost use Rattle.mrs_places.specs.Paths.{paths_of};
 ghost use Rattle.chart_core.specs.Kept.{InRange};
 ghost use Rattle.book_signs.specs.Trees.{signs_of};
 ghost use Rattle.line_commands.specs.Inner.Props.{list_props};
@@ -8,17 +10,19 @@ ghost use Rattle.grammar_rules.specs.Lines.{AreShapesOf, AreFeedsOf, HaveAll};
 
 use crate::NoMemory;
 use crate::lattices::lattice_of_line;
-use crate::reports::{report_of, report_of_no_lattice, report_of_no_text};
+use crate::reports::{report_of, report_of_no_lattice, report_of_no_text, report_with_mrs};
 use book_signs::SignBook;
 use chart_core::Limits;
 use chart_workers::Crew;
 use endings::lines::Answers;
 use endings::pieces::Report;
 use fs_unify::Scratch;
-use grammar_rules::{LineWork, parse_words};
+use grammar_rules::{ItemAnswer, LineWork, parse_words};
 use grammar_shapes::GrammarShapes;
 use lexicon::Lexicon;
 use morph_analysis::{Feeds, Lattice, LatticeFault};
+use mrs_lines::TreeLines;
+use mrs_places::MrsPaths;
 use spelling_rules::Spelling;
 use std::alloc::Global;
 use std::sync::{Mutex, Wait};
@@ -44,6 +48,9 @@ pub(crate) struct Parser<'a> {
     pub(crate) limits: Limits,
     // whether a line writes a lattice
     pub(crate) lattice: bool,
+    // where MRSs stand, and whether each tree is followed by its own
+    pub(crate) paths: &'a MrsPaths,
+    pub(crate) mrs: bool,
     // one line is answered at a time
     pub(crate) desk: Mutex<Desk>,
     ghost shapes_are: { AreShapesOf signs.now shapes.now },
@@ -51,6 +58,7 @@ pub(crate) struct Parser<'a> {
     ghost have: { HaveAll signs.now lexicon.now spelling.now } by { Prim.hlevel list_props },
     ghost named: { length names.now ≡ length (signs_of signs.now).instances },
     ghost in_range: { InRange limits },
+    ghost paths_are: { ArePathsOf signs.now (paths_of paths.now) } by { Prim.hlevel list_props },
 }
 
 impl Parser<'_> {
@@ -59,8 +67,37 @@ impl Parser<'_> {
     ghost use Rattle.std.specs.Str.{chars, IsUtf8};
     ghost use Rattle.morph_analysis.specs.Lattices.{IsValid};
     ghost use Rattle.morph_analysis.specs.LatticeViews.{lattice_of};
-    ghost use Rattle.line_commands.specs.Answers.{IsAnswer};
+    ghost use Rattle.book_signs.specs.Trees.{signs_of};
+    ghost use Rattle.grammar_rules.specs.Views.{item_answer};
+    ghost use Rattle.item_reports.specs.Reports.{is_refused};
+    ghost use Rattle.line_commands.specs.Answers.{AreLinesOf, IsAnswer};
+    ghost use Rattle.line_commands.specs.Inner.Named.{AreNamed, AreFull};
     ghost use Rattle.line_commands.specs.Inner.Parsers.{speech_of, asked_of, IsReportOf};
+
+    // The report on an answer, whose trees have full structures and names.
+    fn reported(
+        &self,
+        alloc: Global,
+        work: &mut Scratch,
+        number: u64,
+        answer: &ItemAnswer,
+    ) -> Result<Report, NoMemory>
+        requires named { AreNamed (length self.now.names.now) (item_answer answer.now) }
+        requires full { AreFull (signs_of self.now.signs.now) (item_answer answer.now) }
+        ensures lines { IfOk result (λ r. AreLinesOf self.now.mrs (speech_of self.now) self.now.lattice number (item_answer answer.now) (map (λ l. l.items) r.lines.items)) }
+        ensures refused { IfOk result (λ r. r.refused ≡ is_refused (item_answer answer.now)) }
+    {
+        if !self.mrs {
+            return report_of(alloc, number, answer, self.names, self.lattice);
+        }
+        let lines = TreeLines {
+            signs: self.signs,
+            paths: self.paths,
+            names: self.names,
+            nodes: self.lattice,
+        };
+        report_with_mrs(alloc, work, number, answer, lines)
+    }
 
     // The report on the lattice of the line of this number.
     fn parsed<Rt: Threads + Wait + Sync>(
@@ -92,7 +129,7 @@ impl Parser<'_> {
             &self.limits,
             gate,
         )?;
-        report_of(alloc, number, &answer, self.names, self.lattice)
+        self.reported(alloc, &mut desk.work.trees, number, &answer)
     }
 
     // The report on a line that is text.

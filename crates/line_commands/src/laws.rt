@@ -8,6 +8,7 @@ ghost use Rattle.line_commands.specs.Parsing.{parse_meaning};
 use book_signs::laws::one_signs;
 use command_grammars::laws::grammar_laws;
 use morph_analysis::laws::one_line;
+use mrs_lines::mrs_line_laws;
 use parse_items::parse_laws;
 use rule_model::said_laws;
 
@@ -20,4 +21,5 @@ pub fn parse_lawful()
     said_laws();
     one_line();
     parse_laws();
+    mrs_line_laws();
 }

@@ -53,3 +53,9 @@ impl From<lexical_items::NoMemory> for NoMemory {
         NoMemory
     }
 }
+
+impl From<mrs_lines::NoMemory> for NoMemory {
+    fn from(_: mrs_lines::NoMemory) -> NoMemory {
+        NoMemory
+    }
+}

@@ -7,6 +7,8 @@ ghost use Rattle.book_signs.specs.Conditions.{IsWhole};
 ghost use Rattle.grammar_rules.specs.Lines.{AreShapesOf, AreFeedsOf};
 ghost use Rattle.grammar_load.specs.Conditions.{IsLoaded};
 ghost use Rattle.grammar_load.specs.Views.{grammar_of};
+ghost use Rattle.grammar_names.specs.Fitting.{mrs_paths_of, HasMrsPaths};
+ghost use Rattle.mrs_places.specs.Paths.{paths_of};
 ghost use Rattle.endings.specs.Meanings.{Shelves, shelves};
 ghost use Rattle.endings.specs.Reports.{streams};
 ghost use Rattle.endings.specs.Endings.{Ended};
@@ -25,10 +27,13 @@ use endings::lines::serve;
 use endings::{Fault, Stop};
 use fs_unify::Scratch;
 use grammar_load::Grammar;
+use grammar_names::loaded_paths;
 use grammar_rules::LineWork;
 use grammar_shapes::GrammarShapes;
 use lkb_io::{Shelf, Sink, Source};
 use morph_analysis::Feeds;
+use mrs_paths::mrs_paths;
+use mrs_places::MrsPaths;
 use std::alloc::Global;
 use std::sync::{Mutex, Wait};
 use std::thread::Threads;
@@ -45,6 +50,8 @@ pub struct Parse<'a> {
     pub workers: u32,
     /// Whether each line writes a lattice of words.
     pub lattice: bool,
+    /// Whether each tree is followed by its MRS.
+    pub mrs: bool,
 }
 
 // Answers all lines of the source with the signs of a grammar, its phrase rules and what its lexical rules may apply to.
@@ -56,6 +63,7 @@ fn parse_with_shapes<I: Source, O: Sink, Rt: Threads + Wait + Sync>(
     signs: &SignBook<'_>,
     shapes: &GrammarShapes<'_>,
     feeds: &Feeds,
+    paths: &MrsPaths,
     input: &mut I,
     out: &mut O,
     gate: &dyn Gate,
@@ -66,8 +74,10 @@ fn parse_with_shapes<I: Source, O: Sink, Rt: Threads + Wait + Sync>(
     requires book { signs.now.book ≡ grammar.now.book }
     requires shapes { AreShapesOf signs.now shapes.now }
     requires feeds { AreFeedsOf signs.now feeds.now }
+    requires paths { paths_of paths.now ≡ mrs_paths_of (grammar_of grammar.now) }
+    requires fits { HasMrsPaths (grammar_of grammar.now) }
     ensures { (h : Shelves) → HasGrammar h.files command.now.grammar.now (option_map (λ s. s.now) command.now.settings) (grammar_of grammar.now)
-        → Ended (parse_meaning command.now.grammar.now (option_map (λ s. s.now) command.now.settings) (asked_with command.now.limits command.now.lattice)) h
+        → Ended (parse_meaning command.now.grammar.now (option_map (λ s. s.now) command.now.settings) (asked_with command.now.limits command.now.lattice command.now.mrs)) h
         (streams I.left I.faults O.written O.flushed O.faults input.old input.new out.old out.new) (input.new ≡ input.old) ((input.new ≡ input.old) × (out.new ≡ out.old)) result }
 {
     signs.laws();
@@ -87,6 +97,8 @@ fn parse_with_shapes<I: Source, O: Sink, Rt: Threads + Wait + Sync>(
         names: &grammar.names,
         limits: command.limits,
         lattice: command.lattice,
+        paths,
+        mrs: command.mrs,
         desk: Mutex::new(desk),
     };
     let refused = serve(rt, alloc, &parser, input, out, gate)?;
@@ -107,9 +119,10 @@ fn parse_with_signs<I: Source, O: Sink, Rt: Threads + Wait + Sync>(
     requires limits { InRange command.now.limits }
     requires workers { IsCrewSize command.now.workers }
     requires loaded { IsLoaded (grammar_of grammar.now) }
+    requires fits { HasMrsPaths (grammar_of grammar.now) }
     requires book { signs.now.book ≡ grammar.now.book }
     ensures { (h : Shelves) → HasGrammar h.files command.now.grammar.now (option_map (λ s. s.now) command.now.settings) (grammar_of grammar.now)
-        → Ended (parse_meaning command.now.grammar.now (option_map (λ s. s.now) command.now.settings) (asked_with command.now.limits command.now.lattice)) h
+        → Ended (parse_meaning command.now.grammar.now (option_map (λ s. s.now) command.now.settings) (asked_with command.now.limits command.now.lattice command.now.mrs)) h
         (streams I.left I.faults O.written O.flushed O.faults input.old input.new out.old out.new) (input.new ≡ input.old) ((input.new ≡ input.old) × (out.new ≡ out.old)) result }
 {
     let Ok(shapes) = shapes_of(alloc, signs) else {
@@ -118,8 +131,12 @@ fn parse_with_signs<I: Source, O: Sink, Rt: Threads + Wait + Sync>(
     let Ok(feeds) = rule_feeds(alloc, signs) else {
         return Err(Fault::Stopped(Stop::NoMemory));
     };
+    let book = &grammar.book;
+    let Ok(paths) = mrs_paths(alloc, &grammar.settings, book.system.types(), &book.feats) else {
+        return Err(Fault::Stopped(Stop::NoMemory));
+    };
     parse_with_shapes(
-        rt, alloc, command, grammar, signs, &shapes, &feeds, input, out, gate,
+        rt, alloc, command, grammar, signs, &shapes, &feeds, &paths, input, out, gate,
     )
 }
 
@@ -136,9 +153,10 @@ fn parse_with<I: Source, O: Sink, Rt: Threads + Wait + Sync>(
     requires limits { InRange command.now.limits }
     requires workers { IsCrewSize command.now.workers }
     requires loaded { IsLoaded (grammar_of grammar.now) }
+    requires fits { HasMrsPaths (grammar_of grammar.now) }
     requires whole { IsWhole grammar.now.book }
     ensures { (h : Shelves) → HasGrammar h.files command.now.grammar.now (option_map (λ s. s.now) command.now.settings) (grammar_of grammar.now)
-        → Ended (parse_meaning command.now.grammar.now (option_map (λ s. s.now) command.now.settings) (asked_with command.now.limits command.now.lattice)) h
+        → Ended (parse_meaning command.now.grammar.now (option_map (λ s. s.now) command.now.settings) (asked_with command.now.limits command.now.lattice command.now.mrs)) h
         (streams I.left I.faults O.written O.flushed O.faults input.old input.new out.old out.new) (input.new ≡ input.old) ((input.new ≡ input.old) × (out.new ≡ out.old)) result }
 {
     let Ok(signs) = SignBook::make(alloc, &grammar.book) else {
@@ -160,10 +178,11 @@ pub fn parse_lines<S: Shelf, I: Source, O: Sink, Rt: Threads + Wait + Sync>(
 ) -> Result<bool, Fault>
     requires limits { InRange command.now.limits }
     requires workers { IsCrewSize command.now.workers }
-    ensures { Ended (parse_meaning command.now.grammar.now (option_map (λ s. s.now) command.now.settings) (asked_with command.now.limits command.now.lattice)) (shelves S.files S.faults S.asked shelf.old shelf.new)
+    ensures { Ended (parse_meaning command.now.grammar.now (option_map (λ s. s.now) command.now.settings) (asked_with command.now.limits command.now.lattice command.now.mrs)) (shelves S.files S.faults S.asked shelf.old shelf.new)
         (streams I.left I.faults O.written O.flushed O.faults input.old input.new out.old out.new) (input.new ≡ input.old) ((input.new ≡ input.old) × (out.new ≡ out.old)) result }
 {
     whole_book();
+    loaded_paths();
     let grammar = load_grammar(alloc, shelf, command.grammar, command.settings)?;
     parse_with(rt, alloc, command, &grammar, input, out, gate)
 }

@@ -3,12 +3,18 @@
 ghost use Rattle.std.specs.Prelude.{◌≡◌, ◌∷◌, [], true, length, map, IfOk, string_bytes};
 ghost use Rattle.grammar_rules.specs.Views.{item_answer};
 ghost use Rattle.item_reports.specs.Reports.{no_text_line, no_lattice_line, answer_lines, is_refused};
-ghost use Rattle.line_commands.specs.Inner.Named.{AreNamed};
+ghost use Rattle.book_signs.specs.Trees.{signs_of};
+ghost use Rattle.mrs_places.specs.Paths.{paths_of};
+ghost use Rattle.mrs_lines.specs.Lines.{AreAnswerLines};
+ghost use Rattle.line_commands.specs.Inner.Named.{AreNamed, AreFull};
+ghost use Rattle.line_commands.specs.Inner.Semantic.{ArePathsOf};
 
 use crate::NoMemory;
 use endings::pieces::Report;
+use fs_unify::Scratch;
 use grammar_rules::ItemAnswer;
 use item_reports::{lines_of_no_lattice, lines_of_no_text, lines_of_refusal, lines_of_trees};
+use mrs_lines::TreeLines;
 use std::alloc::Global;
 
 // The lines of an answer.
@@ -57,6 +63,49 @@ pub(crate) fn report_of(
 {
     Ok(Report {
         lines: answer_lines(alloc, number, answer, names, nodes)?,
+        refused: is_refused(answer),
+    })
+}
+
+// The lines of an answer, each tree followed by its MRS.
+fn lines_with_mrs(
+    alloc: Global,
+    work: &mut Scratch,
+    number: u64,
+    answer: &ItemAnswer,
+    lines: TreeLines<'_>,
+) -> Result<Vec<Vec<u8>>, NoMemory>
+    requires named { AreNamed (length lines.names.now) (item_answer answer.now) }
+    requires full { AreFull (signs_of lines.signs.now) (item_answer answer.now) }
+    requires paths { ArePathsOf lines.signs.now (paths_of lines.paths.now) }
+    ensures { IfOk result (λ written. AreAnswerLines (signs_of lines.entry.signs.now) (record { types = lines.entry.signs.now.book.system.types; paths = paths_of lines.entry.paths.now })
+        (map string_bytes lines.entry.names.now) lines.entry.nodes number (item_answer answer.now) (map (λ l. l.items) written.items)) }
+{
+    if let ItemAnswer::Trees { classes, trees } = answer {
+        let written = mrs_lines::lines_of_trees(alloc, work, lines, number, *classes, trees)?;
+        return Ok(written);
+    }
+    let written = answer_lines(alloc, number, answer, lines.names, lines.nodes)?;
+    Ok(written)
+}
+
+/// The same where each tree is followed by its MRS, or by the path that is missing first. Each tree of the answer has a full structure.
+pub(crate) fn report_with_mrs(
+    alloc: Global,
+    work: &mut Scratch,
+    number: u64,
+    answer: &ItemAnswer,
+    lines: TreeLines<'_>,
+) -> Result<Report, NoMemory>
+    requires named { AreNamed (length lines.names.now) (item_answer answer.now) }
+    requires full { AreFull (signs_of lines.signs.now) (item_answer answer.now) }
+    requires paths { ArePathsOf lines.signs.now (paths_of lines.paths.now) }
+    ensures lines { IfOk result (λ r. AreAnswerLines (signs_of lines.entry.signs.now) (record { types = lines.entry.signs.now.book.system.types; paths = paths_of lines.entry.paths.now })
+        (map string_bytes lines.entry.names.now) lines.entry.nodes number (item_answer answer.now) (map (λ l. l.items) r.lines.items)) }
+    ensures refused { IfOk result (λ r. r.refused ≡ is_refused (item_answer answer.now)) }
+{
+    Ok(Report {
+        lines: lines_with_mrs(alloc, work, number, answer, lines)?,
         refused: is_refused(answer),
     })
 }

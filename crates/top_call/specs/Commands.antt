@@ -1,5 +1,5 @@
 -- What the program does. A command is one case of `meaning_of`, and one of `is_built`.
-use Rattle.std.specs.Prelude.{◌≡◌, ◌++◌, ◌∷◌, [], ℕ, List, Bool, true, false, not, codes}
+use Rattle.std.specs.Prelude.{◌≡◌, ◌++◌, ◌∷◌, [], ℕ, List, Bool, true, false, codes}
 use Rattle.command_line.specs.Words.{Form, help, version, run, parse, types, expand, check, Task, Options, IsForm, AreWithin}
 use Rattle.endings.specs.Meanings.{Meaning}
 use Rattle.endings.specs.Endings.{usage_line}
@@ -17,7 +17,7 @@ not_built = record { opens = false; reads = false; loadable = λ files. ⊥; fir
 
 -- what the options ask of a line that is parsed
 abbrev pub asked_of : Options → Asked
-asked_of o = record { limits = record { edges = o.edges; readings = o.readings; unary = o.unary }; lexical = o.lexical; lattice = o.lattice }
+asked_of o = record { limits = record { edges = o.edges; readings = o.readings; unary = o.unary }; lexical = o.lexical; lattice = o.lattice; mrs = o.mrs }
 
 -- what a form of the command line asks for
 abbrev pub meaning_of : Form → Meaning
@@ -29,11 +29,11 @@ meaning_of (run (expand grammar entry) options) = expand_meaning grammar entry o
 meaning_of (run (check grammar) options) = check_meaning grammar options.settings
 meaning_of (run task options) = not_built
 
--- whether the program does this yet; `parse` writes no MRS yet
+-- whether the program does this yet
 abbrev pub is_built : Form → Bool
 is_built help = true
 is_built version = true
-is_built (run (parse grammar) options) = not options.mrs
+is_built (run (parse grammar) options) = true
 is_built (run (types grammar) options) = true
 is_built (run (expand grammar entry) options) = true
 is_built (run (check grammar) options) = true

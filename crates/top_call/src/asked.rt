@@ -83,7 +83,7 @@ impl endings::Command for Asked<'_> {
 fn limits_of(options: &Options) -> Limits
     requires { AreWithin (options_in options.now) }
     ensures range { InRange result }
-    ensures asked { asked_with result options.now.lattice ≡ asked_of (options_in options.now) }
+    ensures asked { asked_with result options.now.lattice options.now.mrs ≡ asked_of (options_in options.now) }
 {
     Limits {
         edges: options.edges as u32,
@@ -127,6 +127,7 @@ fn do_task<S: Shelf, I: Source, O: Sink, Rt: Threads + Wait + Sync>(
                 limits: limits_of(&options),
                 workers: workers_of(&options),
                 lattice: options.lattice,
+                mrs: options.mrs,
             };
             parse_lines(rt, alloc, &command, shelf, input, out, gate)
         }
@@ -157,8 +158,8 @@ fn is_built(command: &Command) -> bool
 {
     match command {
         Command::Help | Command::Version => true,
-        Command::Run(Task::Parse(_), options) => !options.mrs,
-        Command::Run(Task::Types(_), _)
+        Command::Run(Task::Parse(_), _)
+        | Command::Run(Task::Types(_), _)
         | Command::Run(Task::Expand(_, _), _)
         | Command::Run(Task::Check(_), _) => true,
         Command::Run(_, _) => false,

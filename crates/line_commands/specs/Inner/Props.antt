@@ -1,5 +1,5 @@
 -- What has at most one value.
-use Rattle.std.specs.Prelude.{ℕ, true, List, [], ◌∷◌}
+use Rattle.std.specs.Prelude.{ℕ, true, List, [], ◌∷◌, Option, Some, None, IfSome}
 use Rattle.std.proofs.Common.{refl}
 use Rattle.std.proofs.Math.Bool.{Bool-set}
 use Rattle.std.proofs.Props.{props}
@@ -18,4 +18,8 @@ pub allowed_prop : (f : FeedsTree) (entry : ℕ) (rs : List ℕ) → IsProp (IsA
 allowed_prop f entry [] a b = refl
 allowed_prop f entry (r ∷ rs) a b = λ i. (Bool-set (in_table f.on_entry entry r) true a.0 b.0 i, after_prop f r rs a.1 b.1 i)
 
-pub ruleset list_props = (props, each_prop, allowed_prop)
+pub if_some_prop : {T : Type 0} (P : T → Type 0) → ((x : T) → IsProp (P x)) → (o : Option T) → IsProp (IfSome o P)
+if_some_prop P p None a b = refl
+if_some_prop P p (Some x) a b = p x a b
+
+pub ruleset list_props = (props, each_prop, allowed_prop, if_some_prop)

@@ -1,0 +1,9 @@
+pub mod Names
+pub mod Plain
+pub mod Settled
+pub mod Tokens
+pub mod Statements
+pub mod Walked
+pub mod Features
+pub mod Types
+pub mod Paths

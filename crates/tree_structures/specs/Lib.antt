@@ -1,0 +1,4 @@
+pub mod Formed
+pub mod Meant
+pub mod Known
+pub mod Laws
