@@ -2,6 +2,7 @@
 //! call answers for it. Steps that only say what later ones are about are not written again.
 #![tactic(auto)]
 
+mod chains;
 mod entries;
 mod hierarchies;
 mod spelling;

@@ -2,6 +2,7 @@
 
 ghost use Rattle.std.specs.Prelude.{◌<◌, length};
 
+use crate::chains;
 use crate::steps::{front, number};
 use spelling_rules::{Irregular, SpellGroup, SpellRule, SpellSign, Spelling, are_bound};
 use std::alloc::{AllocError, Global};
@@ -25,7 +26,7 @@ impl Rules {
 
     // `suffix PATTERN WITH ..` and `prefix PATTERN WITH ..` say a rule, in which `*` is the empty text and `!` a variable
     // over p and t; `irregular RULE STEM FORM` says a line of irregular forms; `made` makes a spelling of them. `forms
-    // RULE STEM`, `stems RULE FORM` and `all FORM` ask it.
+    // RULE STEM`, `stems RULE FORM`, `all FORM` and `chains DEPTH ENTRIES WORDS` ask it.
     pub fn answer(
         &mut self,
         alloc: Global,
@@ -76,6 +77,7 @@ fn asked(
         "forms" if rule < spelling.rules() => Ok(Some(forms(alloc, spelling, rule, text)?)),
         "stems" if rule < spelling.rules() => Ok(Some(stems(alloc, spelling, rule, text)?)),
         "all" => Ok(Some(all(alloc, spelling, rest)?)),
+        "chains" => Ok(Some(chains::shown(alloc, spelling, rest)?)),
         _ => Ok(None),
     }
 }
