@@ -231,8 +231,9 @@ inner_met h laws keys above at t g in_at in_t e ne = (
         implied false q f = refl
 
 -- an intersection with a type above all of the set is the set
-pub outer_met : (h : TypeTable) (laws : IsHierarchy h) (keys above : List (Vec ℕ Global)) (at t : ℕ) → IsGrowing h keys above → at < length keys → t < h.written → has_bit (row_items above at) t ≡ true → IsMet h keys at t
-outer_met h laws keys above at t g in_at in_t e ne = (
+pub whole_met : (h : TypeTable) (keys above : List (Vec ℕ Global)) (at t : ℕ) → IsGrowing h keys above → at < length keys →
+    ((x : ℕ) → x < h.written → has_bit (row_items keys at) x ≡ true → has_member (set_of h t) x ≡ true) → IsMet h keys at t
+whole_met h keys above at t g in_at whole ne = (
   at,
   omega (arith, in_at, length-map keys (λ x. bits_below h.written x.items)),
   get_or_default (sets_of h.written keys) at _ [] (omega (arith, in_at, length-map keys (λ x. bits_below h.written x.items))) ∙ sym is,
@@ -245,7 +246,7 @@ outer_met h laws keys above at t g in_at in_t e ne = (
     rising = subst (IsRising h.written) (sym i.is_common) (rising_filter (λ x. list_all (λ u. has_member (set_of h u) x) i.types) h.written)
 
     sub : (x : ℕ) → x < h.written → has_member (set_at h keys at) x ≡ true → has_member (set_of h t) x ≡ true
-    sub x l m = g.sound at in_at t in_t e x l (sym (member_bits h.written (row_items keys at) x l) ∙ ap (λ s. has_member s x) (sym (set_row h.written keys at in_at)) ∙ m)
+    sub x l m = whole x l (sym (member_bits h.written (row_items keys at) x l) ∙ ap (λ s. has_member s x) (sym (set_row h.written keys at in_at)) ∙ m)
 
     is : intersection (set_at h keys at) (set_of h t) ≡ set_at h keys at
     is = rising_same h.written _ _ (rising_intersection h.written _ _ rising) rising
@@ -259,6 +260,9 @@ outer_met h laws keys above at t g in_at in_t e ne = (
         implied p true f = and_true p ∙ f refl
         implied true false f = refl
         implied false false f = refl
+
+pub outer_met : (h : TypeTable) (laws : IsHierarchy h) (keys above : List (Vec ℕ Global)) (at t : ℕ) → IsGrowing h keys above → at < length keys → t < h.written → has_bit (row_items above at) t ≡ true → IsMet h keys at t
+outer_met h laws keys above at t g in_at in_t e = whole_met h keys above at t g in_at (λ x l m. g.sound at in_at t in_t e x l m)
 
 -- what lasts while the list grows
 pub still_in : (new old : List (Vec ℕ Global)) (k : ℕ) → StartsWith new old → k < length old → k < length new
@@ -567,15 +571,15 @@ closed_met h laws first keys above at t p in_at in_t s no_ is = go (bool_cases (
     go (inr a) (inl b) = outer_met h laws keys above at t s.growing here in_t b
     go (inr a) (inr b) = absurd (differ _ (is ∙ and_both (not (has_bit (row_items keys at) t)) (not (has_bit (row_items above at) t)) (ap not a) (ap not b)) no_)
 
--- types that share no member with the set are passed over
-pub spreading_passed : (h : TypeTable) (laws : IsHierarchy h) (first keys above : List (Vec ℕ Global)) (at from to : ℕ) (set near : List ℕ) → at < length first → to ≤ h.written → set ≡ row_items first at → HasNear h set near →
-    ((t : ℕ) → from ≤ t → t < to → has_bit near t ≡ false) → IsSpreading h first keys above at from → IsSpreading h first keys above at to
-spreading_passed h laws first keys above at from to set near in_at within is n none s = record { growing = s.growing; more = s.more; met = λ t l. go t l (cases_lt t from) }
+-- types that are met are passed over
+pub spreading_passed : (h : TypeTable) (first keys above : List (Vec ℕ Global)) (at from to : ℕ) (near : List ℕ) → at < length first → to ≤ h.written →
+    ((t : ℕ) → t < h.written → has_bit near t ≡ false → IsMet h first at t) → ((t : ℕ) → from ≤ t → t < to → has_bit near t ≡ false) →
+    IsSpreading h first keys above at from → IsSpreading h first keys above at to
+spreading_passed h first keys above at from to near in_at within passed none s = record { growing = s.growing; more = s.more; met = λ t l. go t l (cases_lt t from) }
   where
     go : (t : ℕ) → t < to → (t < from) ⊎ (from ≤ t) → IsMet h keys at t
     go t l (inl before) = s.met t before
-    go t l (inr after) = apart_met h laws keys at t (still_in keys first at s.more in_at)
-        (λ x x_in a m. differ _ (n x t x_in (omega arith) (ap (λ q. has_bit q x) (is ∙ sym (row_kept keys first at s.more in_at)) ∙ a) m) (none t after l))
+    go t l (inr after) = met_on h keys first at t s.more in_at (passed t (omega (arith, l, within)) (none t after l))
 
 pub is_among : (keys : List (Vec ℕ Global)) (row : List ℕ) → list_any (λ k. bytes_eq row k.items) keys ≡ true → (k : ℕ) × (k < length keys) × (row_items keys k ≡ row)
 is_among [] row e = absurd (differ _ e refl)

@@ -1,2 +1,3 @@
 pub mod GrowingLemmas
+pub mod CrossingLemmas
 pub mod SortLemmas

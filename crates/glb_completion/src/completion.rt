@@ -12,6 +12,7 @@ ghost use Rattle.type_hierarchy.specs.Table.{IsFamily};
 ghost use Rattle.glb_completion.specs.Completion.{IsCompletionOf, IsCompleteFault};
 ghost use Rattle.glb_completion.specs.Inner.Growing.{IsGrowing};
 
+use crate::crossing::crossings;
 use crate::family::Family;
 use crate::fault::CompleteFault;
 use crate::spread::spread;
@@ -25,9 +26,10 @@ fn closed(alloc: Global, h: &Hierarchy) -> Result<Family, CompleteFault>
     ensures fault { IfErr result (IsCompleteFault h.now) }
 {
     let mut family = Family::written(alloc, h)?;
+    let crossing = crossings(alloc, h, &family.above)?;
     let mut at = 0;
     while at < family.sets.len() {
-        spread(alloc, h, &mut family, at)?;
+        spread(alloc, h, &mut family, &crossing, at)?;
         at += 1;
     }
     Ok(family)

@@ -2,6 +2,7 @@
 #![tactic(auto)]
 
 mod completion;
+mod crossing;
 mod family;
 mod fault;
 mod spread;

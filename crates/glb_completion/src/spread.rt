@@ -5,6 +5,7 @@ ghost use Rattle.type_hierarchy.specs.Bits.{has_bit, IsRow};
 ghost use Rattle.type_hierarchy.specs.Inner.Tables.{row_items};
 ghost use Rattle.type_hierarchy.specs.Laws.{IsHierarchy};
 ghost use Rattle.glb_completion.specs.Completion.{IsCompleteFault};
+ghost use Rattle.glb_completion.specs.Inner.Crossings.{HasCrossings};
 ghost use Rattle.glb_completion.specs.Inner.Growing.{IsUpRow, IsGrowing, HasNear, StartsWith, IsMet, IsSpread};
 
 use crate::family::Family;
@@ -71,22 +72,26 @@ fn meet_with(
 
 /// Adds what the set at a place has in common with each written type.
 ///
-/// Only types that share a member with the set, and are neither in it nor known to be above all of it, can give
-/// a set that isn't there.
+/// Only types that are neither in the set nor known to be above all of it can give a set that isn't there, and these
+/// share a member with it that doesn't stand immediately below one type alone.
 pub fn spread(
     alloc: Global,
     h: &Hierarchy,
     family: &mut Family,
+    crossing: &[u64],
     at: usize,
 ) -> Result<(), CompleteFault>
     requires growing { IsGrowing h.now family.old.sets.keys family.old.above.items }
+    requires crossing_row { IsRow h.now.written crossing.now }
+    requires crossings { HasCrossings h.now crossing.now }
     requires at_in { at < length family.old.sets.keys }
     ensures growing { OnOk result (IsGrowing h.now family.new.sets.keys family.new.above.items) }
     ensures more { OnOk result (StartsWith family.new.sets.keys family.old.sets.keys) }
     ensures spread { OnOk result (IsSpread h.now family.new.sets.keys at) }
     ensures fault { IfErr result (IsCompleteFault h.now) }
 {
-    let near = near(alloc, h, &family.above, &family.sets.as_slice()[at])?;
+    let shared = bits::common(alloc, &family.sets.as_slice()[at], crossing)?;
+    let near = near(alloc, h, &family.above, &shared)?;
     let count = h.count();
     let mut t = bits::next(&near, 0, count);
     while t < count {

@@ -232,7 +232,7 @@ pub fn read(alloc: Global, text: &str, tokens: &[Token]) -> Result<Vec<Statement
             text,
             token: *token,
         };
-        stage = step(alloc, &mut done, stage, seen)?;
+        step(alloc, &mut done, &mut stage, seen)?;
     }
     if may_end(&stage) {
         Ok(done.statements)

@@ -1,6 +1,6 @@
 //! Bodies: one step for each token, with the open brackets on a stack.
 
-ghost use Rattle.std.specs.Prelude.{◌≡◌, List, [], ◌∷◌, ◌++◌, map, Some, None, Option, IfSome, IfNone, IfOk, IfErr, string_bytes};
+ghost use Rattle.std.specs.Prelude.{◌≡◌, List, [], ◌∷◌, ◌++◌, map, Some, None, Option, IfSome, IfNone, IfOk, IfErr, OnOk, string_bytes};
 ghost use Rattle.tdl_reader.specs.Toks.{value};
 ghost use Rattle.tdl_reader.specs.Trees.{closed, open_end};
 ghost use Rattle.tdl_reader.specs.Machine.{FrameTree, term_step, attr_point, diff_point, tail_point, item_step, after_body, point_step, at_point, got_term, avm_begins, want_attr, got_feature, want_feature, list_begins, list_goes_on, want_close, diff_begins};
@@ -13,6 +13,7 @@ use crate::terms::{
 };
 use crate::{Attr, Body, ReadFault, Term};
 use std::alloc::Global;
+use std::mem;
 use tdl_lexer::TokenKind;
 
 /// The attributes and one more.
@@ -428,4 +429,25 @@ pub(crate) fn point_step(
             inner(alloc, frames, Frame::InDiff { at, items, out }, seen)
         }
     }
+}
+
+/// The same where the point stands: it is all that moves.
+pub(crate) fn go_on(
+    alloc: Global,
+    frames: &mut Vec<Frame>,
+    point: &mut Point,
+    seen: Seen<'_>,
+) -> Result<(), ReadFault>
+    requires { IsOfText seen }
+    ensures found { OnOk result (point_step (stack_of frames.old.items) (point_of point.old) seen.entry.token.kind (tok_in seen.entry) ≡ at_point (stack_of frames.new.items) (point_of point.new)) }
+    ensures fault { IfErr result (λ e. IsStop (point_step (stack_of frames.old.items) (point_of point.old) seen.entry.token.kind (tok_in seen.entry)) seen.entry.token.from e) }
+{
+    let here = mem::replace(
+        point,
+        Point::WantTerm {
+            terms: Vec::new(alloc),
+        },
+    );
+    *point = point_step(alloc, frames, here, seen)?;
+    Ok(())
 }

@@ -1,6 +1,6 @@
 //! Statements: one step for each token.
 
-ghost use Rattle.std.specs.Prelude.{◌≡◌, [], ◌∷◌, ◌++◌, map, Some, None, Option, IfOk, IfErr, true, string_bytes};
+ghost use Rattle.std.specs.Prelude.{◌≡◌, [], ◌∷◌, ◌++◌, map, Some, None, Option, IfOk, IfErr, OnOk, true, string_bytes};
 ghost use Rattle.std.specs.Option.{option_map};
 ghost use Rattle.tdl_reader.specs.GroupScan.{read_group, read_letters};
 ghost use Rattle.tdl_reader.specs.Machine.{PastTree, with_statement, with_letters, at_stage, stage_step, groups_step, body_step, is_empty, ends_body, is_whole, finish, with_body, may_end, depth, point_depth, lettered, letter, named, defined, affixed, end, want_dot};
@@ -10,7 +10,7 @@ ghost use Rattle.tdl_reader.specs.Stages.{head_of, stage_of, groups_in, past_of,
 ghost use Rattle.tdl_reader.specs.Views.{set_of, group_in, statement_of, body_in};
 
 use crate::groups::{read_group, read_letters};
-use crate::points::point_step;
+use crate::points::{go_on, point_step};
 use crate::stages::{
     Head, Past, Stage, begin_word, body_begins, defined, end_word, first_word, include_name,
     instance_word, lettered, named, status_name,
@@ -18,6 +18,7 @@ use crate::stages::{
 use crate::terms::{Frame, Point, Seen, unexpected, whole};
 use crate::{Affix, AffixGroup, Body, LetterSet, ReadFault, Statement};
 use std::alloc::Global;
+use std::mem;
 use tdl_lexer::TokenKind;
 
 /// Whether a token ends the body, and the statement with it.
@@ -254,6 +255,28 @@ fn stage_step(
     }
 }
 
+/// A token at a stage, whatever the depth, and the stage after it. What goes on within a body stays in its place, since a stage is
+/// large and most tokens stand within bodies.
+fn stage_goes_on(
+    alloc: Global,
+    done: &mut Past,
+    stage: &mut Stage,
+    seen: Seen<'_>,
+) -> Result<(), ReadFault>
+    requires { IsOfText seen }
+    ensures found { OnOk result (IsStageStep (past_of done.old) (stage_of stage.old) seen.entry.token.kind (tok_in seen.entry) (past_of done.new) (stage_of stage.new)) }
+    ensures fault { IfErr result (λ e. IsStageStop (past_of done.old) (stage_of stage.old) seen.entry.token.kind (tok_in seen.entry) e) }
+{
+    if let Stage::InBody { frames, point, .. } = stage {
+        if !ends_body(frames, point, seen) {
+            return go_on(alloc, frames, point, seen);
+        }
+    }
+    let here = mem::replace(stage, Stage::Between);
+    *stage = stage_step(alloc, done, here, seen)?;
+    Ok(())
+}
+
 /// The brackets that a point has open besides those on the stack.
 fn point_depth(point: &Point) -> usize
     ensures { result ≡ point_depth (point_of point.now) }
@@ -291,23 +314,23 @@ pub(crate) fn may_end(stage: &Stage) -> bool
     matches!(stage, Stage::Between | Stage::Lettered)
 }
 
-/// A token at a stage.
+/// A token at a stage, and the stage after it.
 pub(crate) fn step(
     alloc: Global,
     done: &mut Past,
-    stage: Stage,
+    stage: &mut Stage,
     seen: Seen<'_>,
-) -> Result<Stage, ReadFault>
+) -> Result<(), ReadFault>
     requires { IsOfText seen }
-    ensures found { IfOk result (λ p. IsGood (record { done = past_of done.old; stage = stage_of stage }) (tok_in seen.entry) (record { done = past_of done.new; stage = stage_of p })) }
-    ensures fault { IfErr result (λ e. IsFaultAt (record { done = past_of done.old; stage = stage_of stage }) (tok_in seen.entry) e) }
+    ensures found { OnOk result (IsGood (record { done = past_of done.old; stage = stage_of stage.old }) (tok_in seen.entry) (record { done = past_of done.new; stage = stage_of stage.new })) }
+    ensures fault { IfErr result (λ e. IsFaultAt (record { done = past_of done.old; stage = stage_of stage.old }) (tok_in seen.entry) e) }
 {
-    let deep = opens(seen.token.kind) && depth(&stage) == 200;
-    let next = stage_step(alloc, done, stage, seen)?;
+    let deep = opens(seen.token.kind) && depth(stage) == 200;
+    stage_goes_on(alloc, done, stage, seen)?;
     if deep {
         return Err(ReadFault::TooDeep {
             at: seen.token.from,
         });
     }
-    Ok(next)
+    Ok(())
 }

@@ -10,8 +10,8 @@ use Rattle.tdl_reader.specs.Views.{statement_of}
 use Rattle.tdl_reader.proofs.Faults.{Outcome, outcome}
 use Rattle.tdl_reader.proofs.read.Goals as goal
 
-pub returns-in_err-stage-clause-fault : goal.returns-in_err-stage-clause-fault
-returns-in_err-stage-clause-fault c =
+pub returns-in_err-step-clause-fault : goal.returns-in_err-step-clause-fault
+returns-in_err-step-clause-fault c =
     let ts = toks_of c.args.text.now c.args.tokens.now in
     let h : IfErr c.from_residual.result (λ e. (e ≡ NoMemory) ⊎ (read_from begun ts ≡ Err e)) = grind (arith, common_steps) in
     IfErr-weaker c.from_residual.result _ _ (λ e k. ⊎_elim inl (λ m. inr (subst (Outcome ts) m (outcome ts))) k) h
