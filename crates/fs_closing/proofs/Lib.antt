@@ -10,6 +10,7 @@ pub mod KeepsLemmas
 pub mod RangeLemmas
 pub mod StepLemmas
 pub mod ClosingLemmas
+pub mod ToldLemmas
 pub mod UniteLemmas
 pub mod OrderLemmas
 pub mod RuleRowLemmas

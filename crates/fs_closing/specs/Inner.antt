@@ -1,3 +1,4 @@
 -- What the code keeps.
 pub mod Outlines
 pub mod RuleRows
+pub mod Told

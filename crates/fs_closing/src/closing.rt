@@ -14,6 +14,7 @@ use crate::nodes::{Nodes, live};
 use crate::steps::{go, merge, put_under};
 use crate::system::TypeSystem;
 use crate::tasks::{Entry, Pair, Tasks};
+use crate::told::is_told_next;
 use fs_paths::{Fact, Feat};
 
 /// What one turn of a closing did.
@@ -107,7 +108,7 @@ pub fn apply(
     }
 }
 
-// Two paths from a node are to lead to one node.
+// Two paths from a node are to lead to one node. The first fact of a coreference speaks of one path alone, which is then there.
 fn apply_same(
     nodes: &mut Nodes,
     tasks: &mut Tasks,
@@ -127,6 +128,9 @@ fn apply_same(
     let Some(one) = reach(nodes, tasks, system, node, a)? else {
         return Ok(false);
     };
+    if a == b {
+        return Ok(true);
+    }
     let Some(other) = reach(nodes, tasks, system, node, b)? else {
         return Ok(false);
     };
@@ -134,7 +138,7 @@ fn apply_same(
     Ok(true)
 }
 
-// The next fact of a rule is put at a node.
+// The next fact of a rule is put at a node, unless the one behind it tells it.
 fn step_entry(
     nodes: &mut Nodes,
     tasks: &mut Tasks,
@@ -155,6 +159,9 @@ fn step_entry(
         return Err(NoMemory);
     }
     tasks.push_entry(entry.node, entry.rule, entry.from + 1)?;
+    if is_told_next(facts, entry.from as usize) {
+        return Ok(true);
+    }
     let fact = &facts[entry.from as usize];
     let ok = apply(nodes, tasks, system, entry.node, fact)?;
     Ok(ok)

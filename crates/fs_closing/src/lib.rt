@@ -11,6 +11,7 @@ pub mod rule_rows;
 pub mod steps;
 pub mod system;
 pub mod tasks;
+mod told;
 
 pub use facts::TypeFacts;
 pub use fault::NoMemory;

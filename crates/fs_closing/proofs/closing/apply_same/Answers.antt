@@ -1,4 +1,4 @@
-use Rattle.std.proofs.Common.{◌≡◌, None, [], ◌∷◌, subst, arith}
+use Rattle.std.proofs.Common.{◌≡◌, None, [], ◌∷◌, ap, subst, arith}
 use Rattle.fs_model.specs.Table.{is_same}
 use Rattle.fs_paths.specs.Facts.{path_of}
 use Rattle.fs_closing.specs.Rules.{system_of}
@@ -6,6 +6,8 @@ use Rattle.fs_closing.specs.Work.{work_of}
 use Rattle.fs_closing.specs.Keeps.{Reaches, deep_of}
 use Rattle.fs_closing.proofs.KeepsLemmas.{Turns-on, Turns-order, Refutes-after, same_itself, joined_same}
 use Rattle.fs_closing.proofs.StepLemmas.{follow_first}
+use Rattle.std.proofs.lemmas.Slice.Eq.{slice_eq-Decides}
+use Rattle.fs_closing.proofs.ToldLemmas.{feat_eq, feat_eq-Decides, apply_itself}
 use Rattle.fs_closing.proofs.closing.apply_same.Goals as goal
 
 pub returns-in_default-clause-steps : goal.returns-in_default-clause-steps
@@ -63,3 +65,19 @@ returns-clause-more c = λ _.
     let some' = subst (Reaches g c.reach.new.nodes c.reach.new.tasks c.args.node (path_of c.args.b.now) c.reach-2.new.nodes c.reach-2.new.tasks)
     c.in-Some-2.is c.in_ok-other.ensures in
     omega (arith, some.3, some'.3)
+
+pub returns-then-eq-clause-steps : goal.returns-then-eq-clause-steps
+returns-then-eq-clause-steps c =
+    let g = c.args.system.now in
+    let some = subst (Reaches g c.args.nodes.now c.args.tasks.now c.args.node (path_of c.args.a.now) c.reach.new.nodes c.reach.new.tasks)
+    c.in-Some.is c.in_ok-one.ensures in
+    let is = (slice_eq-Decides {E = feat_eq} feat_eq-Decides c.args.a.now c.args.b.now c.eq.result c.eq.ensures).0 c.if-eq.true in
+    apply_itself g c.args.nodes.now c.args.tasks.now c.args.node (path_of c.args.a.now) (path_of c.args.b.now) c.reach.new.nodes c.reach.new.tasks c.in-Some.one
+    (ap path_of is) some
+
+pub returns-then-eq-clause-more : goal.returns-then-eq-clause-more
+returns-then-eq-clause-more c = λ _.
+    let g = c.args.system.now in
+    let some = subst (Reaches g c.args.nodes.now c.args.tasks.now c.args.node (path_of c.args.a.now) c.reach.new.nodes c.reach.new.tasks)
+    c.in-Some.is c.in_ok-one.ensures in
+    some.3

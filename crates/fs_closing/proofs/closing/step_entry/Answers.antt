@@ -6,6 +6,7 @@ use Rattle.fs_closing.specs.declared.tasks.Entry.{Entry}
 use Rattle.fs_closing.specs.Work.{entry_claims, work_of}
 use Rattle.fs_closing.proofs.ClosingLemmas.{fact_at, fact_has}
 use Rattle.fs_closing.proofs.StepLemmas.{entry_step, entry_same, steps_order}
+use Rattle.fs_closing.proofs.ToldLemmas.{entry_told}
 use Rattle.fs_closing.proofs.closing.step_entry.Goals as goal
 
 pub apply-requires-clause-fact : goal.apply-requires-clause-fact
@@ -28,3 +29,19 @@ returns c =
     steps_order g c.args.nodes.now _ (from n (claim_of c.index-facts-entry.result) ∷ work_of g.rules c.push_entry.new.self) c.apply.new.nodes c.apply.new.tasks c.in_ok-ok.ok
     (entry_same (from n (claim_of c.index-facts-entry.result)) (entry_claims g.rules next) (entry_claims g.rules c.args.entry) (work_of g.rules c.args.tasks.now)
     (work_of g.rules c.push_entry.new.self) is (c.in_ok-push_entry.ensures.work g.rules)) c.in_ok-ok.ensures.steps
+
+pub returns-then-is_told_next : goal.returns-then-is_told_next
+returns-then-is_told_next c =
+    let g = c.args.system.now in
+    let i = c.args.entry.from in
+    let none : Claim = exists_at [] in
+    let told = c.is_told_next.ensures none c.if-is_told_next.true in
+    let sound = c.requires.sound in (
+      entry_told g c.args.nodes.now c.args.entry none _ (work_of g.rules c.args.tasks.now) (work_of g.rules c.push_entry.new.self) c.facts-facts.ensures.value told
+          (c.in_ok-push_entry.ensures.work g.rules),
+      record {
+        whole = sound.whole;
+        within = sound.within;
+        ready = c.in_ok-push_entry.ensures.ready _ _ _ c.requires.node c.requires.rule sound.ready;
+      },
+    )
