@@ -25,13 +25,14 @@ use Rattle.chart_core.specs.Kept.{IsCore, tasks_of, pending_of, limits_seen}
 use Rattle.chart_core.specs.declared.Limits.{Limits}
 use Rattle.chart_core.specs.Sound.{left_of}
 use Rattle.chart_core.specs.Counted.{IsFoundBelow, IsAnswer}
-use Rattle.chart_core.specs.Noted.{noted, IsEmpty, IsNext}
+use Rattle.chart_core.specs.Noted.{noted, SameNotes, IsEmpty, IsNext}
 use Rattle.chart_core.specs.Passed.{IsPassed, IsPassFault}
 use Rattle.chart_core.specs.Passing.{IsSure, IsTaking, IsEntering, IsPassing}
 use Rattle.chart_core.proofs.Facts.{facts_in}
 use Rattle.chart_core.proofs.Tally.{tally_is, least_same}
 use Rattle.chart_core.proofs.Done.{core_complete, core_forest}
-use Rattle.chart_core.proofs.Visits.{proper, counted}
+use Rattle.chart_core.proofs.Keyed.{noted_back}
+use Rattle.chart_core.proofs.Visits.{proper, counted, sure_same, note_same}
 
 -- where each task is done, none is pending
 none_left : (tasks : List TaskRow) → ((t : ℕ) (task : model.Task) → At (map task_of tasks) t task → (place : ℕ) × At (map (λ (x : TaskRow). x.done) tasks) t (Some place)) → left_of (map (λ (x : TaskRow). x.done) tasks) ≡ 0
@@ -62,6 +63,14 @@ module _ {X T C W B M : Type 0} (g : Grammar T M C) (laws : Laws g.calculus) whe
   module _ (pass : Pass X T C W B) (is : IsPassing g pass) where
     abbrev core : Core X T C W B
     core = pass.core
+
+    -- the same where the same tasks are noted
+    pub passing_same : (notes : Notes) → SameNotes pass.notes notes → IsPassing g (record { core = pass.core; notes = notes; size = pass.size; level = pass.level; seen = pass.seen })
+    passing_same notes h = record {
+      sure = sure_same g laws pass is.sure notes h;
+      after = λ t s v n. is.after t s v (noted_back pass.notes notes h t s v n);
+      noted_all = λ t task a d. note_same g laws pass is.sure notes h pass.size (pass.level + 1) t (is.noted_all t task a d);
+    }
 
     module _ (size level : ℕ) (next : IsNext pass.notes size level) where
       pub comes_later : IsFrom pass.size (pass.level + 1) size level

@@ -1,19 +1,22 @@
 -- What is settled by one outcome.
-use Rattle.std.specs.Prelude.{◌≡◌, ℕ, ◌≤◌, false, Some, length, refl}
-use Rattle.std.proofs.Common.{ap, arith, inl, inr}
+use Rattle.std.specs.Prelude.{◌≡◌, ℕ, ◌≤◌, false, Some, List, [], length, refl}
+use Rattle.std.proofs.Common.{ap, subst, arith, inl, inr}
 use Rattle.std.proofs.lemmas.List.{length-map}
 use Rattle.chart_model.specs.Chart as model
-use Rattle.chart_model.specs.At.{from_get}
+use Rattle.chart_model.specs.At.{At, from_get}
 use Rattle.chart_model.proofs.Kept.{more_tasks}
 use Rattle.chart_core.specs.declared.chart.Core.{Core}
 use Rattle.chart_core.specs.declared.Caller.{Caller}
 use Rattle.chart_core.specs.declared.Entered.{Entered}
 use Rattle.chart_core.specs.declared.Entered.TheVariants as entered
+use Rattle.chart_core.specs.declared.Outcome.{Outcome}
+use Rattle.chart_core.specs.declared.Outcome.TheVariants as outcomes
+use Rattle.chart_core.specs.declared.Verdict.{Verdict}
 use Rattle.chart_core.specs.Grammar.{Grammar}
 use Rattle.chart_core.specs.View.{task_of}
 use Rattle.chart_core.specs.CoreView.{chart_of, limits_of, leaves_of, caller_of}
 use Rattle.chart_core.specs.Steps.{IsRightAt, Answers}
-use Rattle.chart_core.specs.Calls.{ChangesBy}
+use Rattle.chart_core.specs.Calls.{ChangesBy, AreRightVerdicts}
 use Rattle.chart_core.specs.Passing.{IsSettled, was_done, by_step, StaysOver}
 use Rattle.chart_core.proofs.Commute.{adds_open, adds_skipped}
 
@@ -35,3 +38,13 @@ module _ {X T C W B M : Type 0} (g : Grammar T M C) (old new : Core X T C W B) (
 
   pub stays_over : IsSettled g old t o new → limits_of new ≡ limits_of old → leaves_of g.meaning new ≡ leaves_of g.meaning old → StaysOver g old new
   stays_over s limits leaves = record { limits_same = limits; leaves_same = leaves; more = let n = tasks_grow s in let a = length-map old.tasks.items task_of in let b = length-map new.tasks.items task_of in omega (arith, n, a, b) }
+
+-- where there is no verdict, each is right
+module _ {X T C W B M : Type 0} (g : Grammar T M C) (core : Core X T C W B) where
+  pub none_wrong : (o : Outcome X T C W B) (verdicts : List Verdict) → verdicts ≡ [] → AreRightVerdicts g core o verdicts
+  none_wrong (outcomes.Fails) vs e = tt
+  none_wrong (outcomes.Fits c) vs e = tt
+  none_wrong (outcomes.Whole c s) vs e = λ i v row a b. absurd (no_place (subst (λ xs. At xs i v) e a))
+    where
+      no_place : {i : ℕ} {v : Verdict} → At [] i v → ⊥
+      no_place a = elim a [ ]

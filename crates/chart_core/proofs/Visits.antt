@@ -19,7 +19,8 @@ use Rattle.chart_core.specs.CoreView.{chart_of, limits_of, leaves_of}
 use Rattle.chart_core.specs.Kept.{IsCore, tasks_of}
 use Rattle.chart_core.specs.Outcomes.{outcome_seen}
 use Rattle.chart_core.specs.Steps.{IsDoneAt}
-use Rattle.chart_core.specs.Noted.{noted, IsAfter, Adds, Takes}
+use Rattle.chart_core.specs.Noted.{noted, SameNotes, IsAfter, Adds, Takes}
+use Rattle.chart_core.proofs.Keyed.{noted_same, noted_back}
 use Rattle.chart_core.specs.Passing.{IsHostless, IsMother, IsSettled, was_done, by_step, StaysOver, IsSure, IsTaking, IsEntering, IsPassing}
 use Rattle.chart_core.proofs.Facts.{facts_in}
 use Rattle.chart_core.proofs.Decide.{leaves_proper}
@@ -116,6 +117,20 @@ module _ {X T C W B M : Type 0} (g : Grammar T M C) (laws : Laws g.calculus) whe
         no_itself : IsFrom old.size (old.level + 1) old.size old.level → ⊥
         no_itself (inl p) = absurd (omega arith)
         no_itself (inr p) = absurd (let q = p.1 in omega arith)
+
+    -- the same where the same tasks are noted
+    module _ (notes : Notes) (h : SameNotes old.notes notes) where
+      pub sure_same : IsSure g (record { core = old.core; notes = notes; size = old.size; level = old.level; seen = old.seen })
+      sure_same = record { core = sure.core; true_notes = λ t s v n. sure.true_notes t s v (noted_back old.notes notes h t s v n); inside = sure.inside }
+
+      pub note_same : (n l t : ℕ) → IsNoted g.calculus (ch old.core) notes_of n l t → IsNoted g.calculus (ch old.core) (noted notes) n l t
+      note_same n l t x = record { size = x.size; level = x.level; note = noted_same old.notes notes h t x.size x.level x.note; late = x.late }
+
+      pub made_same : IsEntering g old → IsAfter notes old.size (old.level + 1) → IsTaking g (record { core = old.core; notes = notes; size = old.size; level = old.level; seen = old.seen }) (tasks_of old.core) 1
+      made_same entering after = record {
+        after = after;
+        taken = λ t task a d. elim ((made_all entering (λ u s v n. after u s v (noted_same old.notes notes h u s v n))).taken t task a d) [ inl x ↦ inl (note_same old.size (old.level + 1) t x) | inr w ↦ inr w ];
+      }
 
     -- the task that is taken out was made
     module _ (notes : Notes) (t : ℕ) (takes : Takes old.notes t old.size old.level notes) where

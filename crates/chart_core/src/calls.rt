@@ -133,7 +133,7 @@ impl<S: Shapes> Core<S> {
     }
 
     // Enters the outcome of a task whose daughters are all live.
-    fn enter_open(
+    pub(crate) fn enter_open(
         &mut self,
         alloc: Global,
         shapes: &S,

@@ -36,7 +36,6 @@ mod tasks;
 mod telling;
 mod tuples;
 mod verdicts;
-mod worker;
 
 /// The number of a row of a chart.
 #[derive(Drop, Clone, Copy, PartialEq, Eq)]

@@ -34,7 +34,7 @@ pub fn ordered_pass<S: Shapes>(
         (IsPassFault (S.calculus shapes.now) (limits_seen limits.now) (map (leaf_seen (S.meaning shapes.now)) leaves.items)) }
 {
     let mut pass = begin(alloc, leaves, shapes, work, limits)?;
-    while let Some((size, level)) = pass.notes.next() {
+    while let Some((size, level)) = pass.next(shapes) {
         if let Some(fault) = pass.fault_before(shapes, size, level) {
             return Err(fault);
         }
@@ -78,13 +78,30 @@ impl<S: Shapes> Pass<S> {
     ghost use Rattle.chart_core.specs.Passed.{IsPassed, IsPassFault};
     ghost use Rattle.chart_core.specs.Passing.{IsPassing, StaysOver};
 
-    // The answer of the limits, where one is broken below the next size; asked once for each size.
+    // The next size and level by which mothers are due.
+    fn next(&mut self, _shapes: &S) -> Option<(u32, u32)>
+        requires passing { IsPassing (grammar_of S.Shapes S.Cover.Cover.own _shapes.now) self.old }
+        ensures passing { IsPassing (grammar_of S.Shapes S.Cover.Cover.own _shapes.now) self.new }
+        ensures core { self.new.core ≡ self.old.core }
+        ensures place { (self.new.size ≡ self.old.size) × (self.new.level ≡ self.old.level) }
+        ensures next { MatchOption result (IsEmpty self.new.notes) (λ n. IsNext self.new.notes n.0 n.1) }
+    {
+        self.notes.next()
+    }
+
+    // Whether the mothers made so far may break a limit: there were more hosts than the limit, or the last mothers stand above more
+    // unary rules than it. Levels rise within a size, and so does the number of hosts that were ever made.
+    fn may_be_over(&self) -> bool {
+        self.core.made > u64::from(self.core.edges) || self.level > self.core.unary
+    }
+
+    // The answer of the limits, where one is broken below the next size; asked once for each size by which one may be.
     fn fault_before(&self, _shapes: &S, size: u32, _level: u32) -> Option<ChartFault>
         requires passing { IsPassing (grammar_of S.Shapes S.Cover.Cover.own _shapes.now) self.now }
         requires next { IsNext self.now.notes size _level }
         ensures { MatchOption result (Unit {0}) (IsPassFault (S.calculus _shapes.now) (limits_of self.now.core) (leaves_of (S.meaning _shapes.now) self.now.core)) }
     {
-        if size == self.size {
+        if size == self.size || !self.may_be_over() {
             return None;
         }
         fault_below(

@@ -132,9 +132,46 @@ impl<S: Shapes> Core<S> {
         ensures over { OnOk result (StaysOver (grammar_of S.Shapes S.Cover.Cover.own shapes.now) self.old self.new) }
         ensures settled { OnOk result ((o : _) × IsSettled (grammar_of S.Shapes S.Cover.Cover.own shapes.now) self.old task.0 o self.new) }
     {
-        let outcome = self.work_out(alloc, shapes, work, task)?;
-        self.settle(alloc, shapes, work, task, outcome)?;
-        Ok(())
+        match self.standing(shapes, task) {
+            Standing::Done(_) => Ok(()),
+            Standing::Skipped(_) => {
+                self.settle(alloc, shapes, work, task, Outcome::Fails)?;
+                Ok(())
+            }
+            Standing::Open(rule, daughters) => {
+                self.make_open(alloc, shapes, work, task, rule, daughters)
+            }
+        }
+    }
+
+    // Works out a task whose daughters are live, and enters its outcome, however many rows became hosts.
+    fn make_open(
+        &mut self,
+        alloc: Global,
+        shapes: &S,
+        work: &mut S::Work,
+        task: TaskId,
+        rule: u32,
+        daughters: Daughters,
+    ) -> Result<(), NoMemory>
+        requires core { IsCore (grammar_of S.Shapes S.Cover.Cover.own shapes.now) self.old }
+        requires open { IsReady (grammar_of S.Shapes S.Cover.Cover.own shapes.now) self.old task.0 rule daughters }
+        ensures core { OnOk result (IsCore (grammar_of S.Shapes S.Cover.Cover.own shapes.now) self.new) }
+        ensures over { OnOk result (StaysOver (grammar_of S.Shapes S.Cover.Cover.own shapes.now) self.old self.new) }
+        ensures settled { OnOk result ((o : _) × IsSettled (grammar_of S.Shapes S.Cover.Cover.own shapes.now) self.old task.0 o self.new) }
+    {
+        let parts = tuple_of(alloc, &self.rows, shapes, &daughters)?;
+        let outcome = outcome_of(alloc, shapes, work, rule, &parts)?;
+        let tested = Tested {
+            verdicts: Vec::new(alloc),
+        };
+        let by = Caller { seat: 0, count: 0 };
+        match self.enter_open(
+            alloc, shapes, work, task, rule, daughters, outcome, by, &tested, false,
+        ) {
+            Entered::NoMemory => Err(NoMemory),
+            _ => Ok(()),
+        }
     }
 }
 
@@ -163,7 +200,7 @@ impl<S: Shapes> Pass<S> {
         match found {
             Found::Done => Ok(()),
             Found::Mother { size, level } => {
-                self.notes.add(size, level, task)?;
+                self.notes.add(alloc, size, level, task)?;
                 Ok(())
             }
             Found::Enters { outcome } => {

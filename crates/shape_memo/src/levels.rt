@@ -18,6 +18,10 @@ pub const FIRST_SLOTS: usize = 1024;
 /// How many slots of a level are looked at for a hash.
 const WINDOW: usize = 4;
 
+/// Other answers have all places of an answer in some slots.
+#[derive(Drop)]
+pub struct Full;
+
 /// A rule for slots: an answer is of the shapes that the slot is for, and right.
 pub struct OfShapes;
 
@@ -94,7 +98,9 @@ fn place(hash: u64, after: usize, count: usize) -> usize
     (folded as usize).wrapping_add(after) % count
 }
 
-/// What an answer in these slots says of a rule with these daughters.
+/// What an answer in these slots says of a rule with these daughters: none where a place for it is still free, and `Full` where
+/// other answers have all its places. Places are filled in order and stay so, level by level; thus where one is free, no later
+/// place has the answer.
 pub fn look<'m, S: Marked, C>(
     slots: &'m [Slot<S>],
     shapes: &S,
@@ -102,22 +108,24 @@ pub fn look<'m, S: Marked, C>(
     hash: u64,
     rule: u32,
     parts: &Tuple<S::Shape, C>,
-) -> Option<&'m Outcome<S::Shape>>
+) -> Result<Option<&'m Outcome<S::Shape>>, Full>
     requires tags { AreTagged (stamp.now.of ∷ []) slots.now }
     requires shapes { stamp.now.value.value ≡ shapes.now }
-    ensures { IfSome result (λ o. IsRightFor (S.calculus shapes.now) (S.meaning shapes.now) (S.belongs shapes.now) rule parts.now o.now) }
+    ensures { IfOk result (λ told. IfSome told (λ o. IsRightFor (S.calculus shapes.now) (S.meaning shapes.now) (S.belongs shapes.now) rule parts.now o.now)) }
 {
     if slots.is_empty() {
-        return None;
+        return Err(Full);
     }
     for after in 0..WINDOW {
         let slot = &slots[place(hash, after, slots.len())];
-        let answer = slot.get()?;
+        let Some(answer) = slot.get() else {
+            return Ok(None);
+        };
         if let Some(outcome) = answer.told(shapes, stamp, hash, rule, parts) {
-            return Some(outcome);
+            return Ok(Some(outcome));
         }
     }
-    None
+    Err(Full)
 }
 
 /// Puts an answer into one of these slots, or hands it back where none is free.

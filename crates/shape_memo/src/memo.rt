@@ -88,8 +88,8 @@ impl<S: Marked> Memo<S> {
     {
         for level in &self.levels {
             let slots = level.get()?;
-            if let Some(outcome) = look(slots, shapes, &self.stamp, hash, rule, parts) {
-                return Some(outcome);
+            if let Ok(told) = look(slots, shapes, &self.stamp, hash, rule, parts) {
+                return told;
             }
         }
         None

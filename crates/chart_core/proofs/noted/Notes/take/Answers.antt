@@ -1,17 +1,13 @@
-use Rattle.std.proofs.Common.{refl}
-use Rattle.chart_core.proofs.Keyed.{is_later, is_popped, is_taken}
+use Rattle.std.proofs.Common.{Some, is_some, sym, ap}
+use Rattle.chart_core.proofs.Keyed.{none_taken, taken_at}
 use Rattle.chart_core.proofs.noted.Notes.take.Goals as goal
-use Rattle.chart_core.proofs.noted.Notes.take.Goals.{then-first_size-size-via-then-first_size-size, then-first_size-size-via-else-first_size-size+then-first_level-level}
 
-pub returns-then-first_size-size : goal.returns-then-first_size-size
-returns-then-first_size-size c =
-    let first = c.in_ok-first_size.field-0.now in (
-      refl,
-      is_later c.args.self.now c.args.size c.args.level first c.requires c.in_ok-first_size.ensures.first c.in_ok-first_size.ensures.all_from
-          (λ p q. elim c.then-first_size-size.branch [ then-first_size-size-via-then-first_size-size w ↦ absurd (w.if-first_size-size.true p) | then-first_size-size-via-else-first_size-size+then-first_level-level w ↦ absurd (w.if-first_level-level.true q) ]),
-    )
+pub returns-in_err-list : goal.returns-in_err-list
+returns-in_err-list c = none_taken c.args.self.now _ c.args.size c.args.level _ c.from_residual.ensures c.get_mut.follows.holds-at-none (sym c.in_err-list.ensures.value) c.requires
 
 pub returns : goal.returns
 returns c =
-    is_taken c.args.self.now _ c.in_ok-task.task c.args.size c.args.level
-    (is_popped c.args.self.now.keys.keys c.pop_first.new.self.keys c.in_ok-first_size.field-0.now _ c.in_ok-task.task c.args.size c.args.level c.in_ok-first_size.ensures.first c.in_ok-task.ensures.removal c.if-first_size-size.false c.if-first_level-level.false refl)
+    let list = c.in_ok-list.list.now in
+    let found = sym c.in_ok-list.ensures.value in
+    taken_at c.args.self.now _ c.args.size c.args.level (Some list) (Some c.pop_front.new.self) found
+    ((c.get_mut.follows.holds c.pop_front.new.self).3 (ap is_some found)).0 c.pop_front.result _ _ list.ok.0 c.pop_front.ensures.items c.pop_front.ensures.cases c.requires

@@ -1,5 +1,6 @@
+use Rattle.std.proofs.Common.{length}
 use Rattle.chart_core.specs.Grammar.{grammar_of}
-use Rattle.chart_core.specs.Noted.{notes_len}
+use Rattle.chart_core.specs.Noted.{tasks_at}
 use Rattle.chart_core.specs.Passing.{IsSure, GoesOn, IsEntering}
 use Rattle.chart_core.proofs.passing.Pass.make_due.Given as goal
 
@@ -13,4 +14,4 @@ invariant-loop-task g l =
     }
 
 abbrev pub decreases-loop-task : goal.decreases-loop-task
-decreases-loop-task g l = notes_len l.self.notes
+decreases-loop-task g l = length (tasks_at l.self.notes l.self.size l.self.level)
