@@ -1,4 +1,5 @@
 pub mod Turning
+pub mod Looking
 pub mod Faults
 pub mod Firsts
 pub mod Seated

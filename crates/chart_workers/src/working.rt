@@ -11,9 +11,9 @@ use crate::over::{ChartOver, look};
 use crate::priority::Rank;
 use crate::pushing::{push_all, ranked};
 use crate::turns::turn;
-use chart_core::{Entered, TaskId};
-use cover::Shapes;
-use shared_chart::{ChartSeat, SharedChart, Unready};
+use chart_core::{Entered, TaskId, TaskInfo};
+use cover::{NoMemory, Shapes};
+use shared_chart::{ChartSeat, Informed, SharedChart, Unready};
 use std::alloc::Global;
 use std::sync::Wait;
 use task_pool::PoolSeat;
@@ -86,17 +86,18 @@ fn enter_one<R: Wait, S: Shapes>(
     shapes: &S,
     work: &mut S::Work,
     task: TaskId,
-) -> Result<Entered, Turned>
+    infos: &mut Vec<TaskInfo>,
+) -> Result<Informed, Turned>
     requires seat { seat_id seat.old ≡ chart_id chart.now }
     requires shapes { shapes.now ≡ shapes_of seat.old }
     requires core { IsCore (grammar_of S.Shapes S.Cover.Cover.own shapes.now) (state_of seat.old) }
     ensures seat { GoesOn (grammar_of S.Shapes S.Cover.Cover.own shapes.now) seat.old seat.new }
-    ensures entered { IfOk result (EntersOn (grammar_of S.Shapes S.Cover.Cover.own shapes.now) seat.new) }
+    ensures entered { IfOk result (λ informed. EntersOn (grammar_of S.Shapes S.Cover.Cover.own shapes.now) seat.new informed.entered) }
     ensures turned { IfErr result (TurnsTo (grammar_of S.Shapes S.Cover.Cover.own shapes.now) seat.new) }
 {
     for _ in rt.forever() {
-        match turn(rt, alloc, chart, seat, shapes, work, task) {
-            Ok(entered) => return Ok(entered),
+        match turn(rt, alloc, chart, seat, shapes, work, task, infos) {
+            Ok(informed) => return Ok(informed),
             Err(Unready::NoMemory) => return Err(Turned::NoMemory),
             Err(Unready::Unmade { tasks: _ }) => {
                 if look(rt, chart, seat) {
@@ -108,6 +109,22 @@ fn enter_one<R: Wait, S: Shapes>(
     unreachable!()
 }
 
+// Pushes the tasks from this one on that the list tells of, in the order of their ranks.
+fn push_new<P: Rank>(
+    alloc: Global,
+    pool: &mut PoolSeat,
+    kept: &mut Vec<TaskId>,
+    priority: &P,
+    infos: &Vec<TaskInfo>,
+    first: TaskId,
+) -> Result<(), NoMemory> {
+    if infos.is_empty() {
+        return Ok(());
+    }
+    let tasks = ranked(alloc, priority, infos, first.0)?;
+    push_all(pool, kept, &tasks)
+}
+
 // One task, and the tasks that it makes are pushed.
 fn one_task<R: Wait, S: Shapes, P: Rank>(
     rt: &R,
@@ -116,6 +133,7 @@ fn one_task<R: Wait, S: Shapes, P: Rank>(
     seat: &mut ChartSeat<S>,
     pool: &mut PoolSeat,
     kept: &mut Vec<TaskId>,
+    infos: &mut Vec<TaskInfo>,
     shapes: &S,
     work: &mut S::Work,
     priority: &P,
@@ -127,24 +145,22 @@ fn one_task<R: Wait, S: Shapes, P: Rank>(
     ensures seat { GoesOn (grammar_of S.Shapes S.Cover.Cover.own shapes.now) seat.old seat.new }
     ensures turned { TurnsTo (grammar_of S.Shapes S.Cover.Cover.own shapes.now) seat.new result }
 {
-    match enter_one(rt, alloc, chart, seat, shapes, work, task) {
+    match enter_one(rt, alloc, chart, seat, shapes, work, task, infos) {
         Err(turned) => turned,
-        Ok(Entered::Full { made }) => Turned::Full { made },
-        Ok(Entered::NoMemory) => Turned::NoMemory,
-        Ok(
-            Entered::Placed {
-                first_task,
-                end_task,
-                ..
-            },
-        ) => match ranked(rt, alloc, chart, seat, priority, first_task, end_task) {
-            Ok(tasks) => match push_all(pool, kept, &tasks) {
-                Ok(()) => Turned::Goes,
-                Err(_) => Turned::NoMemory,
-            },
-            Err(_) => Turned::NoMemory,
+        Ok(informed) => match informed.entered {
+            Entered::Full { made } => Turned::Full { made },
+            Entered::NoMemory => Turned::NoMemory,
+            Entered::Placed { first_task, .. } => {
+                if informed.told.is_err() {
+                    return Turned::NoMemory;
+                }
+                match push_new(alloc, pool, kept, priority, infos, first_task) {
+                    Ok(()) => Turned::Goes,
+                    Err(_) => Turned::NoMemory,
+                }
+            }
+            Entered::Stale { .. } | Entered::Skipped { .. } | Entered::Noted { .. } => Turned::Goes,
         },
-        Ok(Entered::Stale { .. } | Entered::Skipped { .. } | Entered::Noted { .. }) => Turned::Goes,
     }
 }
 
@@ -172,13 +188,14 @@ pub fn work<R: Wait, S: Shapes, P: Rank>(
     ensures { EndsAs (grammar_of S.Shapes S.Cover.Cover.own shapes.now) seat.old result seat.new }
 {
     let mut kept = kept;
+    let mut infos = Vec::new(alloc);
     for _ in rt.forever() {
         let Some(task) = take(rt, chart, seat, pool, &mut kept) else {
             return last(rt, chart, seat);
         };
         gate.at(number, task.0);
         match one_task(
-            rt, alloc, chart, seat, pool, &mut kept, shapes, work, priority, task,
+            rt, alloc, chart, seat, pool, &mut kept, &mut infos, shapes, work, priority, task,
         ) {
             Turned::Goes => {}
             Turned::Over => return last(rt, chart, seat),

@@ -18,7 +18,7 @@ use std::alloc::Global;
 use std::sync::Wait;
 
 // How a task stands, where it is made.
-fn told<S: Shapes>(
+pub(crate) fn told<S: Shapes>(
     alloc: Global,
     core: &Core<S>,
     shapes: &S,

@@ -1,13 +1,13 @@
 //! What there is to know of tasks that were made together.
-ghost use Rattle.std.specs.Prelude.{◌≡◌, ◌++◌, ◌∷◌, [], IfOk, IfErr, OnOk};
+ghost use Rattle.std.specs.Prelude.{◌≡◌, ◌≤◌, ◌++◌, ◌∷◌, [], IfOk, IfErr, OnOk};
 ghost use Rattle.chart_core.specs.Grammar.{grammar_of};
 ghost use Rattle.chart_core.specs.Kept.{IsCore, tasks_of};
-ghost use Rattle.shared_chart.specs.Infos.{AreInfos, AreUnready};
+ghost use Rattle.shared_chart.specs.Infos.{AreInfos, AreNewInfos, AreMade, AreUnready};
 
 use crate::seat::ChartSeat;
 use crate::shared::SharedChart;
 use crate::unready::Unready;
-use chart_core::{Core, TaskId, TaskInfo};
+use chart_core::{Core, Entered, TaskId, TaskInfo};
 use cover::{NoMemory, Shapes};
 use std::alloc::Global;
 use std::sync::Wait;
@@ -17,6 +17,49 @@ fn add(infos: &mut Vec<TaskInfo>, info: TaskInfo) -> Result<(), NoMemory>
 {
     infos.push(info)?;
     Ok(())
+}
+
+// Writes what there is to know of each task from one to before another, all of which are made, into a list that is empty yet.
+fn inform_each<S: Shapes>(
+    core: &Core<S>,
+    first: TaskId,
+    end: TaskId,
+    infos: &mut Vec<TaskInfo>,
+) -> Result<(), NoMemory>
+    requires core { (s : S) × IsCore (grammar_of S.Shapes S.Cover.Cover.own s) core.now }
+    requires made { end.0 ≤ tasks_of core.now }
+    requires empty { infos.old.items ≡ [] }
+    ensures { OnOk result (AreInfos S.Cover.extent core.now first.0 end.0 infos.new.items) }
+{
+    for number in first.0..end.0 {
+        add(infos, core.task(TaskId(number)))?;
+    }
+    Ok(())
+}
+
+// Writes what there is to know of the tasks that entering an outcome has made, in the place of what the list has.
+pub(crate) fn inform_new<S: Shapes>(
+    core: &Core<S>,
+    entered: Entered,
+    infos: &mut Vec<TaskInfo>,
+) -> Result<(), NoMemory>
+    requires core { (s : S) × IsCore (grammar_of S.Shapes S.Cover.Cover.own s) core.now }
+    requires made { AreMade core.now entered }
+    ensures { OnOk result (AreNewInfos S.Cover.extent core.now entered infos.new.items) }
+{
+    infos.clear();
+    match entered {
+        Entered::Placed {
+            first_task,
+            end_task,
+            ..
+        } => inform_each(core, first_task, end_task, infos),
+        Entered::Stale { .. }
+        | Entered::Skipped { .. }
+        | Entered::Noted { .. }
+        | Entered::Full { .. }
+        | Entered::NoMemory => Ok(()),
+    }
 }
 
 // What there is to know of each task from one to before another, where all are made, in a list that is empty yet.
@@ -35,9 +78,7 @@ fn inform_all<S: Shapes>(
     if end.0 > tasks {
         return Err(Unready::Unmade { tasks });
     }
-    for number in first.0..end.0 {
-        add(&mut infos, core.task(TaskId(number)))?;
-    }
+    inform_each(core, first, end, &mut infos)?;
     Ok(infos)
 }
 

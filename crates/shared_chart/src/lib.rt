@@ -2,6 +2,8 @@
 #![tactic(auto)]
 
 pub use chart::{Call, Chart};
+pub use informed::Informed;
+pub use look::{Cell, Look};
 pub use seat::ChartSeat;
 pub use shared::SharedChart;
 pub use unready::Unready;
@@ -10,7 +12,10 @@ mod calls;
 mod chart;
 mod ends;
 mod entering;
+mod informed;
 mod informing;
+mod look;
+mod looking;
 mod seat;
 mod shared;
 mod stopping;

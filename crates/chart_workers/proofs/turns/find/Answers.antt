@@ -1,41 +1,14 @@
-use Rattle.std.proofs.Common.{subst, inr}
+use Rattle.std.proofs.Common.{subst}
 use Rattle.chart_core.specs.Grammar.{grammar_of}
 use Rattle.chart_core.specs.declared.Outcome.TheVariants as outcomes
 use Rattle.chart_core.specs.Later.{StaysRight}
 use Rattle.chart_workers.proofs.turns.find.Goals as goal
 
-pub returns-in-Done-clause-found : goal.returns-in-Done-clause-found
-returns-in-Done-clause-found g c =
-    let e = c.in_ok-ready.ensures in record {
-      core = e.sees.core;
-      made = e.tells.0;
-      right = λ x is later. subst (λ r. StaysRight (grammar_of g.S.Shapes g.S.Cover.Cover c.args.shapes.now) x c.args.task.0 r) c.in-Done.is (e.stays x is later) outcomes.Fails;
-      belongs = tt;
-    }
+pub returns-in-Done-clause-right : goal.returns-in-Done-clause-right
+returns-in-Done-clause-right g c = λ x t stays. subst (λ r. StaysRight (grammar_of g.S.Shapes g.S.Cover.Cover c.args.shapes.now) x t r) c.in-Done.is stays outcomes.Fails
 
-pub returns-in-Skipped-clause-found : goal.returns-in-Skipped-clause-found
-returns-in-Skipped-clause-found g c =
-    let e = c.in_ok-ready.ensures in record {
-      core = e.sees.core;
-      made = e.tells.0;
-      right = λ x is later. subst (λ r. StaysRight (grammar_of g.S.Shapes g.S.Cover.Cover c.args.shapes.now) x c.args.task.0 r) c.in-Skipped.is (e.stays x is later) outcomes.Fails;
-      belongs = tt;
-    }
+pub returns-in-Skipped-clause-right : goal.returns-in-Skipped-clause-right
+returns-in-Skipped-clause-right g c = λ x t stays. subst (λ r. StaysRight (grammar_of g.S.Shapes g.S.Cover.Cover c.args.shapes.now) x t r) c.in-Skipped.is stays outcomes.Fails
 
-pub returns-then-may-clause-found : goal.returns-then-may-clause-found
-returns-then-may-clause-found g c =
-    let e = c.in_ok-ready.ensures in let o = c.in_ok-outcome-in-Ready.ensures in record {
-      core = e.sees.core;
-      made = e.tells.0;
-      right = λ x is later. subst (λ r. StaysRight (grammar_of g.S.Shapes g.S.Cover.Cover c.args.shapes.now) x c.args.task.0 r) c.in-Ready.is (e.stays x is later) _ o.right;
-      belongs = o.belongs;
-    }
-
-pub returns-clause-found : goal.returns-clause-found
-returns-clause-found g c =
-    let e = c.in_ok-ready.ensures in record {
-      core = e.sees.core;
-      made = e.tells.0;
-      right = λ x is later. subst (λ r. StaysRight (grammar_of g.S.Shapes g.S.Cover.Cover c.args.shapes.now) x c.args.task.0 r) c.in-Ready.is (e.stays x is later) outcomes.Fails (inr (c.may.ensures c.if-may.false));
-      belongs = tt;
-    }
+pub returns-in_ok-outcome-in-Ready-clause-right : goal.returns-in_ok-outcome-in-Ready-clause-right
+returns-in_ok-outcome-in-Ready-clause-right g c = λ x t stays. subst (λ r. StaysRight (grammar_of g.S.Shapes g.S.Cover.Cover c.args.shapes.now) x t r) c.in-Ready.is stays _ c.in_ok-outcome-in-Ready.ensures.right

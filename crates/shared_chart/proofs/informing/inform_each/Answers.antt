@@ -1,6 +1,6 @@
 use Rattle.std.proofs.Common.{arith}
-use Rattle.shared_chart.proofs.Informed.{more_infos}
-use Rattle.shared_chart.proofs.informing.inform_all.Goals as goal
+use Rattle.shared_chart.proofs.Inform.{more_infos}
+use Rattle.shared_chart.proofs.informing.inform_each.Goals as goal
 
 pub loop-number-preserved : goal.loop-number-preserved
 loop-number-preserved g c =

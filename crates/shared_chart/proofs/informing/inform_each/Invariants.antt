@@ -1,6 +1,6 @@
 use Rattle.std.proofs.Common.{◌≡◌, ◌≤◌, ◌+◌, ◌-◌}
 use Rattle.shared_chart.specs.Infos.{AreInfos}
-use Rattle.shared_chart.proofs.informing.inform_all.Given as goal
+use Rattle.shared_chart.proofs.informing.inform_each.Given as goal
 
 abbrev pub invariant-loop-number : goal.invariant-loop-number
 invariant-loop-number g l = record {

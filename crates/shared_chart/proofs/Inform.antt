@@ -3,7 +3,17 @@ use Rattle.std.proofs.Common.{◌≡◌, ◌∙◌, sym, ap, refl, subst, ℕ, z
 use Rattle.chart_core.specs.declared.chart.Core.{Core}
 use Rattle.chart_core.specs.declared.TaskInfo.{TaskInfo}
 use Rattle.chart_core.specs.Calls.{IsInfo}
-use Rattle.shared_chart.specs.Infos.{AreInfos}
+use Rattle.std.proofs.lemmas.List.{length-map}
+use Rattle.chart_core.specs.declared.Caller.{Caller}
+use Rattle.chart_core.specs.declared.Entered.{Entered}
+use Rattle.chart_core.specs.declared.Entered.TheVariants as entered
+use Rattle.chart_core.specs.declared.Outcome.{Outcome}
+use Rattle.chart_core.specs.Grammar.{Grammar}
+use Rattle.chart_core.specs.Kept.{tasks_of}
+use Rattle.chart_core.specs.View.{task_of}
+use Rattle.chart_core.specs.CoreView.{chart_of}
+use Rattle.chart_core.specs.Calls.{IsAnswer, Changes}
+use Rattle.shared_chart.specs.Infos.{AreInfos, AreMade}
 
 -- an element of a list that has one more is that one, or one of the rest
 at_end : {A : Type 0} (xs : List A) (x : A) (i : ℕ) (y : A) → slice_get (xs ++ x ∷ []) i ≡ Some y → (slice_get xs i ≡ Some y) ⊎ ((length xs ≡ i) × (x ≡ y))
@@ -34,3 +44,14 @@ module _ {X T C W B : Type 0} where
   -- the end is where it was reached, or before the beginning
   pub all_infos : (extent : C → ℕ) (core : Core X T C W B) (first n end : ℕ) (xs : List TaskInfo) → n - first ≡ end - first → AreInfos extent core first n xs → AreInfos extent core first end xs
   all_infos extent core first n end xs same are = record { count = are.count ∙ same; each = are.each }
+
+module _ {X T C W B M : Type 0} (g : Grammar T M C) where
+  -- the tasks that an answer says were made are there
+  pub made_there : (old new : Core X T C W B) (t : ℕ) (o : Outcome X T C W B) (by : Caller) (answer : Entered) → IsAnswer g old t o by answer → Changes g old t o by answer new → AreMade new answer
+  made_there old new t o by (entered.Stale place) is ch = tt
+  made_there old new t o by (entered.Skipped place row) is ch = tt
+  made_there old new t o by (entered.Noted place) is ch = tt
+  made_there old new t o by (entered.Full made) is ch = tt
+  made_there old new t o by (entered.Placed place row first end) is ch =
+      let a = is.end_is in let b = ap (λ c. length c.tasks) ch.chart in let d = length-map new.tasks.items task_of in omega arith
+  made_there old new t o by (entered.NoMemory) is ch = tt

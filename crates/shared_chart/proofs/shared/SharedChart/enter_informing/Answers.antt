@@ -1,4 +1,4 @@
-use Rattle.std.proofs.Common.{◌≡◌, ◌∙◌, is_some, length, ap, sym, refl, subst, arith, length-append, [], ◌∷◌, ◌++◌}
+use Rattle.std.proofs.Common.{◌≡◌, ◌∙◌, OnOk, is_some, length, ap, sym, refl, subst, arith, length-append, [], ◌∷◌, ◌++◌}
 use lib.ListN.{get_elem?}
 use Rattle.turn_lock.specs.Seats.{own_calls}
 use Rattle.turn_lock.proofs.Knowing.{knows_of, sole_is, present_same}
@@ -14,8 +14,10 @@ use Rattle.shared_chart.specs.Seats.{shapes_of, state_of, made_by}
 use Rattle.shared_chart.specs.Told.{call_added, caller_by, caller_now}
 use Rattle.shared_chart.specs.Times.{ComesAfter}
 use Rattle.shared_chart.proofs.Seen.{stands_there, later_there, back_there}
+use Rattle.shared_chart.specs.Infos.{AreNewInfos}
 use Rattle.shared_chart.proofs.Grown.{calls_grow, entered_later}
-use Rattle.shared_chart.proofs.shared.SharedChart.enter_tested.Goals as goal
+use Rattle.shared_chart.proofs.Inform.{made_there}
+use Rattle.shared_chart.proofs.shared.SharedChart.enter_informing.Goals as goal
 
 pub enter_tested-entered-requires-clause-core : goal.enter_tested-entered-requires-clause-core
 enter_tested-entered-requires-clause-core g c = subst (λ s. IsCore (grammar_of g.S.Shapes g.S.Cover.Cover s) c.enter-chart.result.1.core) (sym c.requires.shapes) (stands_there c.enter-chart.ensures.seat.4 (knows_of c.args.seat.now))
@@ -104,8 +106,8 @@ invariant_of-seat g c =
       single = ap (λ m. length m.0.seen) n;
     }
 
-pub returns-then-adds : goal.returns-then-adds
-returns-then-adds g c =
+pub returns-then-adds-clause-enters : goal.returns-then-adds-clause-enters
+returns-then-adds-clause-enters g c =
     let e = c.enter-chart.ensures.seat in let h = c.args.seat.now in let a = c.enter_tested-entered.ensures in
     let gr = grammar_of g.S.Shapes g.S.Cover.Cover c.args.shapes.now in
     let by = caller_by h.number h.count in
@@ -128,8 +130,8 @@ returns-then-adds g c =
       set = ap (λ m. m.0.set) n ∙ ap (λ m. m.0.set) e.2;
     }
 
-pub returns-else-adds : goal.returns-else-adds
-returns-else-adds g c =
+pub returns-else-adds-clause-enters : goal.returns-else-adds-clause-enters
+returns-else-adds-clause-enters g c =
     let e = c.enter-chart.ensures.seat in let h = c.args.seat.now in let a = c.enter_tested-entered.ensures in
     let gr = grammar_of g.S.Shapes g.S.Cover.Cover c.args.shapes.now in
     let by = caller_by h.number h.count in
@@ -149,3 +151,25 @@ returns-else-adds g c =
       saw = ap (λ m. m.0.saw) n ∙ ap (λ m. m.0.saw) e.2;
       set = ap (λ m. m.0.set) n ∙ ap (λ m. m.0.set) e.2;
     }
+
+pub inform_new-told-requires : goal.inform_new-told-requires
+inform_new-told-requires g c =
+    let a = c.enter_tested-entered.ensures in let h = c.args.seat.now in record {
+      core = (c.args.shapes.now, a.core);
+      made = made_there (grammar_of g.S.Shapes g.S.Cover.Cover c.args.shapes.now) c.enter-chart.result.1.core c.enter_tested-entered.new.self c.args.task.0 c.args.outcome (caller_by h.number h.count) c.enter_tested-entered.result a.answer a.change;
+    }
+
+pub returns-then-adds-clause-infos : goal.returns-then-adds-clause-infos
+returns-then-adds-clause-infos g c =
+    let e = c.enter-chart.ensures.seat in let h = c.args.seat.now in let a = c.enter_tested-entered.ensures in
+    let gr = grammar_of g.S.Shapes g.S.Cover.Cover c.args.shapes.now in
+    let by = caller_by h.number h.count in
+    let chart = c.enter-chart.result.1 in let new = c.enter_tested-entered.new.self in
+    let call_is = call c.args.task.0 by in
+    let more = calls_grow gr chart.core new c.args.task.0 c.args.outcome by c.enter_tested-entered.result a.change ∙ ap (λ l. calls_of chart.core ++ l) (one_added c.args.task.0 by c.enter_tested-entered.result _ (c.adds.ensures c.args.task.0 by) c.if-adds.true) in
+    let n = c.leave_raised.ensures.seat chart call_is (ap (λ m. m.0.seen) e.2) more in
+    subst (λ x. OnOk c.inform_new-told.result (AreNewInfos g.S.Cover.Cover.extent x.core c.enter_tested-entered.result c.inform_new-told.new.infos.items)) (sym (sole_is _ _ _ (ap (λ m. m.0.seen) n))) c.inform_new-told.ensures
+
+pub returns-else-adds-clause-infos : goal.returns-else-adds-clause-infos
+returns-else-adds-clause-infos g c =
+    subst (λ x. OnOk c.inform_new-told.result (AreNewInfos g.S.Cover.Cover.extent x.core c.enter_tested-entered.result c.inform_new-told.new.infos.items)) (sym (sole_is _ _ _ (ap (λ m. m.0.seen) c.leave.ensures.seat))) c.inform_new-told.ensures

@@ -1,0 +1,10 @@
+//! What entering an outcome did, with what there is to know of its tasks.
+use chart_core::Entered;
+use cover::NoMemory;
+
+/// What entering an outcome did, and whether the list that was lent for it tells of all the tasks that it made.
+#[derive(Drop)]
+pub struct Informed {
+    pub entered: Entered,
+    pub told: Result<(), NoMemory>,
+}
