@@ -1,5 +1,6 @@
 -- Groups, row by row.
 use Rattle.std.specs.Prelude.{◌≡◌, ◌⊎◌, ◌&&◌, ℕ, Bool, true, false, not, is_some, is_none, ◌+◌, ◌<◌, ◌≤◌, List, [], ◌∷◌, ◌++◌, length, map, slice_get, slice_set, Option, Some, None, Result, Ok, Err, OnOk, refl}
+use Rattle.std.specs.List.{insert}
 use Rattle.std.proofs.Common.{Vec, Global, get_or, inl, inr, ap, subst, sym, ◌∙◌, arith, zero, suc}
 use Rattle.std.proofs.lemmas.Bool.{cases_lt}
 use Rattle.cover.specs.Calculus.{Along, along_none, along_more}
@@ -11,16 +12,58 @@ use Rattle.chart_core.specs.declared.Row.{Row}
 use Rattle.chart_core.specs.declared.RowId.{RowId}
 use Rattle.chart_core.specs.View.{into_of, number_of}
 use Rattle.forest_model.specs.Lists as model
-use Rattle.forest_model.proofs.Members.{Either, on_left, on_right, has_append, has_left, has_right, differ_append}
+use Rattle.forest_model.proofs.Members.{Either, on_left, on_right}
 use Rattle.forest_unpack.specs.declared.rows.GroupRow.{GroupRow}
 use Rattle.forest_unpack.specs.Plans.{row_of, told_in, told_at}
-use Rattle.forest_unpack.proofs.Adding.{map_append}
 use Rattle.forest_unpack.proofs.Filling.{told_is}
 use Rattle.forest_unpack.specs.Groups.{told_by, TellsAt, IsFrontGroup, AreFrontGroups, NoRows, Gained}
 
-along_last : {A B : Type 0} (R : A → B → Type 0) {xs : List A} {ys : List B} {x : A} {y : B} → Along R xs ys → R x y → Along R (xs ++ x ∷ []) (ys ++ y ∷ [])
-along_last R along_none r = along_more r along_none
-along_last R (along_more q rest) r = along_more q (along_last R rest r)
+along_insert : {A B : Type 0} (R : A → B → Type 0) (i : ℕ) {xs : List A} {ys : List B} {x : A} {y : B} → Along R xs ys → R x y → Along R (insert xs i x) (insert ys i y)
+along_insert R zero rest r = along_more r rest
+along_insert R (suc i) along_none r = along_more r along_none
+along_insert R (suc i) (along_more q rest) r = along_more q (along_insert R i rest r)
+
+-- what one more at some place changes of a list
+module _ {A : Type 0} where
+  further : {x y : A} {xs zs : List A} → Either x xs zs → Either x (y ∷ xs) zs
+  further (on_left h) = on_left (model.has_there h)
+  further (on_right h) = on_right h
+
+  inserted : (xs : List A) (i : ℕ) (n : A) {x : A} → model.Has x (insert xs i n) → Either x xs (n ∷ [])
+  inserted xs zero n model.has_here = on_right model.has_here
+  inserted xs zero n (model.has_there h) = on_left h
+  inserted [] (suc i) n h = on_right h
+  inserted (y ∷ ys) (suc i) n model.has_here = on_left model.has_here
+  inserted (y ∷ ys) (suc i) n (model.has_there h) = further (inserted ys i n h)
+
+  has_other : (i : ℕ) (n : A) {x : A} {xs : List A} → model.Has x xs → model.Has x (insert xs i n)
+  has_other zero n h = model.has_there h
+  has_other (suc i) n model.has_here = model.has_here
+  has_other (suc i) n (model.has_there h) = model.has_there (has_other i n h)
+
+  has_new : (xs : List A) (i : ℕ) (n : A) → model.Has n (insert xs i n)
+  has_new xs zero n = model.has_here
+  has_new [] (suc i) n = model.has_here
+  has_new (y ∷ ys) (suc i) n = model.has_there (has_new ys i n)
+
+  only : {x n : A} → model.Has x (n ∷ []) → x ≡ n
+  only model.has_here = refl
+  only (model.has_there h) = elim h [ ]
+
+  differ_insert : (xs : List A) (i : ℕ) (n : A) → model.AllDiffer xs → (model.Has n xs → ⊥) → model.AllDiffer (insert xs i n)
+  differ_insert xs zero n d apart = model.differ_more apart d
+  differ_insert [] (suc i) n d apart = model.differ_more (λ x. elim x [ ]) model.differ_none
+  differ_insert (y ∷ ys) (suc i) n (model.differ_more never d) apart =
+      model.differ_more (λ h. neither (inserted ys i n h)) (differ_insert ys i n d (λ h. apart (model.has_there h)))
+    where
+      neither : Either y ys (n ∷ []) → ⊥
+      neither (on_left h) = never h
+      neither (on_right h) = apart (subst (λ z. model.Has z (y ∷ ys)) (only h) model.has_here)
+
+map_insert : {A B : Type 0} (f : A → B) (xs : List A) (i : ℕ) (x : A) → map f (insert xs i x) ≡ insert (map f xs) i (f x)
+map_insert f xs zero x = refl
+map_insert f [] (suc i) x = refl
+map_insert f (y ∷ ys) (suc i) x = ap (λ zs. f y ∷ zs) (map_insert f ys i x)
 
 module _ {X T C W B : Type 0} (rows : List (Row X T C W B)) (h : ℕ) where
   pub front_none : IsFrontGroup rows 0 h []
@@ -55,31 +98,24 @@ module _ {X T C W B : Type 0} (rows : List (Row X T C W B)) (h : ℕ) where
         along = f.along;
       }
 
-  -- a row that counts, in this group
-  pub front_add : (n : ℕ) (told : List model.GroupRow) (g : model.GroupRow) → IsFrontGroup rows n h told →
-      TellsAt rows n g → LeadsTo (into_of rows) n h → IsFrontGroup rows (n + 1) h (told ++ g ∷ [])
-  front_add n told g f tells leads =
+  -- a row that counts, in this group, at some place
+  pub front_add : (n : ℕ) (told : List model.GroupRow) (place : ℕ) (g : model.GroupRow) → IsFrontGroup rows n h told →
+      TellsAt rows n g → LeadsTo (into_of rows) n h → IsFrontGroup rows (n + 1) h (insert told place g)
+  front_add n told place g f tells leads =
       record {
-        numbers = f.numbers ++ n ∷ [];
-        each = λ j x. each_of j (has_append f.numbers x);
+        numbers = insert f.numbers place n;
+        each = λ j x. each_of j (inserted f.numbers place n x);
         all = λ j k low t l.
-            next (model.Has j (f.numbers ++ n ∷ [])) j n low (λ a. has_left (n ∷ []) (f.all j k a t l))
-            (λ e. has_right f.numbers (here e));
-        differ = differ_append f.differ (model.differ_more (λ x. elim x [ ]) model.differ_none) apart;
-        along = along_last (TellsAt rows) f.along tells;
+            next (model.Has j (insert f.numbers place n)) j n low (λ a. has_other place n (f.all j k a t l))
+            (λ e. subst (λ i. model.Has i (insert f.numbers place n)) (sym e) (has_new f.numbers place n));
+        differ = differ_insert f.numbers place n f.differ (λ x. let z = (f.each n x).0 in omega (arith, z));
+        along = along_insert (TellsAt rows) place f.along tells;
       }
     where
-      here : {j : ℕ} → j ≡ n → model.Has j (n ∷ [])
-      here {j = j} e = subst (λ i. model.Has j (i ∷ [])) e model.has_here
-
       each_of : (j : ℕ) → Either j f.numbers (n ∷ []) → (j < n + 1) × LeadsTo (into_of rows) j h
       each_of j (on_left x) = (let z = (f.each j x).0 in omega (arith, z), (f.each j x).1)
       each_of _ (on_right model.has_here) = (omega arith, leads)
       each_of j (on_right (model.has_there x)) = elim x [ ]
-
-      apart : (j : ℕ) → model.Has j f.numbers → model.Has j (n ∷ []) → ⊥
-      apart _ x model.has_here = let z = (f.each n x).0 in omega (arith, z)
-      apart j x (model.has_there y) = elim y [ ]
 
 module _ {A : Type 0} where
   set_here : (xs : List A) (i : ℕ) (v : A) → i < length xs → slice_get (slice_set xs i v) i ≡ Some v
@@ -107,11 +143,12 @@ no_rows_more (g ∷ groups) v e none zero = none zero
 no_rows_more (g ∷ groups) v e none (suc h) = no_rows_more groups v e (λ k. none (suc k)) h
 
 -- one more row in the group of a host
-pub gained : (old new : List (Vec GroupRow Global)) (host : ℕ) (v : Vec GroupRow Global) (row : model.GroupRow) → host < length old → new ≡ slice_set old host v →
-    map row_of v.items ≡ told_at old host ++ row ∷ [] → Gained old host row new
-gained old new host v row low is e =
+pub gained : (old new : List (Vec GroupRow Global)) (host : ℕ) (v : Vec GroupRow Global) (place : ℕ) (row : model.GroupRow) → host < length old → new ≡ slice_set old host v →
+    map row_of v.items ≡ insert (told_at old host) place row → Gained old host row new
+gained old new host v place row low is e =
     record {
       counted = ap length is ∙ set_length old host v;
+      place = place;
       here = ap (λ gs. told_at gs host) is ∙ ap told_in (set_here old host v low) ∙ e;
       others = λ h apart. ap (λ gs. told_at gs h) is ∙ ap told_in (set_other old host v h apart);
     }
@@ -151,7 +188,7 @@ module _ {X T C W B : Type 0} (rows : List (Row X T C W B)) where
   groups_add n groups new host g f gain tells leads = record { counted = gain.counted ∙ f.counted; fronts = λ h. at h (cases_lt h host) (cases_lt host h) }
     where
       same : IsFrontGroup rows (n + 1) host (told_at new host)
-      same = subst (IsFrontGroup rows (n + 1) host) (sym gain.here) (front_add rows host n (told_at groups host) g (f.fronts host) tells leads)
+      same = subst (IsFrontGroup rows (n + 1) host) (sym gain.here) (front_add rows host n (told_at groups host) gain.place g (f.fronts host) tells leads)
 
       other : (h : ℕ) → (h ≡ host → ⊥) → IsFrontGroup rows (n + 1) h (told_at new h)
       other h apart = subst (IsFrontGroup rows (n + 1) h) (sym (gain.others h apart)) (front_skip rows h n (told_at groups h) (f.fronts h) (λ k t l. apart (leads_one l leads)))
@@ -196,11 +233,11 @@ none_is true o e = sym (ap not e)
 none_is false o e = sym (ap not e)
 
 module _ (groups : List (Vec GroupRow Global)) (host : ℕ) (low : host < length groups) where
-  -- one more row at the end of a vector of the groups
-  pub gained_push : (old new : Vec GroupRow Global) (row : GroupRow) → old ≡ get_or groups host old → new.items ≡ old.items ++ row ∷ [] → Gained groups host (row_of row) (slice_set groups host new)
-  gained_push old new row at push =
-      gained groups (slice_set groups host new) host new (row_of row) low refl
-      (ap (map row_of) push ∙ map_append row_of old.items (row ∷ []) ∙ ap (λ (v : Vec GroupRow Global). map row_of v.items ++ row_of row ∷ []) at ∙ ap (λ zs. zs ++ row_of row ∷ []) (sym (told_is groups host old low)))
+  -- one more row in a vector of the groups
+  pub gained_insert : (old new : Vec GroupRow Global) (row : GroupRow) (place : ℕ) → old ≡ get_or groups host old → new.items ≡ insert old.items place row → Gained groups host (row_of row) (slice_set groups host new)
+  gained_insert old new row place at put =
+      gained groups (slice_set groups host new) host new place (row_of row) low refl
+      (ap (map row_of) put ∙ map_insert row_of old.items place row ∙ ap (λ (v : Vec GroupRow Global). insert (map row_of v.items) place (row_of row)) at ∙ ap (λ zs. insert zs place (row_of row)) (sym (told_is groups host old low)))
 
 pub on_ok : {A E P Q : Type 0} (r : Result A E) → (P → Q) → OnOk r P → OnOk r Q
 on_ok (Ok x) f p = f p

@@ -5,6 +5,7 @@ pub mod Adding
 pub mod Growing
 pub mod Filling
 pub mod Sorting
+pub mod Arranging
 pub mod Counting
 pub mod Taking
 pub mod Whole

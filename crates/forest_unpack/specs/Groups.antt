@@ -1,5 +1,6 @@
 -- The rows of groups, as they are told of a chart's rows.
-use Rattle.std.specs.Prelude.{◌≡◌, ℕ, ◌<◌, if◌then◌else◌, Option, List, [], ◌∷◌, ◌++◌, length}
+use Rattle.std.specs.Prelude.{◌≡◌, ℕ, ◌<◌, if◌then◌else◌, Option, List, [], ◌∷◌, length}
+use Rattle.std.specs.List.{insert}
 use Rattle.std.proofs.Common.{Vec, Global}
 use Rattle.cover.specs.Calculus.{Along}
 use Rattle.chart_model.specs.At.{At}
@@ -44,8 +45,9 @@ module _ {X T C W B : Type 0} where
 abbrev pub NoRows : List (Vec GroupRow Global) → Type 0
 NoRows groups = (h : ℕ) → told_at groups h ≡ []
 
--- the group of the host has one row more at its end, the others stayed
+-- the group of the host has one row more at some place, the others stayed
 pub record Gained (old : List (Vec GroupRow Global)) (host : ℕ) (row : model.GroupRow) (new : List (Vec GroupRow Global)) : Type 0 where
   pub counted : length new ≡ length old
-  pub here : told_at new host ≡ told_at old host ++ row ∷ []
+  pub place : ℕ
+  pub here : told_at new host ≡ insert (told_at old host) place row
   pub others : (h : ℕ) → (h ≡ host → ⊥) → told_at new h ≡ told_at old h

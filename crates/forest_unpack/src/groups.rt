@@ -1,6 +1,6 @@
 //! The rows of each group of a finished chart.
 
-ghost use Rattle.std.specs.Prelude.{◌≡◌, ◌<◌, ◌+◌, ◌++◌, ◌∷◌, [], length, map, IfOk, OnOk, true};
+ghost use Rattle.std.specs.Prelude.{◌≡◌, ◌<◌, ◌≤◌, ◌+◌, ◌++◌, ◌∷◌, [], length, map, IfOk, OnOk, true};
 ghost use Rattle.cover.specs.Tuples.{on_list};
 ghost use Rattle.chart_model.specs.Chart.{all_free};
 ghost use Rattle.chart_model.specs.Grown.{LeadsTo};
@@ -11,6 +11,7 @@ ghost use Rattle.forest_unpack.specs.Plans.{row_of, told_at};
 ghost use Rattle.forest_unpack.specs.Groups.{told_by, AreFrontGroups, NoRows, Gained};
 
 use crate::NoMemory;
+use crate::ranks::LEVELS;
 use crate::rows::GroupRow;
 use chart_core::{Daughters, Finished, Row, RowId, RowKind};
 use cover::Shapes;
@@ -108,12 +109,67 @@ fn no_groups(alloc: Global, count: usize) -> Result<Vec<Vec<GroupRow>>, NoMemory
     Ok(groups)
 }
 
-/// Adds a row to the group of a host.
-fn add(groups: &mut Vec<Vec<GroupRow>>, host: u64, row: GroupRow) -> Result<(), NoMemory>
+/// The size of a daughter, by its rank.
+fn size_of(ranks: &[u64], daughter: u64) -> u64 {
+    match ranks.get(daughter as usize) {
+        None => 0,
+        Some(rank) => *rank / LEVELS,
+    }
+}
+
+/// Whether these daughters come after others in the order of trees, by their sizes from the left.
+fn are_after(ranks: &[u64], daughters: &[u64], others: &[u64]) -> bool {
+    for (daughter, other) in daughters.iter().zip(others) {
+        let size = size_of(ranks, *daughter);
+        let other_size = size_of(ranks, *other);
+        if size != other_size {
+            return size > other_size;
+        }
+    }
+    false
+}
+
+/// Whether a row comes after another one: a phrase after a leaf, and phrases by their rules and the sizes of their daughters, as in the order of trees.
+/// It says only where a row is put, so that lists mostly come in order; they are right in any.
+fn is_after(ranks: &[u64], row: &GroupRow, other: &GroupRow) -> bool {
+    match (row, other) {
+        (GroupRow::Leaf { .. }, _) => false,
+        (GroupRow::Whole { .. }, GroupRow::Leaf { .. }) => true,
+        (
+            GroupRow::Whole { rule, daughters },
+            GroupRow::Whole {
+                rule: other_rule,
+                daughters: others,
+            },
+        ) => {
+            if rule != other_rule {
+                return rule > other_rule;
+            }
+            are_after(ranks, daughters, others)
+        }
+    }
+}
+
+/// The place of one more row in a group: behind those that don't come after it.
+fn place_of(ranks: &[u64], group: &[GroupRow], row: &GroupRow) -> usize
+    ensures { result ≤ length group.now }
+{
+    group.partition_point(|other| !is_after(ranks, other, row))
+}
+
+/// Adds a row to the group of a host, at its place.
+fn add(
+    groups: &mut Vec<Vec<GroupRow>>,
+    ranks: &[u64],
+    host: u64,
+    row: GroupRow,
+) -> Result<(), NoMemory>
     requires { host < length groups.old.items }
     ensures { OnOk result (Gained groups.old.items host (row_of row) groups.new.items) }
 {
-    groups[host as usize].push(row)?;
+    let group = &mut groups[host as usize];
+    let place = place_of(ranks, group, &row);
+    group.insert(place, row)?;
     Ok(())
 }
 
@@ -121,6 +177,7 @@ fn add(groups: &mut Vec<Vec<GroupRow>>, host: u64, row: GroupRow) -> Result<(), 
 fn add_row<S: Shapes>(
     alloc: Global,
     finished: &Finished<S>,
+    ranks: &[u64],
     row: RowId,
     groups: &mut Vec<Vec<GroupRow>>,
 ) -> Result<(), NoMemory>
@@ -134,20 +191,21 @@ fn add_row<S: Shapes>(
         return Ok(());
     };
     let host = host_of(finished, row);
-    add(groups, host.0, told)
+    add(groups, ranks, host.0, told)
 }
 
-/// The rows of each group, by its host, in order of number. Other rows have none.
+/// The rows of each group, by its host, in the order of the trees that they give as far as rules and sizes tell it. Other rows have none.
 pub fn groups_of<S: Shapes>(
     alloc: Global,
     finished: &Finished<S>,
+    ranks: &[u64],
 ) -> Result<Vec<Vec<GroupRow>>, NoMemory>
     requires { (s : S) × IsCore (grammar_of S.Shapes S.Cover.Cover.own s) (core_of finished.now) }
     ensures { IfOk result (λ groups. AreFrontGroups (rows_in (core_of finished.now)) (length (rows_in (core_of finished.now))) groups.items) }
 {
     let mut groups = no_groups(alloc, finished.rows() as usize)?;
     for i in 0..finished.rows() {
-        add_row(alloc, finished, RowId(i), &mut groups)?;
+        add_row(alloc, finished, ranks, RowId(i), &mut groups)?;
     }
     Ok(groups)
 }

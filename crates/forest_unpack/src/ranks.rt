@@ -10,6 +10,9 @@ use chart_core::{Finished, Row, RowId};
 use cover::{Cover, Shapes};
 use std::alloc::Global;
 
+/// More than the levels that there are, so that ranks go by size first.
+pub const LEVELS: u64 = 64;
+
 /// The rank of a leaf or a whole row: by its size, and within a size by its level.
 fn rank_of<S: Shapes>(row: &Row<S>) -> u64
     requires { IsSized S.Cover.extent row.now }
@@ -17,7 +20,7 @@ fn rank_of<S: Shapes>(row: &Row<S>) -> u64
 {
     match &row.shape {
         None => 0,
-        Some(_) => row.cover.size() as u64 * 64 + row.level as u64,
+        Some(_) => row.cover.size() as u64 * LEVELS + row.level as u64,
     }
 }
 

@@ -71,13 +71,13 @@ fn pass<'p, 'w, S: Shapes, F: Fulls<Cover = S::Cover>>(
         &mut cut,
         &mut trees,
     )?;
-    sort(&mut trees);
     if trees.len() > max as usize {
         return Err(UnpackFault::ReadingLimit);
     }
     if over || cut {
         return Ok(None);
     }
+    sort(&mut trees);
     Ok(Some(trees_of(alloc, trees)?))
 }
 
@@ -137,8 +137,8 @@ pub fn unpack<S: Shapes, F: Fulls<Cover = S::Cover>>(
         (λ v. AreUnpacked (grammar_of S.Shapes S.Cover.Cover.own shapes.now) (F.wholes fulls.now) finished.now max (map derivation_of v.items))
         (IsUnpackFault (grammar_of S.Shapes S.Cover.Cover.own shapes.now) (F.wholes fulls.now) finished.now max) }
 {
-    let groups = groups_of(alloc, finished)?;
     let ranks = ranks_of(alloc, finished)?;
+    let groups = groups_of(alloc, finished, &ranks)?;
     let wanted = wanted_of(alloc, finished, fulls)?;
     unpack_by(
         alloc, finished, shapes, fulls, &groups, &ranks, &wanted, work, max,

@@ -14,15 +14,15 @@ unpack_by-requires g c =
     let fulls = c.args.fulls.now in
     let w = g.F.Fulls.wholes fulls in
     let rows = rows_in (core_of f) in
-    let groups_are = subst (AreFrontGroups rows (length rows)) (sym c.deref.ensures.value) c.in_ok-groups.ensures in
-    let ranks_are = c.deref-2.ensures.value ∙ c.in_ok-ranks.ensures in
-    let asked_are = subst (λ zs. AreAsked w rows (length rows) (map asked_of zs)) (sym c.deref-3.ensures.value) c.in_ok-wanted.ensures in
+    let groups_are = subst (AreFrontGroups rows (length rows)) (sym c.deref-2.ensures.value) c.in_ok-groups.ensures in
+    let ranks_are = c.deref-3.ensures.value ∙ c.in_ok-ranks.ensures in
+    let asked_are = subst (λ zs. AreAsked w rows (length rows) (map asked_of zs)) (sym c.deref-4.ensures.value) c.in_ok-wanted.ensures in
     record {
       suits = c.requires;
       skeleton = skeleton_is (grammar_of g.S.Shapes g.S.Cover.Cover s) (g.met.S.Shapes.laws s) w f (g.S.Shapes.full s) (g.S.Shapes.agrees s) (g.F.Fulls.named fulls) (g.F.Fulls.ruled fulls) c.requires
-          g.S.Cover.Cover.extent (g.met.S.Shapes.sizes s) c.deref.result.now groups_are c.deref-2.result.now ranks_are (map asked_of c.deref-3.result.now) asked_are;
+          g.S.Cover.Cover.extent (g.met.S.Shapes.sizes s) c.deref-2.result.now groups_are c.deref-3.result.now ranks_are (map asked_of c.deref-4.result.now) asked_are;
       plan = plan_is (grammar_of g.S.Shapes g.S.Cover.Cover s) (g.met.S.Shapes.laws s) w f (g.S.Shapes.full s) (g.S.Shapes.agrees s) (g.F.Fulls.named fulls) (g.F.Fulls.ruled fulls) c.requires
-          g.S.Cover.Cover.extent (g.met.S.Shapes.sizes s) c.deref.result.now groups_are c.deref-2.result.now ranks_are (map asked_of c.deref-3.result.now) asked_are;
+          g.S.Cover.Cover.extent (g.met.S.Shapes.sizes s) c.deref-2.result.now groups_are c.deref-3.result.now ranks_are (map asked_of c.deref-4.result.now) asked_are;
       wanted = all_below (grammar_of g.S.Shapes g.S.Cover.Cover s) (g.met.S.Shapes.laws s) w f (g.S.Shapes.full s) (g.S.Shapes.agrees s) (g.F.Fulls.named fulls) (g.F.Fulls.ruled fulls) c.requires
-          g.S.Cover.Cover.extent (g.met.S.Shapes.sizes s) c.deref.result.now groups_are c.deref-2.result.now ranks_are c.deref-3.result.now asked_are;
+          g.S.Cover.Cover.extent (g.met.S.Shapes.sizes s) c.deref-2.result.now groups_are c.deref-3.result.now ranks_are c.deref-4.result.now asked_are;
     }
