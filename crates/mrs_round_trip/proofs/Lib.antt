@@ -16,3 +16,4 @@ pub mod Giving
 pub mod Standing
 pub mod Keeping
 pub mod Meant
+pub mod Looking

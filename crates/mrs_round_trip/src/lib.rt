@@ -2,5 +2,7 @@
 #![tactic(auto)]
 
 mod laws;
+mod storing;
 
-pub use laws::written;
+pub use laws::{text_means_mrs, written};
+pub use storing::stored;

@@ -228,3 +228,7 @@ no_chars bs e = ap chars (nil_from_length bs e) ∙ chars-nil
 
 pub stopped_left : (r : Form) (cs : List ℕ) (old new : List Token) (e : Stop) (n : ℕ) → e ≡ Left n → HasStopped r cs old new e → (rest : List ℕ) × (n ≡ size rest) × HasRead r stuck cs rest old new
 stopped_left r cs old new e n i h = let s = subst (λ (z : Stop). HasStopped r cs old new z) i h in s
+
+-- one character more of a run
+pub run_goes_on : (x : Class) (cs mid rest : List ℕ) (c : ℕ) (old : List Token) → cs ≡ c ∷ mid → has x c ≡ true → HasRead (many x (sign x)) done mid rest old old → HasRead (many x (sign x)) done cs rest old old
+run_goes_on x cs mid rest c old e t h = many_reads x (sign x) done cs mid rest old old old (ap (λ l. passes x (head l)) e ∙ t) (sign_read x cs mid c old e t) h

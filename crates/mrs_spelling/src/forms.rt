@@ -94,6 +94,26 @@ impl<C: CharClass, P: Begins<C>> Reader for Many<C, P> {
     }
 }
 
+/// The characters of a class, as many as there are.
+pub(crate) struct Runs<C> {
+    of: PhantomData<C>,
+}
+
+impl<C: CharClass> Reader for Runs<C> {
+    ghost form = { many C.class (sign C.class) };
+
+    fn read<'a>(text: &'a str, _tokens: &mut Vec<Token<'a>>) -> Result<&'a str, Stop> {
+        let mut rest = text;
+        while let Some((c, after)) = first(rest) {
+            if !C::has(c) {
+                return Ok(rest);
+            }
+            rest = after;
+        }
+        Ok(rest)
+    }
+}
+
 /// The first form where the next character is in the class, otherwise the second.
 pub(crate) struct Either<C, P, Q> {
     of: PhantomData<(C, P, Q)>,

@@ -154,7 +154,8 @@ fn scan<'a>(text: &'a str, tokens: &mut Vec<Token<'a>>) -> Result<&'a str, Stop>
 pub fn tokens_of<'a>(alloc: Global, text: &'a str) -> Result<Tokens<'a>, NoMemory>
     ensures { IfOk result (λ t. AreTokensOf (chars text.now) t.list.items t.stop) }
 {
-    let mut list = Vec::new(alloc);
+    // (a token has six characters mostly, with the blanks behind it)
+    let mut list = Vec::with_capacity(alloc, text.len() / 6)?;
     match scan(text, &mut list) {
         Ok(rest) if rest.is_empty() => Ok(Tokens { list, stop: None }),
         Ok(rest) => Ok(Tokens {

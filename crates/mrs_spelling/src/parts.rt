@@ -6,7 +6,7 @@ ghost use Rattle.mrs_spelling.specs.Forms.{either, in_name, many, nothing, only,
 ghost use Rattle.mrs_spelling.specs.Grammar.{beginning, blanks, constraint, constraints, ending, ep, link, linked, name, pred, properties, property, quoted, relations, role, text, var, word};
 
 use crate::classes::{Digit, InName, InPred, Letter, Only, OtherThan, White};
-use crate::forms::{As, Begins, Either, Many, Nothing, Reader, Sign, Then};
+use crate::forms::{As, Begins, Either, Many, Nothing, Reader, Runs, Sign, Then};
 use crate::marks::{
     EpEnd, Filler, Link, Mark, OpensText, PredRun, PredText, PropName, PropValue, Role, Text,
 };
@@ -15,7 +15,7 @@ use crate::words::{Blanks, Escaped, Linked};
 use std::marker::PhantomData;
 
 // One or more characters of a class, as many as there are.
-type Run<C> = Then<Sign<C>, Many<C, Sign<C>>>;
+type Run<C> = Then<Sign<C>, Runs<C>>;
 
 // A character that is a terminal, and white space after it.
 type One<const C: u8> = Then<Sign<Only<C>>, Blanks>;

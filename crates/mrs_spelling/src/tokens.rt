@@ -3,7 +3,7 @@
 ghost use Rattle.std.specs.Prelude.{◌≡◌};
 
 use crate::kinds::Kind;
-use std::alloc::AllocFailed;
+use std::alloc::{AllocError, AllocFailed};
 
 /// A token: what it is, its characters, and how many bytes are left from its first one on.
 #[derive(Clone, Copy, Debug)]
@@ -35,6 +35,12 @@ impl<T: Drop> From<AllocFailed<T>> for Stop {
 /// Memory was wanting.
 #[derive(Clone, Copy, Debug, PartialEq, Eq)]
 pub struct NoMemory;
+
+impl From<AllocError> for NoMemory {
+    fn from(_error: AllocError) -> NoMemory {
+        NoMemory
+    }
+}
 
 /// The tokens that the grammar reads off a text, in order of writing; and how many bytes are left where nothing goes on, if they are no whole text of the
 /// grammar.

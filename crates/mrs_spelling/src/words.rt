@@ -7,16 +7,16 @@ ghost use Rattle.mrs_spelling.specs.Scanning.{HasRead, HasStopped};
 ghost use Rattle.mrs_spelling.specs.Reading.{done};
 
 use crate::classes::{AnyChar, Only, OtherThan, White, first};
-use crate::forms::{Begins, Many, Reader, Sign, Then};
+use crate::forms::{Begins, Reader, Runs, Sign, Then};
 use crate::tokens::{Stop, Token};
 
-pub(crate) type Blanks = Many<White, Sign<White>>;
+pub(crate) type Blanks = Runs<White>;
 
 // A backslash and the character that it stands before.
 pub(crate) type Escaped = Then<Sign<Only<b'\\'>>, Sign<AnyChar>>;
 
 // What stands before the next `>`.
-pub(crate) type Linked = Many<OtherThan<b'>'>, Sign<OtherThan<b'>'>>>;
+pub(crate) type Linked = Runs<OtherThan<b'>'>>;
 
 // The text after a terminal, and white space after it.
 fn read_word<'a>(

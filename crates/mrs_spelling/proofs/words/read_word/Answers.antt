@@ -35,7 +35,7 @@ returns-clause-read c =
     let ws = c.args.terminal.now in
     let cs = chars c.loop-byte.rest.now in
     let old = c.args.tokens.now.items in
-    let new = c.read.new.tokens.items in
+    let new = c.read.new._tokens.items in
     IfOk-weaker c.read.result (λ rest. HasRead (word []) done cs (chars rest.now) old new) (λ rest. HasRead (word ws) done (chars c.args.text.now) (chars rest.now) old new)
     (λ rest h. c.loop-byte.invariant.leads_on done (chars rest.now) old new (word_read ws c.loop-byte.byte-index done cs (chars rest.now) old new c.loop-byte-test.false h)) c.read.ensures.read
 
@@ -44,6 +44,6 @@ returns-clause-stopped c =
     let ws = c.args.terminal.now in
     let cs = chars c.loop-byte.rest.now in
     let old = c.args.tokens.now.items in
-    let new = c.read.new.tokens.items in
+    let new = c.read.new._tokens.items in
     IfErr-weaker c.read.result (λ e. HasStopped (word []) cs old new e) (λ e. HasStopped (word ws) (chars c.args.text.now) old new e)
     (λ e h. word_stops (word []) (word ws) cs (chars c.args.text.now) old new e (λ rest k. c.loop-byte.invariant.leads_on stuck rest old new (word_read ws c.loop-byte.byte-index stuck cs rest old new c.loop-byte-test.false k)) h) c.read.ensures.stopped
