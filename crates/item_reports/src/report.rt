@@ -62,7 +62,21 @@ pub fn tree_line(
     requires { IsNamed (length names.now) (derivation_of tree.now) }
     ensures { IfOk result (λ line. line.items ≡ tree_line (map string_bytes names.now) nodes (derivation_of tree.now)) }
 {
-    let mut line = Vec::new(alloc);
+    line_within(alloc, names, nodes, tree, 0)
+}
+
+// The same in a vector that has room for so many bytes from the start.
+fn line_within(
+    alloc: Global,
+    names: &[String],
+    nodes: bool,
+    tree: &Tree,
+    room: usize,
+) -> Result<Vec<u8>, NoMemory>
+    requires { IsNamed (length names.now) (derivation_of tree.now) }
+    ensures { IfOk result (λ line. line.items ≡ tree_line (map string_bytes names.now) nodes (derivation_of tree.now)) }
+{
+    let mut line = Vec::with_capacity(alloc, room)?;
     line.push(b' ')?;
     line.push(b' ')?;
     let Ok(()) = write(tree, names, nodes, &mut line) else {
@@ -85,10 +99,14 @@ pub fn lines_of_trees(
     requires { All (λ t. IsNamed (length names.now) (derivation_of t)) trees.now }
     ensures { IfOk result (λ lines. map (λ l. l.items) lines.items ≡ trees_lines (map string_bytes names.now) nodes number classes (map derivation_of trees.now)) }
 {
-    let mut lines = Vec::new(alloc);
+    let mut lines = Vec::with_capacity(alloc, trees.len() + 1)?;
     lines.push(counts_line(alloc, number, classes, trees.len())?)?;
+    // (the trees of a line have texts of much the same length)
+    let mut room = 0;
     for tree in trees {
-        lines.push(tree_line(alloc, names, nodes, tree)?)?;
+        let line = line_within(alloc, names, nodes, tree, room)?;
+        room = line.len();
+        lines.push(line)?;
     }
     Ok(lines)
 }
