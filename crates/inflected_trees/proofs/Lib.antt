@@ -1,0 +1,5 @@
+pub mod Keys
+pub mod Words
+pub mod Chains
+pub mod Levels
+pub mod RouteTrees

@@ -1,0 +1,3 @@
+pub mod Inflected
+pub mod Views
+pub mod Inner
