@@ -1,12 +1,13 @@
 -- What the program does. A command is one case of `meaning_of`, and one of `is_built`.
 use Rattle.std.specs.Prelude.{◌≡◌, ◌++◌, ◌∷◌, [], ℕ, List, Bool, true, false, codes}
-use Rattle.command_line.specs.Words.{Form, help, version, run, parse, types, expand, check, Task, Options, IsForm, AreWithin}
+use Rattle.command_line.specs.Words.{Form, help, version, run, parse, types, expand, check, self_test, Task, Options, IsForm, AreWithin, IsWithin, in_range}
 use Rattle.endings.specs.Meanings.{Meaning}
 use Rattle.endings.specs.Endings.{usage_line}
 use Rattle.endings.specs.PlainTexts.{plain_meaning}
 use Rattle.grammar_commands.specs.Commands.{types_meaning, expand_meaning, check_meaning}
 use Rattle.line_commands.specs.Answers.{Asked}
 use Rattle.line_commands.specs.Parsing.{parse_meaning}
+use Rattle.self_tests.specs.SelfTests.{self_test_meaning}
 
 abbrev pub version_line : List ℕ
 version_line = codes "lkb 0.1.0" ++ 10 ∷ []
@@ -27,6 +28,7 @@ meaning_of (run (parse grammar) options) = parse_meaning grammar options.setting
 meaning_of (run (types grammar) options) = types_meaning grammar options.settings
 meaning_of (run (expand grammar entry) options) = expand_meaning grammar entry options.settings
 meaning_of (run (check grammar) options) = check_meaning grammar options.settings
+meaning_of (run (self_test number size) options) = self_test_meaning number size (asked_of options).limits options.lexical
 meaning_of (run task options) = not_built
 
 -- whether the program does this yet
@@ -37,12 +39,17 @@ is_built (run (parse grammar) options) = true
 is_built (run (types grammar) options) = true
 is_built (run (expand grammar entry) options) = true
 is_built (run (check grammar) options) = true
+is_built (run (self_test number size) options) = true
 is_built (run task options) = false
 
 -- The words are of this form, and the program does what it asks for. Every other command is outside the form until it is there.
 abbrev pub HasForm : List (List ℕ) → Form → Type 0
 HasForm words form = IsForm words form × (is_built form ≡ true)
 
--- the numbers that a form's options give are in their ranges
+-- the size of a workload is in its range
+abbrev pub IsSized : Task → Type 0
+IsSized task = (number size : ℕ) → task ≡ self_test number size → IsWithin (in_range 1 1000) size
+
+-- the numbers of a form are in their ranges: those that its options give, and the size of a workload
 abbrev pub IsInRange : Form → Type 0
-IsInRange form = (task : Task) (options : Options) → form ≡ run task options → AreWithin options
+IsInRange form = (task : Task) (options : Options) → form ≡ run task options → AreWithin options × IsSized task

@@ -2,8 +2,8 @@
 ghost use Rattle.std.specs.Prelude.{◌≡◌, IfOk, IfErr, map, string_bytes, true, false};
 ghost use Rattle.chart_core.specs.Kept.{InRange};
 ghost use Rattle.chart_workers.specs.Crews.{IsCrewSize};
-ghost use Rattle.command_line.specs.Commands.{form, options_in};
-ghost use Rattle.command_line.specs.Words.{AreWithin};
+ghost use Rattle.command_line.specs.Commands.{form, options_in, task as task_in};
+ghost use Rattle.command_line.specs.Words.{AreWithin, IsWithin, in_range};
 ghost use Rattle.command_line.specs.declared.reading.WordsFault.{WordsFault};
 ghost use Rattle.command_line.specs.declared.tasks.Command.{Command};
 ghost use Rattle.endings.specs.Meanings.{shelves};
@@ -12,7 +12,7 @@ ghost use Rattle.endings.specs.Endings.{Ended};
 ghost use Rattle.endings.specs.declared.Fault.{Fault};
 ghost use Rattle.endings.specs.declared.Stop.{Stop};
 ghost use Rattle.line_commands.specs.Views.{asked_with};
-ghost use Rattle.top_call.specs.Commands.{HasForm, IsInRange, meaning_of, asked_of, is_built, version_line};
+ghost use Rattle.top_call.specs.Commands.{HasForm, IsInRange, IsSized, meaning_of, asked_of, is_built, version_line};
 ghost use Rattle.top_call.specs.Runs.{IsFormless};
 
 use crate::laws::built_lawful;
@@ -25,6 +25,7 @@ use endings::{Fault, Stop, usage_text};
 use grammar_commands::{Check, Expand, Types};
 use line_commands::{Parse, parse_lines};
 use lkb_io::{Shelf, Sink, Source};
+use self_tests::SelfTest;
 use std::alloc::Global;
 use std::sync::Wait;
 use std::thread::Threads;
@@ -102,6 +103,14 @@ fn workers_of(options: &Options) -> u32
     options.workers as u32
 }
 
+// How many lines a workload has, where that is in its range.
+fn size_of(size: u64) -> u32
+    requires { IsWithin (in_range 1 1000) size }
+    ensures { result ≡ size }
+{
+    size as u32
+}
+
 // Does a task under these options. A command is one arm.
 fn do_task<S: Shelf, I: Source, O: Sink, Rt: Threads + Wait + Sync>(
     rt: &Rt,
@@ -113,7 +122,8 @@ fn do_task<S: Shelf, I: Source, O: Sink, Rt: Threads + Wait + Sync>(
     out: &mut O,
     gate: &dyn Gate,
 ) -> Result<bool, Fault>
-    requires { AreWithin (options_in options) }
+    requires within { AreWithin (options_in options) }
+    requires sized { IsSized (task_in task) }
     ensures ended { Ended (meaning_of (form (Command.Run task.entry options.entry))) (shelves S.files S.faults S.asked shelf.old shelf.new) (streams I.left I.faults O.written O.flushed O.faults input.old input.new out.old out.new)
         (input.new ≡ input.old) ((input.new ≡ input.old) × (out.new ≡ out.old)) result }
     ensures unopened { (meaning_of (form (Command.Run task.entry options.entry))).opens ≡ false → shelf.new ≡ shelf.old }
@@ -147,6 +157,15 @@ fn do_task<S: Shelf, I: Source, O: Sink, Rt: Threads + Wait + Sync>(
             let command = Check { grammar, settings };
             write_whole(rt, alloc, &command, shelf, input, out, gate)
         }
+        Task::SelfTest(number, size) => {
+            let command = SelfTest {
+                number,
+                size: size_of(size),
+                limits: limits_of(&options),
+                workers: workers_of(&options),
+            };
+            write_whole(rt, alloc, &command, shelf, input, out, gate)
+        }
         // No words ask for these: they are outside the form until they are built.
         _ => Err(Fault::Stopped(Stop::NoMemory)),
     }
@@ -161,7 +180,8 @@ fn is_built(command: &Command) -> bool
         Command::Run(Task::Parse(_), _)
         | Command::Run(Task::Types(_), _)
         | Command::Run(Task::Expand(_, _), _)
-        | Command::Run(Task::Check(_), _) => true,
+        | Command::Run(Task::Check(_), _)
+        | Command::Run(Task::SelfTest(_, _), _) => true,
         Command::Run(_, _) => false,
     }
 }

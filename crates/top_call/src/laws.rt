@@ -5,6 +5,7 @@ ghost use Rattle.top_call.specs.Commands.{meaning_of};
 
 use grammar_commands::laws::{check_lawful, expand_lawful, types_lawful};
 use line_commands::laws::parse_lawful;
+use self_tests::laws::self_test_lawful;
 
 /// What holds of every command. It calls the law of each.
 pub fn built_lawful()
@@ -14,4 +15,5 @@ pub fn built_lawful()
     types_lawful();
     expand_lawful();
     check_lawful();
+    self_test_lawful();
 }

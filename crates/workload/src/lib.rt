@@ -2,6 +2,7 @@
 #![tactic(auto)]
 
 mod grammar;
+pub mod laws;
 mod lines;
 
 ghost use Rattle.std.specs.Prelude.{IfOk};

@@ -1,11 +1,14 @@
 use Rattle.std.proofs.Common.{◌≡◌, ap, subst, option_map}
 use Rattle.command_line.specs.declared.tasks.Command.TheVariants.{Run}
+use Rattle.command_line.specs.Commands.{task}
 use Rattle.command_line.specs.declared.tasks.Task.{Task}
-use Rattle.command_line.specs.declared.tasks.Task.TheVariants.{Parse, Types, Expand, Check}
+use Rattle.command_line.specs.declared.tasks.Task.TheVariants.{Parse, Types, Expand, Check, SelfTest}
 use Rattle.endings.specs.Meanings.{Shelves, shelves}
 use Rattle.endings.specs.Reports.{Streams, streams}
 use Rattle.endings.specs.Endings.{Ended}
+use Rattle.packed_items.specs.Answers.{limits_in}
 use Rattle.line_commands.specs.Parsing.{parse_meaning}
+use Rattle.self_tests.specs.SelfTests.{self_test_meaning}
 use Rattle.top_call.proofs.Arms.{as-asked}
 use Rattle.top_call.proofs.asked.do_task.Goals as goal
 
@@ -43,3 +46,18 @@ returns-in-Check-clause-ended g c =
     let h : Shelves = shelves g.S.Shelf.files g.S.Shelf.faults g.S.Shelf.asked c.args.shelf.now done.new.shelf in
     let o : Streams = streams g.I.Source.left g.I.Source.faults g.O.Sink.written g.O.Sink.flushed g.O.Sink.faults c.args.input.now done.new.input c.args.out.now done.new.out in
     as-asked (run c.args.task) (run (Check c.in-Check.grammar)) h o (done.new.input ≡ c.args.input.now) ((done.new.input ≡ c.args.input.now) × (done.new.out ≡ c.args.out.now)) done.result (ap run c.in-Check.is) done.ensures.ended
+
+pub size_of-requires : goal.size_of-requires
+size_of-requires g c = c.requires.sized c.in-SelfTest.number c.in-SelfTest.size (ap task c.in-SelfTest.is)
+
+pub returns-in-SelfTest-clause-ended : goal.returns-in-SelfTest-clause-ended
+returns-in-SelfTest-clause-ended g c =
+    let run = λ (t : Task). Run t c.args.options in
+    let done = c.write_whole-in-SelfTest in
+    let h : Shelves = shelves g.S.Shelf.files g.S.Shelf.faults g.S.Shelf.asked c.args.shelf.now done.new.shelf in
+    let o : Streams = streams g.I.Source.left g.I.Source.faults g.O.Sink.written g.O.Sink.flushed g.O.Sink.faults c.args.input.now done.new.input c.args.out.now done.new.out in
+    let idle = done.new.input ≡ c.args.input.now in
+    let untouched = (done.new.input ≡ c.args.input.now) × (done.new.out ≡ c.args.out.now) in
+    let sized = subst (λ size. Ended (self_test_meaning c.in-SelfTest.number size (limits_in c.limits_of-in-SelfTest.result) c.limits_of-in-SelfTest.result.lexical) h o idle untouched done.result) c.size_of.ensures done.ensures.ended in
+    let ended = subst (λ a. Ended (self_test_meaning c.in-SelfTest.number c.in-SelfTest.size a.limits a.lexical) h o idle untouched done.result) c.limits_of-in-SelfTest.ensures.asked sized in
+    as-asked (run c.args.task) (run (SelfTest c.in-SelfTest.number c.in-SelfTest.size)) h o idle untouched done.result (ap run c.in-SelfTest.is) ended

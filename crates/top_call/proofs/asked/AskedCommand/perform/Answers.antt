@@ -7,8 +7,11 @@ use Rattle.endings.specs.Reports.{Streams, streams}
 use Rattle.top_call.proofs.Arms.{as-asked}
 use Rattle.top_call.proofs.asked.AskedCommand.perform.Goals as goal
 
-pub do_task-requires-after_bounds : goal.do_task-requires-after_bounds
-do_task-requires-after_bounds g c κs bound = c.args.self.now.within (task c.in-Run.task) (options_in c.in-Run.options) (ap form c.in-Run.is)
+pub do_task-requires-clause-within : goal.do_task-requires-clause-within
+do_task-requires-clause-within g c κs bound = (c.args.self.now.within (task c.in-Run.task) (options_in c.in-Run.options) (ap form c.in-Run.is)).0
+
+pub do_task-requires-clause-sized : goal.do_task-requires-clause-sized
+do_task-requires-clause-sized g c κs bound = (c.args.self.now.within (task c.in-Run.task) (options_in c.in-Run.options) (ap form c.in-Run.is)).1
 
 pub returns-in-Run-clause-ended : goal.returns-in-Run-clause-ended
 returns-in-Run-clause-ended g c =

@@ -1,0 +1,44 @@
+-- The first fault of the file of a workload.
+use Rattle.std.proofs.Common.{◌≡◌, ℕ, List, Option, Some, None, arith, subst}
+use Rattle.lkb_io.specs.Outside.{HasRisen}
+use Rattle.lkb_io.specs.Shelves.{NamedFile, file_or_empty}
+use Rattle.endings.specs.Meanings.{Shelves, FileFault, Files, has_failed}
+use Rattle.endings.specs.Endings.{NotCome}
+use Rattle.endings.specs.declared.Fault.{Fault}
+use Rattle.endings.specs.declared.Fault.TheVariants.{Usage, Files as FilesFault, Stopped}
+use Rattle.endings.specs.declared.Stop.TheVariants.{Read, TooLong, TooMany, Write, NoMemory}
+use Rattle.command_grammars.specs.Grammars.{never, IsFirstFault, IsOfShelf, LacksGrammar}
+use Rattle.item_model.specs.Items.{Limits}
+use Rattle.self_tests.specs.SelfTests.{workload_files, workload_name, self_test_meaning}
+use Rattle.self_tests.specs.Inner.Ready.{IsWorkloadFault}
+
+abbrev pub Calm : Type 0
+Calm = (h : Shelves) (name : List ℕ) (settings : Option (List ℕ)) (fault : FileFault) → IsFirstFault name settings h.files (has_failed h) fault → IsOfShelf h fault → (HasRisen h.faults_old h.faults_new → ⊥) → IsFirstFault name settings h.files never fault
+
+-- a shelf of these files that never fails
+abbrev pub still : List NamedFile → Shelves
+still files = record { files = Some (file_or_empty files); faults_old = 0; faults_new = 0; asked_new = None }
+
+none-risen : HasRisen 0 0 → ⊥
+none-risen risen = omega (arith, risen)
+
+-- what is told of such a shelf with a workload's files
+pub workload-fault : Calm → (files : List NamedFile) → Some (file_or_empty files) ≡ workload_files → (fault : Fault) → LacksGrammar (still files) workload_name None fault → IsWorkloadFault fault
+workload-fault calm files e (FilesFault text) x =
+    (x.0, subst (λ (f : Files). IsFirstFault workload_name None f never x.0) e (calm (still files) workload_name None x.0 x.1 x.2 none-risen), λ file failed. none-risen (x.2 file failed).0, x.3)
+workload-fault calm files e (Stopped NoMemory) x = tt
+workload-fault calm files e Usage x = absurd x
+workload-fault calm files e (Stopped Read) x = absurd x
+workload-fault calm files e (Stopped TooLong) x = absurd x
+workload-fault calm files e (Stopped TooMany) x = absurd x
+workload-fault calm files e (Stopped Write) x = absurd x
+
+-- is why nothing came
+pub fault-not-come : (number size : ℕ) (limits : Limits) (most : ℕ) (h : Shelves) (fault : Fault) → IsWorkloadFault fault → NotCome (self_test_meaning number size limits most) h fault
+fault-not-come number size limits most h (FilesFault text) x = (x.0, (x.1, λ file failed. absurd (x.2 file failed)), x.3)
+fault-not-come number size limits most h (Stopped NoMemory) x = tt
+fault-not-come number size limits most h Usage x = absurd x
+fault-not-come number size limits most h (Stopped Read) x = absurd x
+fault-not-come number size limits most h (Stopped TooLong) x = absurd x
+fault-not-come number size limits most h (Stopped TooMany) x = absurd x
+fault-not-come number size limits most h (Stopped Write) x = absurd x
