@@ -1,5 +1,8 @@
 -- The elements in the order in which they are listed, and the first pairs.
 use Rattle.std.proofs.Common.{◌≡◌, ℕ, zero, suc, ◌<◌, ◌∙◌, List, [], ◌∷◌, ◌++◌, append_assoc, map, length, slice_index, ap, sym, subst, arith}
+use Rattle.std.specs.List.{swap}
+use Rattle.std.specs.List.Sorted.{IsPermutation}
+use Rattle.std.proofs.lemmas.List.Sorted.{IsPermutation-trans, IsPermutation-map, IsPermutation-swap}
 use Rattle.mrs_model.specs.declared.Ep.{Ep}
 use Rattle.mrs_model.specs.declared.Hcon.{Hcon}
 use Rattle.mrs_model.specs.declared.Icon.{Icon}
@@ -10,9 +13,9 @@ use Rattle.mrs_model.specs.Meanings.{Variable}
 use Rattle.mrs_model.specs.Renaming.{unspanned}
 use Rattle.mrs_model.specs.Views.{predication_of, hcon_of, icon_of, meaning_of}
 use Rattle.mrs_model.specs.Inner.Bindings.{Bound, lefts, rights, Binds, Agrees, Keep}
-use Rattle.mrs_model.specs.Inner.Elements.{an_ep, an_hcon, an_icon, elements}
+use Rattle.mrs_model.specs.Inner.Elements.{Element, an_ep, an_hcon, an_icon, elements}
 use Rattle.mrs_model.specs.Inner.Items.{of_ep, of_hcon, of_icon}
-use Rattle.mrs_model.specs.Inner.State.{elements_of}
+use Rattle.mrs_model.specs.Inner.State.{element_of, elements_of}
 use Rattle.mrs_model.proofs.Equal.{map_twice}
 
 pub listed : (m : Mrs) (es : List Ep) (hs : List Hcon) (is : List Icon) (o e h i : List Keyed) → es ≡ m.eps.items → hs ≡ m.hcons.items → is ≡ m.icons.items → o ≡ []
@@ -34,3 +37,8 @@ pub pairs_two : (pairs : List Pair) (p q : Pair) → Binds pairs p.left p.right 
 pairs_two pairs p q h k zero l = h
 pairs_two pairs p q h k (suc zero) l = k
 pairs_two pairs p q h k (suc (suc i)) l = absurd (omega arith)
+
+-- what is a permutation stays one when two elements are exchanged
+pub swapped : (xs : List Element) (a b : List Keyed) (i j : ℕ) → IsPermutation xs (elements_of a) → i < length a → j < length a → b ≡ swap a i j → IsPermutation xs (elements_of b)
+swapped xs a b i j p l k e =
+    IsPermutation-trans xs (elements_of a) (elements_of b) p (IsPermutation-map element_of a b (IsPermutation-swap a b i j l k e))

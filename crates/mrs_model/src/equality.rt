@@ -10,8 +10,9 @@ ghost use Rattle.mrs_model.specs.Inner.Search.{Begins};
 ghost use Rattle.mrs_model.specs.Inner.State.{HaveSameCounts};
 
 use crate::bindings::{Bindings, Pair};
-use crate::elements::{elements_of, rarest_first};
+use crate::elements::elements_of;
 use crate::join::Vars;
+use crate::order::in_order;
 use crate::search::{Sides, solve};
 use crate::{Mrs, NoMemory};
 use std::alloc::Global;
@@ -49,7 +50,7 @@ pub fn matching(alloc: Global, left: &Mrs, right: &Mrs) -> Result<Option<Renamin
         return Ok(None);
     };
     let items = elements_of(alloc, left)?;
-    let here = rarest_first(alloc, &items)?;
+    let here = in_order(alloc, &items, left.vars.len(), left.top, left.index)?;
     let there = elements_of(alloc, right)?;
     let sides = Sides {
         left: &here,

@@ -62,6 +62,9 @@ impl<'a> Vars<'a> {
         ensures no { IfOk result (λ ok. OnFalse ok ((to : List ℕ) → IsVariableMap (map variable_of self.entry.left.now) (map variable_of self.entry.right.now) to
             → Agrees to bound.old.pairs → slice_index to left ≡ right → ⊥)) }
     {
+        if let Some(other) = bound.right_of(left) {
+            return Ok(other == right);
+        }
         if same_var(&self.left[left as usize], &self.right[right as usize]) {
             bound.bind(left, right)
         } else {

@@ -9,6 +9,7 @@ mod items;
 mod join;
 mod keyed;
 mod keys;
+mod order;
 mod search;
 mod texts;
 mod valid;
