@@ -49,3 +49,7 @@ paths_said types feats s =
       sorts = map (sort_said types) s.sort;
       feats = feats;
     }
+
+-- where the relations of a rule itself stand, by the setting `c-cont-path`
+abbrev pub c_cont_said : List Name → SettingsTree → List Feature
+c_cont_said feats s = map (feature_said feats) s.c_cont_path

@@ -3,15 +3,15 @@
 
 mod names;
 
-ghost use Rattle.std.specs.Prelude.{◌≡◌, IfOk};
+ghost use Rattle.std.specs.Prelude.{◌≡◌, map, IfOk};
 ghost use Rattle.type_hierarchy.specs.Decls.{texts};
 ghost use Rattle.grammar_settings.specs.SettingsViews.{settings_of};
-ghost use Rattle.mrs_places.specs.Paths.{paths_of};
-ghost use Rattle.mrs_paths.specs.Settled.{paths_said};
+ghost use Rattle.mrs_places.specs.Paths.{feature_of, paths_of};
+ghost use Rattle.mrs_paths.specs.Settled.{c_cont_said, paths_said};
 
 use crate::names::{copies, feat, feats_of, sorts_of, type_of};
 use grammar_settings::Settings;
-use mrs_places::{MrsPaths, NoMemory};
+use mrs_places::{MrsFeat, MrsPaths, NoMemory};
 use std::alloc::Global;
 use type_hierarchy::Types;
 
@@ -56,4 +56,20 @@ pub fn mrs_paths(
         sorts: sorts_of(alloc, types, &settings.sort)?,
         feats: copies(alloc, feats)?,
     })
+}
+
+/// Where the relations that a rule contributes itself stand in its structure, by a grammar's settings: each feature of the path with its
+/// name, and with its number where the grammar has it. `feats` has the names of the grammar's features by number. More of them than a
+/// `u32` can number count as want of memory.
+pub fn c_cont_path(
+    alloc: Global,
+    settings: &Settings,
+    feats: &[String],
+) -> Result<Vec<MrsFeat>, NoMemory>
+    ensures { IfOk result (λ path. map feature_of path.items ≡ c_cont_said (texts feats.now) (settings_of settings.now)) }
+{
+    if feats.len() > u32::MAX as usize {
+        return Err(NoMemory);
+    }
+    feats_of(alloc, feats, &settings.c_cont_path)
 }
