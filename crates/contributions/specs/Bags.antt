@@ -3,6 +3,7 @@ use Rattle.std.specs.Prelude.{ℕ, ◌≡◌, ◌≤◌, ◌+◌, ◌&&◌, Bool
 use Rattle.std.specs.List.{list_any}
 use Rattle.std.specs.Str.{bytes_eq}
 use Rattle.cover.specs.declared.counts.Counts.{Counts}
+use Rattle.cover.specs.Lists.{all_within}
 use Rattle.mrs_model.specs.Meanings.{Meaning}
 
 abbrev pub Word : Type 0
@@ -66,3 +67,7 @@ pub record BagTree : Type 0 where
 
 abbrev pub bag_of : List Word → BagTree
 bag_of bag = record { places = distinct bag; counts = tally (distinct bag) bag }
+
+-- each of some words has a place, and none is there more often than it is asked for
+abbrev pub holds : BagTree → List Word → Bool
+holds b ws = all_among ws b.places && all_within (tally b.places ws) b.counts

@@ -2,6 +2,7 @@
 
 ghost use Rattle.std.specs.Prelude.{◌≡◌, ◌<◌, ◌^◌, length, map, IfOk};
 ghost use Rattle.std.specs.String.{string_bytes};
+ghost use Rattle.cover.specs.Lists.{all_within};
 ghost use Rattle.mrs_model.specs.Views.{meaning_of};
 ghost use Rattle.contributions.specs.Bags.{preds_of, count, is_among, all_among, distinct, tally, counted};
 
@@ -85,6 +86,20 @@ fn tally(alloc: Global, places: &[String], preds: &[String]) -> Result<Vec<u32>,
     Ok(counts)
 }
 
+// Whether none of some places stands among predicates more often than its count says.
+fn are_within(places: &[String], preds: &[String], counts: &[u32]) -> bool
+    requires even { length counts.now ≡ length places.now }
+    requires few { length preds.now < 2 ^ 32 }
+    ensures { result ≡ all_within (tally (map string_bytes places.now) (map string_bytes preds.now)) counts.now }
+{
+    for (place, most) in counts.iter().enumerate() {
+        if count(&places[place], preds) > *most {
+            return false;
+        }
+    }
+    true
+}
+
 /// The predicates that are asked for, each once, with how often it is: the places of the covers of generation.
 #[derive(Drop)]
 pub struct Bag {
@@ -93,17 +108,19 @@ pub struct Bag {
 }
 
 impl Model for Bag {
-    ghost use Rattle.std.specs.Prelude.{map};
+    ghost use Rattle.std.specs.Prelude.{◌≡◌, map, length};
     ghost use Rattle.std.specs.String.{string_bytes};
     ghost use Rattle.contributions.specs.Bags.{BagTree};
 
     ghost Value = { BagTree };
 
     ghost view = { λ b. record { places = map string_bytes b.places.items; counts = b.counts.items } };
+
+    ghost invariant = { λ b. length b.counts.items ≡ length b.places.items };
 }
 
 impl Bag {
-    ghost use Rattle.contributions.specs.Bags.{bag_of};
+    ghost use Rattle.contributions.specs.Bags.{bag_of, holds};
 
     /// The bag of some predicates.
     pub fn make(alloc: Global, preds: &[String]) -> Result<Bag, NoMemory>
@@ -124,6 +141,14 @@ impl Bag {
             of: Numbers::new(items),
             empty,
         })
+    }
+
+    /// Whether some predicates lie in the bag: each is asked for, and none stands among them more often than in it. Takes no memory.
+    pub fn holds(&self, preds: &[String]) -> bool
+        requires { length preds.now < 2 ^ 32 }
+        ensures { result ≡ holds self.now (map string_bytes preds.now) }
+    {
+        all_among(preds, &self.places) && are_within(&self.places, preds, &self.counts)
     }
 
     /// The cover of some predicates and so many empty words; none where one of them isn't asked for.

@@ -26,7 +26,7 @@ pub tally_within : (ps xs ys : List Word) → LiesIn xs ys → all_within (tally
 tally_within [] xs ys h = refl
 tally_within (p ∷ ps) xs ys h = rw (le-leb (count p xs) (count p ys) (h p), tally_within ps xs ys h) refl
 
-among_some : (w : Word) (vs : List Word) → is_among w vs ≡ false → count w vs ≡ 0
+pub among_some : (w : Word) (vs : List Word) → is_among w vs ≡ false → count w vs ≡ 0
 among_some w [] h = refl
 among_some w (v ∷ vs) h = by_test (bytes_eq w v) refl (among_some w vs)
   where
@@ -103,11 +103,11 @@ tally_at w (p ∷ ps) xs ys h e = by_test (bytes_eq w p) refl (λ k. tally_at w 
     by_test true t go = let same : w ≡ p = (bytes_decides w p).0 t in let z : count p xs ≡ count p ys = cc in subst (λ v. count v xs ≡ count v ys) (sym same) z
     by_test false t go = go (let q : is_among w (p ∷ ps) ≡ is_among w ps = rw t refl in sym q ∙ h)
 
-and_both : (a b : Bool) → a && b ≡ true → (a ≡ true) × (b ≡ true)
+pub and_both : (a b : Bool) → a && b ≡ true → (a ≡ true) × (b ≡ true)
 and_both true b h = (refl, h)
 and_both false b h = absurd (cc)
 
-among_all : (w : Word) (ws ps : List Word) → all_among ws ps ≡ true → is_among w ws ≡ true → is_among w ps ≡ true
+pub among_all : (w : Word) (ws ps : List Word) → all_among ws ps ≡ true → is_among w ws ≡ true → is_among w ps ≡ true
 among_all w [] ps a h = absurd (cc)
 among_all w (v ∷ ws) ps a h = by_test (bytes_eq w v) refl (among_all w ws ps (and_both (is_among v ps) (all_among ws ps) a).1)
   where
