@@ -4,6 +4,7 @@
 #![tactic(auto)]
 
 mod covers;
+mod marks;
 mod shapes;
 
 pub use cover::NoMemory;

@@ -18,7 +18,7 @@ use std::sync::Arc;
 /// The phrase rules of a grammar over counts of predicates: a mother covers what her daughters cover and what her rule contributes itself.
 #[derive(Drop)]
 pub struct CountedShapes<'g, 'a> {
-    shapes: &'g GrammarShapes<'a>,
+    pub(crate) shapes: &'g GrammarShapes<'a>,
     bound: Counts,
     // what each rule contributes; none where that has a predicate that isn't asked for
     own: Vec<Option<Counts>>,
