@@ -1,0 +1,4 @@
+pub mod Told
+pub mod Leaves
+pub mod Views
+pub mod Inner

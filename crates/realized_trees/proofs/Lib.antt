@@ -1,0 +1,4 @@
+pub mod Wholes
+pub mod Reaching
+pub mod Telling
+pub mod Valid

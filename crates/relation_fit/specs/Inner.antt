@@ -1,0 +1,4 @@
+-- Words between one function and the next; no public clause cites them.
+pub mod Lists
+pub mod Cells
+pub mod Links

@@ -1,0 +1,32 @@
+//! Which full structures can't lie in any realization of an MRS, by their relations, and when a grammar lets them be dropped.
+//!
+//! Chart generation with the semantics that is used: Carroll, Copestake, Flickinger and Poznanski 1999. Difference lists of relations: Copestake,
+//! Flickinger, Pollard and Sag 2005.
+#![tactic(auto)]
+
+mod cells;
+mod counting;
+mod links;
+mod list;
+
+pub use cells::reaches;
+pub use counting::has_too_many;
+pub use links::threads;
+pub use list::{RelationList, is_outside, relation_list};
+use std::alloc::{AllocError, AllocFailed};
+
+/// Memory was wanting.
+#[derive(Debug, Drop, Clone, Copy, PartialEq, Eq)]
+pub struct NoMemory;
+
+impl From<AllocError> for NoMemory {
+    fn from(_error: AllocError) -> NoMemory {
+        NoMemory
+    }
+}
+
+impl<T: Drop> From<AllocFailed<T>> for NoMemory {
+    fn from(_error: AllocFailed<T>) -> NoMemory {
+        NoMemory
+    }
+}

@@ -1,0 +1,4 @@
+pub mod ListLemmas
+pub mod PlaceLemmas
+pub mod StructureLemmas
+pub mod LawLemmas
