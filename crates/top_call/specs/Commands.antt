@@ -2,12 +2,12 @@
 use Rattle.std.specs.Prelude.{◌≡◌, ◌++◌, ◌∷◌, [], ℕ, List, Bool, true, false, codes}
 use Rattle.command_line.specs.Words.{Form, help, version, run, parse, types, expand, check, self_test, Task, Options, IsForm, AreWithin, IsWithin, in_range}
 use Rattle.endings.specs.Meanings.{Meaning}
-use Rattle.endings.specs.Endings.{usage_line}
 use Rattle.endings.specs.PlainTexts.{plain_meaning}
 use Rattle.grammar_commands.specs.Commands.{types_meaning, expand_meaning, check_meaning}
 use Rattle.line_commands.specs.Answers.{Asked}
 use Rattle.line_commands.specs.Parsing.{parse_meaning}
 use Rattle.self_tests.specs.SelfTests.{self_test_meaning}
+use Rattle.top_call.specs.Help.{help_page}
 
 abbrev pub version_line : List ℕ
 version_line = codes "lkb 0.1.0" ++ 10 ∷ []
@@ -22,7 +22,7 @@ asked_of o = record { limits = record { edges = o.edges; readings = o.readings; 
 
 -- what a form of the command line asks for
 abbrev pub meaning_of : Form → Meaning
-meaning_of help = plain_meaning usage_line
+meaning_of help = plain_meaning help_page
 meaning_of version = plain_meaning version_line
 meaning_of (run (parse grammar) options) = parse_meaning grammar options.settings (asked_of options)
 meaning_of (run (types grammar) options) = types_meaning grammar options.settings

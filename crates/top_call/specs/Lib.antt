@@ -1,2 +1,3 @@
 pub mod Commands
+pub mod Help
 pub mod Runs

@@ -15,13 +15,14 @@ ghost use Rattle.line_commands.specs.Views.{asked_with};
 ghost use Rattle.top_call.specs.Commands.{HasForm, IsInRange, IsSized, meaning_of, asked_of, is_built, version_line};
 ghost use Rattle.top_call.specs.Runs.{IsFormless};
 
+use crate::help::help_text;
 use crate::laws::built_lawful;
 use chart_core::Limits;
 use command_line::laws::{numbers_are_within, one_form};
 use command_line::{Command, Options, Task, WordsFault, command_of};
 use endings::commands::write_whole;
 use endings::plain::Plain;
-use endings::{Fault, Stop, usage_text};
+use endings::{Fault, Stop};
 use grammar_commands::{Check, Expand, Types};
 use line_commands::{Parse, parse_lines};
 use lkb_io::{Shelf, Sink, Source};
@@ -66,7 +67,7 @@ impl endings::Command for Asked<'_> {
     ) -> Result<bool, Fault> {
         match self.command {
             Command::Help => {
-                let text = usage_text();
+                let text = help_text();
                 (Plain { text }).perform(rt, alloc, shelf, input, out, gate)
             }
             Command::Version => {

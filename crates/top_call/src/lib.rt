@@ -15,6 +15,7 @@ ghost use Rattle.top_call.specs.Commands.{HasForm, meaning_of};
 ghost use Rattle.top_call.specs.Runs.{IsFormless, RunEnded};
 
 pub mod asked;
+pub mod help;
 pub mod laws;
 
 use asked::{asked_by, fault_of};
