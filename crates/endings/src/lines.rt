@@ -18,6 +18,9 @@ pub struct NoMemory;
 
 /// What answers lines.
 pub trait Answers {
+    /// What is known of an object that answers: a fact that is no proposition can't stand in a field of it.
+    ghost ready: { Self → Type 0 };
+
     /// The report lines that answer the line of this number, and whether the line is refused.
     ghost IsAnswer: { Self → ℕ → List ℕ → List (List ℕ) → Bool → Type 0 };
 
@@ -30,7 +33,8 @@ pub trait Answers {
         line: &[u8],
         gate: &dyn Gate,
     ) -> Result<Report, NoMemory>
-        requires { IsSync Rt.row }
+        requires sync { IsSync Rt.row }
+        requires ready { ready self.now }
         ensures { IfOk result (λ a. IsAnswer self.now number line.now (map (λ l. l.items) a.lines.items) a.refused) };
 }
 
@@ -78,6 +82,7 @@ fn serve_line<C: Answers, O: Sink, Rt: Threads + Wait + Sync>(
     out: &mut O,
     gate: &dyn Gate,
 ) -> Result<bool, Stop>
+    requires { C.ready command.now }
     ensures outcome { ServedLine (C.IsAnswer command.now number line.now) (O.written out.old) (O.written out.new) (O.faults out.old) (O.faults out.new) result }
     ensures no_fall { O.faults out.old ≤ O.faults out.new }
 {
@@ -108,6 +113,7 @@ fn serve_lines<C: Answers, I: Source, O: Sink, Rt: Threads + Wait + Sync>(
     out: &mut O,
     gate: &dyn Gate,
 ) -> Result<bool, Stop>
+    requires { C.ready command.now }
     ensures { Served (AreAnswers (C.IsAnswer command.now) 1) (streams I.left I.faults O.written O.flushed O.faults input.old input.new out.old out.new) result }
 {
     let mut held = Held::new(alloc);
@@ -124,7 +130,7 @@ fn serve_lines<C: Answers, I: Source, O: Sink, Rt: Threads + Wait + Sync>(
     Err(Stop::TooMany)
 }
 
-/// Answers all lines of the source. `Ok` tells whether a line was refused. The sink is flushed at the end,
+/// Answers all lines of the source by an object that is ready. `Ok` tells whether a line was refused. The sink is flushed at the end,
 /// where the run stops, and before the source is asked for more.
 pub fn serve<C: Answers, I: Source, O: Sink, Rt: Threads + Wait + Sync>(
     rt: &Rt,
@@ -134,6 +140,7 @@ pub fn serve<C: Answers, I: Source, O: Sink, Rt: Threads + Wait + Sync>(
     out: &mut O,
     gate: &dyn Gate,
 ) -> Result<bool, Stop>
+    requires { C.ready command.now }
     ensures { Served (AreAnswers (C.IsAnswer command.now) 1) (streams I.left I.faults O.written O.flushed O.faults input.old input.new out.old out.new) result }
 {
     match serve_lines(rt, alloc, command, input, out, gate) {

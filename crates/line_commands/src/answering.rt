@@ -179,6 +179,8 @@ impl Answers for Parser<'_> {
     ghost use Rattle.line_commands.specs.Answers.{IsAnswer};
     ghost use Rattle.line_commands.specs.Inner.Parsers.{speech_of, asked_of};
 
+    ghost ready = { λ p. Unit {0} };
+
     ghost IsAnswer = { λ p. IsAnswer (speech_of p) (asked_of p) };
 
     fn answer<Rt: Threads + Wait + Sync>(
