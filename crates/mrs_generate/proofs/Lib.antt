@@ -1,0 +1,12 @@
+pub mod Leafed
+pub mod Lists
+pub mod Lined
+pub mod Calculi
+pub mod Swapped
+pub mod Wholes
+pub mod Answered
+pub mod Sound
+pub mod Extended
+pub mod One
+pub mod Calls
+pub mod Known

@@ -1,0 +1,5 @@
+pub mod Answers
+pub mod Views
+pub mod Contributors
+pub mod Laws
+pub mod Inner

@@ -1,0 +1,66 @@
+//! What lexical trees and rules of a grammar contribute.
+
+ghost use Rattle.std.specs.Prelude.{◌≡◌, ◌+◌, map, IfOk};
+ghost use Rattle.spelling_rules.specs.Trees.{AreBound};
+ghost use Rattle.mrs_places.specs.Paths.{feature_of, paths_of};
+ghost use Rattle.mrs_extract.specs.Asked.{ArePaths};
+ghost use Rattle.grammar_rules.specs.Lines.{AreFeedsOf, HaveAll};
+ghost use Rattle.mrs_generate.specs.Contributors.{AreContributors};
+
+use crate::NoMemory;
+use book_signs::SignBook;
+use fs_unify::Scratch;
+use generated_leaves::{ToldTree, told_trees};
+use lexicon::Lexicon;
+use morph_analysis::Feeds;
+use mrs_places::{MrsFeat, MrsPaths};
+use rule_contributions::RulePredicates;
+use spelling_rules::Spelling;
+use std::alloc::Global;
+
+/// The lexical trees of a grammar with the predicates that they contribute, and those that phrase rules contribute themselves.
+#[derive(Drop)]
+pub struct Contributors {
+    /// the lexical trees of up to one rule more than the limit
+    pub told: Vec<ToldTree>,
+    /// what each phrase rule contributes itself
+    pub rules: RulePredicates,
+}
+
+// One more than a number. More than a `u32` can number counts as want of memory.
+fn one_more(number: u32) -> Result<u32, NoMemory>
+    ensures { IfOk result (λ next. next ≡ number + 1) }
+{
+    if number == u32::MAX {
+        return Err(NoMemory);
+    }
+    Ok(number + 1)
+}
+
+/// What a grammar contributes, made once for the grammar and the limit on lexical rules, `lexical`; it takes lexical trees of up to one rule
+/// more. `paths` says where MRSs stand, and `c_cont` where the relations stand that a rule contributes itself.
+///
+/// Lexicon and spelling have the grammar's entries and lexical rules by number, and `feeds` says what lexical rule may apply to what. Whatever
+/// the scratch holds, the answer is the same.
+pub fn contributors_of<'a>(
+    alloc: Global,
+    work: &mut Scratch,
+    signs: &'a SignBook<'a>,
+    paths: &MrsPaths,
+    c_cont: &[MrsFeat],
+    lexicon: &Lexicon,
+    spelling: &Spelling,
+    feeds: &Feeds,
+    lexical: u32,
+) -> Result<Contributors, NoMemory>
+    requires paths { ArePaths signs.now.book.system.types (paths_of paths.now) }
+    requires have { HaveAll signs.now lexicon.now spelling.now }
+    requires bound { AreBound spelling.now.rules }
+    requires feeds { AreFeedsOf signs.now feeds.now }
+    ensures { IfOk result (AreContributors signs.now lexicon.now spelling.now (paths_of paths.now) (map feature_of c_cont.now) lexical) }
+{
+    let most = one_more(lexical)?;
+    let told = told_trees(alloc, work, signs, paths, lexicon, spelling, feeds, most)?;
+    let rules = RulePredicates::make(alloc, signs, paths, c_cont)?;
+    Ok(Contributors { told, rules })
+}
