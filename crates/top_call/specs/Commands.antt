@@ -1,11 +1,13 @@
 -- What the program does. A command is one case of `meaning_of`, and one of `is_built`.
 use Rattle.std.specs.Prelude.{◌≡◌, ◌++◌, ◌∷◌, [], ℕ, List, Bool, true, false, codes}
-use Rattle.command_line.specs.Words.{Form, help, version, run, parse, types, expand, check, self_test, Task, Options, IsForm, AreWithin, IsWithin, in_range}
+use Rattle.command_line.specs.Words.{Form, help, version, run, parse, generate, types, expand, check, self_test, Task, Options, IsForm, AreWithin, IsWithin, in_range}
 use Rattle.endings.specs.Meanings.{Meaning}
 use Rattle.endings.specs.PlainTexts.{plain_meaning}
 use Rattle.grammar_commands.specs.Commands.{types_meaning, expand_meaning, check_meaning}
 use Rattle.line_commands.specs.Answers.{Asked}
 use Rattle.line_commands.specs.Parsing.{parse_meaning}
+use Rattle.generate_commands.specs.Answers.{Bounds}
+use Rattle.generate_commands.specs.Generating.{generate_meaning}
 use Rattle.self_tests.specs.SelfTests.{self_test_meaning}
 use Rattle.top_call.specs.Help.{help_page}
 
@@ -20,11 +22,16 @@ not_built = record { opens = false; reads = false; loadable = λ files. ⊥; fir
 abbrev pub asked_of : Options → Asked
 asked_of o = record { limits = record { edges = o.edges; readings = o.readings; unary = o.unary }; lexical = o.lexical; lattice = o.lattice; mrs = o.mrs }
 
+-- what they ask of a line that writes an MRS
+abbrev pub bounds_of : Options → Bounds
+bounds_of o = record { limits = (asked_of o).limits; lexical = o.lexical; empty = o.empty }
+
 -- what a form of the command line asks for
 abbrev pub meaning_of : Form → Meaning
 meaning_of help = plain_meaning help_page
 meaning_of version = plain_meaning version_line
 meaning_of (run (parse grammar) options) = parse_meaning grammar options.settings (asked_of options)
+meaning_of (run (generate grammar) options) = generate_meaning grammar options.settings (bounds_of options)
 meaning_of (run (types grammar) options) = types_meaning grammar options.settings
 meaning_of (run (expand grammar entry) options) = expand_meaning grammar entry options.settings
 meaning_of (run (check grammar) options) = check_meaning grammar options.settings
@@ -36,6 +43,7 @@ abbrev pub is_built : Form → Bool
 is_built help = true
 is_built version = true
 is_built (run (parse grammar) options) = true
+is_built (run (generate grammar) options) = true
 is_built (run (types grammar) options) = true
 is_built (run (expand grammar entry) options) = true
 is_built (run (check grammar) options) = true

@@ -9,6 +9,7 @@ help_lines =
     ∷ []
     ∷ codes "Commands:"
     ∷ codes "  parse GRAMMAR          for each line of the input the number of its packed classes, and all its trees"
+    ∷ codes "  generate GRAMMAR       for each MRS of the input the number of its packed classes, and all its sentences"
     ∷ codes "  types GRAMMAR          the completed types, each with its immediate supertypes"
     ∷ codes "  check GRAMMAR          one line that counts types, features, entries, rules and roots"
     ∷ codes "  expand GRAMMAR NAME    the structure of a type, entry, rule or root: a line for each path"

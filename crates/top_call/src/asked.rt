@@ -11,8 +11,9 @@ ghost use Rattle.endings.specs.Reports.{streams};
 ghost use Rattle.endings.specs.Endings.{Ended};
 ghost use Rattle.endings.specs.declared.Fault.{Fault};
 ghost use Rattle.endings.specs.declared.Stop.{Stop};
+ghost use Rattle.generate_commands.specs.Views.{bounds_with};
 ghost use Rattle.line_commands.specs.Views.{asked_with};
-ghost use Rattle.top_call.specs.Commands.{HasForm, IsInRange, IsSized, meaning_of, asked_of, is_built, version_line};
+ghost use Rattle.top_call.specs.Commands.{HasForm, IsInRange, IsSized, meaning_of, asked_of, bounds_of, is_built, version_line};
 ghost use Rattle.top_call.specs.Runs.{IsFormless};
 
 use crate::help::help_text;
@@ -23,6 +24,7 @@ use command_line::{Command, Options, Task, WordsFault, command_of};
 use endings::commands::write_whole;
 use endings::plain::Plain;
 use endings::{Fault, Stop};
+use generate_commands::{Generate, generate_lines};
 use grammar_commands::{Check, Expand, Types};
 use line_commands::{Parse, parse_lines};
 use lkb_io::{Shelf, Sink, Source};
@@ -86,6 +88,7 @@ fn limits_of(options: &Options) -> Limits
     requires { AreWithin (options_in options.now) }
     ensures range { InRange result }
     ensures asked { asked_with result options.now.lattice options.now.mrs ≡ asked_of (options_in options.now) }
+    ensures bounds { bounds_with result ≡ bounds_of (options_in options.now) }
 {
     Limits {
         edges: options.edges as u32,
@@ -142,6 +145,15 @@ fn do_task<S: Shelf, I: Source, O: Sink, Rt: Threads + Wait + Sync>(
             };
             parse_lines(rt, alloc, &command, shelf, input, out, gate)
         }
+        Task::Generate(grammar) => {
+            let command = Generate {
+                grammar,
+                settings,
+                limits: limits_of(&options),
+                workers: workers_of(&options),
+            };
+            generate_lines(rt, alloc, &command, shelf, input, out, gate)
+        }
         Task::Types(grammar) => {
             let command = Types { grammar, settings };
             write_whole(rt, alloc, &command, shelf, input, out, gate)
@@ -179,6 +191,7 @@ fn is_built(command: &Command) -> bool
     match command {
         Command::Help | Command::Version => true,
         Command::Run(Task::Parse(_), _)
+        | Command::Run(Task::Generate(_), _)
         | Command::Run(Task::Types(_), _)
         | Command::Run(Task::Expand(_, _), _)
         | Command::Run(Task::Check(_), _)

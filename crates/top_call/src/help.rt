@@ -8,6 +8,7 @@ const HELP: &[u8] = b"\
     \n\
     Commands:\n\
     \x20 parse GRAMMAR          for each line of the input the number of its packed classes, and all its trees\n\
+    \x20 generate GRAMMAR       for each MRS of the input the number of its packed classes, and all its sentences\n\
     \x20 types GRAMMAR          the completed types, each with its immediate supertypes\n\
     \x20 check GRAMMAR          one line that counts types, features, entries, rules and roots\n\
     \x20 expand GRAMMAR NAME    the structure of a type, entry, rule or root: a line for each path\n\

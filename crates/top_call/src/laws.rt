@@ -3,6 +3,7 @@ ghost use Rattle.command_line.specs.Words.{Form};
 ghost use Rattle.endings.specs.Meanings.{Lawful};
 ghost use Rattle.top_call.specs.Commands.{meaning_of};
 
+use generate_commands::laws::generate_lawful;
 use grammar_commands::laws::{check_lawful, expand_lawful, types_lawful};
 use line_commands::laws::parse_lawful;
 use self_tests::laws::self_test_lawful;
@@ -12,6 +13,7 @@ pub fn built_lawful()
     ensures { (form : Form) → Lawful (meaning_of form) }
 {
     parse_lawful();
+    generate_lawful();
     types_lawful();
     expand_lawful();
     check_lawful();

@@ -2,12 +2,13 @@ use Rattle.std.proofs.Common.{◌≡◌, ap, subst, option_map}
 use Rattle.command_line.specs.declared.tasks.Command.TheVariants.{Run}
 use Rattle.command_line.specs.Commands.{task}
 use Rattle.command_line.specs.declared.tasks.Task.{Task}
-use Rattle.command_line.specs.declared.tasks.Task.TheVariants.{Parse, Types, Expand, Check, SelfTest}
+use Rattle.command_line.specs.declared.tasks.Task.TheVariants.{Parse, Generate, Types, Expand, Check, SelfTest}
 use Rattle.endings.specs.Meanings.{Shelves, shelves}
 use Rattle.endings.specs.Reports.{Streams, streams}
 use Rattle.endings.specs.Endings.{Ended}
 use Rattle.packed_items.specs.Answers.{limits_in}
 use Rattle.line_commands.specs.Parsing.{parse_meaning}
+use Rattle.generate_commands.specs.Generating.{generate_meaning}
 use Rattle.self_tests.specs.SelfTests.{self_test_meaning}
 use Rattle.top_call.proofs.Arms.{as-asked}
 use Rattle.top_call.proofs.asked.do_task.Goals as goal
@@ -22,6 +23,17 @@ returns-in-Parse-clause-ended g c =
     let untouched = (done.new.input ≡ c.args.input.now) × (done.new.out ≡ c.args.out.now) in
     let ended = subst (λ a. Ended (parse_meaning c.in-Parse.grammar.now (option_map (λ s. s.now) c.args.options.settings) a) h o idle untouched done.result) c.limits_of.ensures.asked done.ensures in
     as-asked (run c.args.task) (run (Parse c.in-Parse.grammar)) h o idle untouched done.result (ap run c.in-Parse.is) ended
+
+pub returns-in-Generate-clause-ended : goal.returns-in-Generate-clause-ended
+returns-in-Generate-clause-ended g c =
+    let run = λ (t : Task). Run t c.args.options in
+    let done = c.generate_lines in
+    let h : Shelves = shelves g.S.Shelf.files g.S.Shelf.faults g.S.Shelf.asked c.args.shelf.now done.new.shelf in
+    let o : Streams = streams g.I.Source.left g.I.Source.faults g.O.Sink.written g.O.Sink.flushed g.O.Sink.faults c.args.input.now done.new.input c.args.out.now done.new.out in
+    let idle = done.new.input ≡ c.args.input.now in
+    let untouched = (done.new.input ≡ c.args.input.now) × (done.new.out ≡ c.args.out.now) in
+    let ended = subst (λ b. Ended (generate_meaning c.in-Generate.grammar.now (option_map (λ s. s.now) c.args.options.settings) b) h o idle untouched done.result) c.limits_of-in-Generate.ensures.bounds done.ensures in
+    as-asked (run c.args.task) (run (Generate c.in-Generate.grammar)) h o idle untouched done.result (ap run c.in-Generate.is) ended
 
 pub returns-in-Types-clause-ended : goal.returns-in-Types-clause-ended
 returns-in-Types-clause-ended g c =

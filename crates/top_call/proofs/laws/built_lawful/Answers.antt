@@ -2,7 +2,7 @@ use Rattle.std.proofs.Common.{◌∙◌, ℕ, sym, List}
 use Rattle.command_line.specs.Words.{Form, help, version, run, parse, generate, types, expand, check, self_test, scope, batch, transfer}
 use Rattle.endings.specs.Meanings.{Lawful}
 use Rattle.endings.specs.PlainTexts.{plain_meaning}
-use Rattle.top_call.specs.Commands.{meaning_of, asked_of, not_built}
+use Rattle.top_call.specs.Commands.{meaning_of, asked_of, bounds_of, not_built}
 use Rattle.top_call.proofs.laws.built_lawful.Goals as goal
 
 plain : (text : List ℕ) → Lawful (plain_meaning text)
@@ -30,9 +30,9 @@ returns c = by_cases
     by_cases help = plain _
     by_cases version = plain _
     by_cases (run (parse grammar) options) = c.parse_lawful.ensures grammar options.settings (asked_of options)
+    by_cases (run (generate grammar) options) = c.generate_lawful.ensures grammar options.settings (bounds_of options)
     by_cases (run (types grammar) options) = c.types_lawful.ensures grammar options.settings
     by_cases (run (expand grammar entry) options) = c.expand_lawful.ensures grammar entry options.settings
-    by_cases (run (generate grammar) options) = none
     by_cases (run (check grammar) options) = c.check_lawful.ensures grammar options.settings
     by_cases (run (self_test number size) options) = c.self_test_lawful.ensures number size (asked_of options).limits options.lexical
     by_cases (run scope options) = none

@@ -1,0 +1,6 @@
+pub mod Places
+pub mod Renamed
+pub mod SameInputs
+pub mod OneAnswers
+pub mod GenerateLaws
+pub mod Answered

@@ -1,0 +1,23 @@
+use Rattle.std.proofs.Common.{◌≡◌, map}
+use Rattle.mrs_model.specs.Views.{meaning_of}
+use Rattle.mrs_generate.specs.Views.{answer_seen}
+use Rattle.generate_commands.specs.Reports.{answer_lines, is_refused}
+use Rattle.generate_commands.specs.Inner.Generators.{IsReportOf}
+use Rattle.line_commands.proofs.Answered.{if-both}
+use Rattle.generate_commands.proofs.answering.Generator.generated.Goals as goal
+
+pub generate-requires-clause-paths : goal.generate-requires-clause-paths
+generate-requires-clause-paths g c κs within = c.args.self.now.paths_are.are
+
+pub generate-requires-clause-feats : goal.generate-requires-clause-feats
+generate-requires-clause-feats g c κs within = c.args.self.now.paths_are.feats
+
+pub returns : goal.returns
+returns g c =
+    let p = c.args.self.now in
+    let a = answer_seen c.in_ok-answer.answer in
+    if-both c.report_of.result
+    (λ r. map (λ l. l.items) r.lines.items ≡ answer_lines c.args.number a)
+    (λ r. r.refused ≡ is_refused a)
+    (λ r. IsReportOf p c.args.number (meaning_of c.args.mrs.now) (map (λ l. l.items) r.lines.items) r.refused)
+    (λ r e f. record { answer = a; is = c.in_ok-answer.ensures; lines_are = e; refused_is = f }) c.report_of.ensures.lines c.report_of.ensures.refused

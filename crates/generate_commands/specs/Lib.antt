@@ -1,0 +1,5 @@
+pub mod Reports
+pub mod Answers
+pub mod Generating
+pub mod Views
+pub mod Inner
