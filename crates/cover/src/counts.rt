@@ -28,13 +28,6 @@ impl Numbers {
         Numbers { items }
     }
 
-    /// The numbers. Takes no memory.
-    pub fn into_vec(self) -> Vec<u32>
-        ensures { result.items ≡ self }
-    {
-        self.items
-    }
-
     /// The numbers, as they stand.
     pub fn as_slice(&self) -> &[u32]
         ensures { result.now ≡ self.now }

@@ -126,13 +126,6 @@ pub trait Command {
         ensures unopened { (meaning self.now).opens ≡ false → shelf.new ≡ shelf.old };
 }
 
-/// The usage text and its line end.
-pub fn usage_text() -> &'static [u8]
-    ensures { result.now ≡ usage_line }
-{
-    USAGE
-}
-
 // What is told of this end of a run.
 fn text_of(end: &Result<bool, Fault>) -> &[u8]
     ensures { result.now ≡ fault_text end.now }

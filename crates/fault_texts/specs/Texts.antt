@@ -90,7 +90,3 @@ cause_text why = codes ":" ++ (spaced (why_words why) ++ 10 ∷ [])
 -- `lkb: FILE:AT: NAME`, and after a blank each the names that the fault carries
 abbrev pub found_text : FoundFault → List ℕ
 found_text f = (codes "lkb: " ++ f.file) ++ (place_text f.why f.at ++ cause_text f.why)
-
--- `lkb: FILE: NAME`, for a fault of a whole file
-abbrev pub file_text : List ℕ → List ℕ → List ℕ
-file_text file name = (codes "lkb: " ++ file) ++ (codes ": " ++ (name ++ 10 ∷ []))

@@ -3,7 +3,7 @@
 
 ghost use Rattle.std.specs.Prelude.{◌≡◌, ◌++◌, ◌∷◌, [], codes, map, IfOk, OnOk};
 ghost use Rattle.std.specs.String.{string_bytes};
-ghost use Rattle.fault_texts.specs.Texts.{spaced, lex_fault_name, read_fault_name, type_fault_words, feature_name, expand_fault_words, why_words, has_place, place_text, cause_text, found_text, file_text};
+ghost use Rattle.fault_texts.specs.Texts.{spaced, lex_fault_name, read_fault_name, type_fault_words, feature_name, expand_fault_words, why_words, has_place, place_text, cause_text, found_text};
 
 use grammar_files::Why;
 use itoa::Buffer;
@@ -202,16 +202,5 @@ pub fn found_line(alloc: Global, file: &str, at: u32, why: &Why) -> Result<Vec<u
     let mut line = line_on(alloc, file)?;
     add_place(&mut line, at, why)?;
     add_cause(alloc, &mut line, why)?;
-    Ok(line)
-}
-
-/// The line that tells a fault of a whole file, by the fault's name.
-pub fn file_line(alloc: Global, file: &str, name: &str) -> Result<Vec<u8>, NoMemory>
-    ensures { IfOk result (λ line. line.items ≡ file_text file.now name.now) }
-{
-    let mut line = line_on(alloc, file)?;
-    line.extend_from_slice(b": ")?;
-    line.extend_from_slice(name.as_bytes())?;
-    line.push(b'\n')?;
     Ok(line)
 }

@@ -1,3 +1,4 @@
 pub mod GrowingLemmas
+pub mod SpreadLemmas
 pub mod CrossingLemmas
 pub mod SortLemmas

@@ -105,7 +105,3 @@ pub record AreStemsUnder (s : SpellingTree) (count : ℕ) (form : Word) (stems :
 -- the stems of a form under all rules
 abbrev pub AreAllStems : SpellingTree → Word → List StemTree → Type 0
 AreAllStems s form stems = AreStemsUnder s (length s.rules) form stems
-
--- a rule without groups: what has no irregular line is its own form
-abbrev pub IsPlain : SpellingTree → ℕ → Type 0
-IsPlain s rule = (rule_at s.rules rule).groups ≡ []

@@ -1,7 +1,7 @@
 //! Spelling: the forms of a stem, and the stems of a form.
 
 ghost use Rattle.std.specs.Prelude.{◌≡◌, ◌<◌, ◌+◌, ◌↔◌, length, map, IfOk, OnOk, IsTrue, string_bytes, encode_utf8_all};
-ghost use Rattle.spelling_rules.specs.Forms.{AreForms, AreStems, AreStemsUnder, AreAllStems, HasForm, IsPlain};
+ghost use Rattle.spelling_rules.specs.Forms.{AreForms, AreStems, AreStemsUnder, AreAllStems, HasForm};
 ghost use Rattle.spelling_rules.specs.Inner.Keeping.{IsKept};
 ghost use Rattle.spelling_rules.specs.Inner.Tables.{pair_of, lines_with};
 ghost use Rattle.spelling_rules.specs.Inner.Undoing.{HasStems};
@@ -223,14 +223,5 @@ impl Spelling {
         ensures { result ≡ length self.now.rules }
     {
         self.count
-    }
-
-    /// Whether a rule has no groups. Under such a rule a word that no irregular line has is its own form and its only
-    /// stem.
-    pub fn is_plain(&self, rule: u32) -> bool
-        requires { rule < length self.now.rules }
-        ensures { IsTrue result ↔ IsPlain self.now rule }
-    {
-        self.rules[rule as usize].groups.is_empty()
     }
 }

@@ -5,7 +5,8 @@ use Rattle.type_hierarchy.specs.Table.{intersection, set_of}
 use Rattle.type_hierarchy.specs.Inner.Tables.{row_items}
 use Rattle.type_hierarchy.proofs.TypeLemmas.{row_at_is}
 use Rattle.glb_completion.specs.Inner.Growing.{set_at, Adds}
-use Rattle.glb_completion.proofs.GrowingLemmas.{grown, too_many, have_common, disjoint_met, met_of_grown, full_fault, row_seen, HasGrown}
+use Rattle.glb_completion.proofs.GrowingLemmas.{grown, too_many, row_seen, HasGrown}
+use Rattle.glb_completion.proofs.SpreadLemmas.{have_common, disjoint_met, met_of_grown, full_fault}
 use Rattle.glb_completion.proofs.spread.meet_with.Goals as goal
 
 pub returns-then-are_disjoint-clause-met : goal.returns-then-are_disjoint-clause-met

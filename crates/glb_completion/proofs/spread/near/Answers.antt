@@ -2,7 +2,8 @@ use Rattle.std.proofs.Common.{◌<◌, ◌-◌, length, subst, sym, refl, arith}
 use Rattle.type_hierarchy.specs.Bits.{IsRow}
 use Rattle.type_hierarchy.proofs.TypeLemmas.{row_at_is}
 use Rattle.glb_completion.specs.Inner.Growing.{IsUpRow}
-use Rattle.glb_completion.proofs.GrowingLemmas.{nearing_starts, nearer, near_of, row_seen}
+use Rattle.glb_completion.proofs.GrowingLemmas.{row_seen}
+use Rattle.glb_completion.proofs.SpreadLemmas.{nearing_starts, nearer, near_of}
 use Rattle.glb_completion.proofs.spread.near.Goals as goal
 
 pub loop-x-init : goal.loop-x-init

@@ -1,6 +1,6 @@
 use Rattle.std.proofs.Common.{◌≤◌}
 use Rattle.type_hierarchy.specs.Bits.{IsRow}
-use Rattle.glb_completion.proofs.GrowingLemmas.{IsNearing}
+use Rattle.glb_completion.proofs.SpreadLemmas.{IsNearing}
 use Rattle.glb_completion.proofs.spread.near.Given as goal
 
 abbrev pub invariant-loop-x : goal.invariant-loop-x

@@ -5,7 +5,8 @@ use Rattle.type_hierarchy.proofs.TypeLemmas.{row_at_is, same_size}
 use Rattle.glb_completion.specs.Inner.Growing.{HasNear, IsMet}
 use Rattle.glb_completion.proofs.CrossingLemmas.{near_met}
 use Rattle.glb_completion.specs.declared.family.Family.{Family}
-use Rattle.glb_completion.proofs.GrowingLemmas.{IsSpreading, spreading_same, spreading_more, spreading_passed, closed_met, row_seen, still_in, row_bits}
+use Rattle.glb_completion.proofs.GrowingLemmas.{row_seen, still_in, row_bits}
+use Rattle.glb_completion.proofs.SpreadLemmas.{IsSpreading, spreading_same, spreading_more, spreading_passed, closed_met}
 use Rattle.glb_completion.proofs.spread.spread.Goals as goal
 use Rattle.glb_completion.proofs.spread.spread.Goals.{then-is_open+in_ok-meet_with, else-is_open}
 

@@ -1,5 +1,5 @@
 use Rattle.std.proofs.Common.{◌≤◌, ◌-◌}
-use Rattle.glb_completion.proofs.GrowingLemmas.{IsSpreading}
+use Rattle.glb_completion.proofs.SpreadLemmas.{IsSpreading}
 use Rattle.glb_completion.proofs.spread.spread.Given as goal
 
 abbrev pub invariant-loop-t : goal.invariant-loop-t
