@@ -1,6 +1,6 @@
 -- A skeleton and a plan, from the rows of a finished chart.
 use Rattle.std.specs.Prelude.{◌≡◌, ℕ, ◌+◌, ◌*◌, ◌<◌, ◌≤◌, true, is_some, option_map, Option, Some, None, List, [], ◌∷◌, length, map, refl}
-use Rattle.std.proofs.Common.{Vec, Global, get_or, ap, subst, sym, ◌∙◌, arith, zero, suc}
+use Rattle.std.proofs.Common.{get_or, ap, subst, sym, ◌∙◌, arith, zero, suc}
 use Rattle.cover.specs.Calculus.{Calculus, Laws, Along, along_none, along_more}
 use Rattle.chart_model.specs.At.{At, here, there, at_one, at_below}
 use Rattle.chart_model.specs.Chart as chart
@@ -15,18 +15,16 @@ use Rattle.chart_core.specs.View.{into_of, row_of, rows_of, number_of}
 use Rattle.forest_model.specs.Readings.{Wholes}
 use Rattle.forest_model.specs.Lists as model
 use Rattle.forest_model.proofs.Members.{has_map}
-use Rattle.forest_unpack.specs.declared.rows.GroupRow.{GroupRow}
-use Rattle.forest_unpack.specs.declared.rows.GroupRow.TheVariants as told_rows
-use Rattle.forest_unpack.specs.Plans as plans
-use Rattle.forest_unpack.specs.Plans.{told_at, rank_at, AreLower, Fits, IsPlan}
+use Rattle.forest_unpack.specs.Plans.{rank_at, AreLower, Fits, IsPlan}
 use Rattle.forest_unpack.specs.Keeping.{Asked}
 use Rattle.forest_unpack.specs.Ranks.{rank_in, rank_by}
-use Rattle.forest_unpack.specs.Groups.{AreFrontGroups}
+use Rattle.forest_unpack.specs.Groups.{IsTold}
+use Rattle.forest_unpack.specs.Inner.Members.{AreMembers}
 use Rattle.forest_unpack.specs.Asking.{AreAsked}
 use Rattle.forest_unpack.specs.Skeletons.{hosts_in, HasRow, IsSkeleton}
 use Rattle.forest_unpack.proofs.Telling.{at_mapped, row_at, source_at, told_group}
 use Rattle.forest_unpack.proofs.Grounding.{rank_of, falls}
-use Rattle.forest_unpack.proofs.Filling.{told_is, get_map, length_map}
+use Rattle.forest_unpack.proofs.Filling.{length_map}
 
 module _ {A B : Type 0} (R : A → B → Type 0) where
   pub record Behind (xs : List A) (y : B) : Type 0 where
@@ -98,11 +96,10 @@ module _ {X T C W B M V : Type 0} (k : Calculus M C) (laws : Laws k) (limits : c
     (rows : List (Row X T C W B)) (ch : chart.Chart M C) (rows_are : ch.rows ≡ rows_of meaning rows) (into_is : ch.into ≡ into_of rows) (complete : IsComplete k limits leaves ch)
     (proper : (i : ℕ) (row : chart.Row M C) (m : M) → At ch.rows i row → row.shape ≡ Some m → k.proper row.cover)
     (w : Wholes V C) (extent : C → ℕ) (sizes : (c : C) → k.size c ≡ extent c)
-    (groups : List (Vec GroupRow Global)) (groups_are : AreFrontGroups rows (length rows) groups)
     (ranks : List ℕ) (ranks_are : ranks ≡ map (rank_by extent) rows)
     (asked : List (Asked C)) (asked_are : AreAsked w rows (length rows) asked) where
-  told : (h : ℕ) → model.IsToldGroup leaves ch h (told_at groups h)
-  told h = told_group k limits leaves meaning rows ch rows_are into_is complete h (told_at groups h) (groups_are.fronts h)
+  told : (h : ℕ) (ts : List model.GroupRow) → IsTold rows h ts → model.IsToldGroup leaves ch h ts
+  told h ts is = told_group k limits leaves meaning rows ch rows_are into_is complete h ts is
 
   rank_shape : (o : Option T) (m : M) (n l : ℕ) → option_map meaning o ≡ Some m → rank_in o n l ≡ n * 64 + l
   rank_shape None m n l e = absurd (cc)
@@ -135,9 +132,9 @@ module _ {X T C W B M V : Type 0} (k : Calculus M C) (laws : Laws k) (limits : c
       let inside = at_below down.2 in
       (omega (arith, under, a, b), omega (arith, inside, ap length rows_are, length_map (row_of meaning) rows))
 
-  grounded : model.AreGrounded (told_at groups) (rank_at ranks)
-  grounded h row rule ds d has is hd =
-      let t = told h in
+  grounded : (h : ℕ) (ts : List model.GroupRow) → IsTold rows h ts → (row : model.GroupRow) (rule : ℕ) (ds : List ℕ) (d : ℕ) → model.Has row ts → row ≡ model.a_whole rule ds → model.Has d ds → rank_at ranks d < rank_at ranks h
+  grounded h ts of row rule ds d has is hd =
+      let t = told h ts of in
       let b = along_has (model.Describes leaves ch) t.told_of has in
       (drops h b.source rule d ds (whole_at leaves ch b.source row rule ds b.related is) (t.are.each b.source b.has) hd).0
 
@@ -166,7 +163,7 @@ module _ {X T C W B M V : Type 0} (k : Calculus M C) (laws : Laws k) (limits : c
       asked_are.all h row.cover v (at_below s.at)
       (record { row = s.source; at = s.at; shape = some_shape s.source.shape m (ap (λ (r : chart.Row M C). r.shape) s.is ∙ shape); into = is_none_number s.source.into same; cover = ap (λ (r : chart.Row M C). r.cover) s.is }) ok
 
-  pub skeleton : IsSkeleton w leaves ch groups ranks asked
+  pub skeleton : IsSkeleton w leaves ch rows ranks asked
   skeleton =
       record {
         told = told;
@@ -176,30 +173,29 @@ module _ {X T C W B M V : Type 0} (k : Calculus M C) (laws : Laws k) (limits : c
       }
 
   module _ (named : ℕ → Type 0) (ruled : ℕ → ℕ → Type 0) (names : (l : ℕ) (leaf : chart.Leaf M C) → At leaves l leaf → named leaf.name) (rules : (rule : ℕ) → rule < k.rules → ruled rule (k.arity rule)) where
-    lowers : (h i rule : ℕ) (all : List ℕ) → WholeAt leaves ch i rule all → LeadsTo ch.into i h → (ds : List ℕ) → ((d : ℕ) → model.Has d ds → model.Has d all) → AreLower (length groups) ranks h ds
+    lowers : (h i rule : ℕ) (all : List ℕ) → WholeAt leaves ch i rule all → LeadsTo ch.into i h → (ds : List ℕ) → ((d : ℕ) → model.Has d ds → model.Has d all) → AreLower (length rows) ranks h ds
     lowers h i rule all r leads [] within = tt
     lowers h i rule all r leads (d ∷ ds) within =
         let one = drops h i rule d all r leads (within d model.has_here) in
-        (omega (arith, one.1, groups_are.counted), one.0, lowers h i rule all r leads ds (λ e has. within e (model.has_there has)))
+        (one.1, one.0, lowers h i rule all r leads ds (λ e has. within e (model.has_there has)))
 
-    fits : (h i : ℕ) (row : GroupRow) → model.Describes leaves ch i (plans.row_of row) → LeadsTo ch.into i h → Fits named ruled (length groups) ranks h row
-    fits h i (told_rows.Leaf name) is leads =
+    fits : (h i : ℕ) (row : model.GroupRow) → model.Describes leaves ch i row → LeadsTo ch.into i h → Fits named ruled (length rows) ranks h row
+    fits h i (model.a_leaf name) is leads =
         let r = leaf_at leaves ch i (model.a_leaf name) name is refl in
         subst named r.name_is (names i r.leaf r.at)
-    fits h i (told_rows.Whole rule daughters) is leads =
-        let r = whole_at leaves ch i (model.a_whole rule daughters.items) rule daughters.items is refl in
+    fits h i (model.a_whole rule ds) is leads =
+        let r = whole_at leaves ch i (model.a_whole rule ds) rule ds is refl in
         let whole = complete.tuples.no_other i rule r.row r.at r.kind r.live in
-        let count : length daughters.items ≡ k.arity rule = ap length (sym r.daughters) ∙ whole.whole in
+        let count : length ds ≡ k.arity rule = ap length (sym r.daughters) ∙ whole.whole in
         let four = (laws.one_to_four rule whole.rule_is).1 in
-        (subst (ruled rule) (sym count) (rules rule whole.rule_is), omega (arith, count, four), lowers h i rule daughters.items r leads daughters.items (λ d has. has))
+        (subst (ruled rule) (sym count) (rules rule whole.rule_is), omega (arith, count, four), lowers h i rule ds r leads ds (λ d has. has))
 
-    pub plan : IsPlan named ruled groups ranks
-    plan host i d e low within =
-        let t = told host in
-        let group = (get_or groups host d).items in
-        let there : model.Has (plans.row_of (get_or group i e)) (told_at groups host) =
-        subst (λ zs. model.Has (plans.row_of (get_or group i e)) zs) (sym (told_is groups host d low))
-        (subst (λ z. model.Has z (map plans.row_of group)) (sym (get_map plans.row_of group i (get_or group i e) (index_same group i e within)))
-        (has_index (map plans.row_of group) i (plans.row_of (get_or group i e)) (omega (arith, within, length_map plans.row_of group)))) in
-        let b = along_has (model.Describes leaves ch) t.told_of there in
-        fits host b.source (get_or group i e) b.related (t.are.each b.source b.has)
+    pub plan : (last before : List (Option ℕ)) → AreMembers rows (length rows) last before → IsPlan named ruled rows last before ranks
+    plan last before are =
+        record {
+          members = are;
+          fits = λ h ts is row has.
+              let t = told h ts is in
+              let b = along_has (model.Describes leaves ch) t.told_of has in
+              fits h b.source row b.related (t.are.each b.source b.has);
+        }

@@ -1,22 +1,21 @@
--- Groups, row by row.
-use Rattle.std.specs.Prelude.{◌≡◌, ◌⊎◌, ◌&&◌, ℕ, Bool, true, false, not, is_some, is_none, ◌+◌, ◌<◌, ◌≤◌, List, [], ◌∷◌, ◌++◌, length, map, slice_get, slice_set, Option, Some, None, Result, Ok, Err, OnOk, refl}
+-- The rows of a group, one after another.
+use Rattle.std.specs.Prelude.{◌≡◌, ◌&&◌, ℕ, Bool, true, false, not, is_some, is_none, ◌+◌, ◌<◌, ◌≤◌, List, [], ◌∷◌, length, map, slice_get, Option, Some, None, Result, Ok, Err, OnOk, refl}
 use Rattle.std.specs.List.{insert}
-use Rattle.std.proofs.Common.{Vec, Global, get_or, inl, inr, ap, subst, sym, ◌∙◌, arith, zero, suc}
-use Rattle.std.proofs.lemmas.Bool.{cases_lt}
+use Rattle.std.proofs.Common.{get_or, ap, subst, sym, ◌∙◌, arith, zero, suc}
 use Rattle.cover.specs.Calculus.{Along, along_none, along_more}
 use Rattle.chart_model.specs.At.{at_one, at_below, from_get}
 use Rattle.chart_model.specs.Chart.{is_free, all_free}
-use Rattle.chart_model.specs.Grown.{LeadsTo, ends, goes}
-use Rattle.chart_model.proofs.Trees.{leads_one}
+use Rattle.chart_model.specs.Grown.{LeadsTo}
 use Rattle.chart_core.specs.declared.Row.{Row}
 use Rattle.chart_core.specs.declared.RowId.{RowId}
 use Rattle.chart_core.specs.View.{into_of, number_of}
 use Rattle.forest_model.specs.Lists as model
 use Rattle.forest_model.proofs.Members.{Either, on_left, on_right}
 use Rattle.forest_unpack.specs.declared.rows.GroupRow.{GroupRow}
-use Rattle.forest_unpack.specs.Plans.{row_of, told_in, told_at}
-use Rattle.forest_unpack.proofs.Filling.{told_is}
-use Rattle.forest_unpack.specs.Groups.{told_by, TellsAt, IsFrontGroup, AreFrontGroups, NoRows, Gained}
+use Rattle.forest_unpack.specs.Plans.{row_of}
+use Rattle.forest_unpack.specs.Groups.{told_by, TellsAt, IsTold}
+use Rattle.forest_unpack.specs.Inner.Memos.{places_left}
+use Rattle.forest_unpack.specs.Inner.Members.{last_at, IsBelow, Chain, chain_end, chain_on, AreMembersOf, AreMembers, Gains, gains_none, gains_one}
 
 along_insert : {A B : Type 0} (R : A → B → Type 0) (i : ℕ) {xs : List A} {ys : List B} {x : A} {y : B} → Along R xs ys → R x y → Along R (insert xs i x) (insert ys i y)
 along_insert R zero rest r = along_more r rest
@@ -65,138 +64,195 @@ map_insert f xs zero x = refl
 map_insert f [] (suc i) x = refl
 map_insert f (y ∷ ys) (suc i) x = ap (λ zs. f y ∷ zs) (map_insert f ys i x)
 
-module _ {X T C W B : Type 0} (rows : List (Row X T C W B)) (h : ℕ) where
-  pub front_none : IsFrontGroup rows 0 h []
-  front_none =
+first_never : {j : ℕ} {xs : List ℕ} → model.AllDiffer (j ∷ xs) → model.Has j xs → ⊥
+first_never (model.differ_more never d) h = never h
+
+tail_differs : {j : ℕ} {xs : List ℕ} → model.AllDiffer (j ∷ xs) → model.AllDiffer xs
+tail_differs (model.differ_more never d) = d
+
+-- what stands on the way back from a row
+pub record Behind (before : List (Option ℕ)) (j : ℕ) (rest : List ℕ) : Type 0 where
+  pub next : Option ℕ
+  pub more : List ℕ
+  pub is : rest ≡ j ∷ more
+  pub at : slice_get before j ≡ Some next
+  pub below : IsBelow next j
+  pub chain : Chain before next more
+
+behind : (before : List (Option ℕ)) (o : Option ℕ) (rest : List ℕ) (j : ℕ) → Chain before o rest → o ≡ Some j → Behind before j rest
+behind before _ _ j chain_end e = absurd (cc)
+behind before _ _ j (chain_on i next js at below chain) e =
+    let same : i ≡ j = cc in
+    subst (λ n. Behind before n (i ∷ js)) same (record { next = next; more = js; is = refl; at = at; below = below; chain = chain })
+
+ended : (before : List (Option ℕ)) (o : Option ℕ) (rest : List ℕ) → Chain before o rest → o ≡ None → rest ≡ []
+ended before _ _ chain_end e = refl
+ended before _ _ (chain_on i next js at below chain) e = absurd (cc)
+
+-- a place of a list, by its index
+pub got_at : {A : Type 0} (xs : List A) (i : ℕ) (x : A) → i < length xs → x ≡ get_or xs i x → slice_get xs i ≡ Some x
+got_at [] i x low e = absurd (omega (arith, low))
+got_at (y ∷ ys) zero x low e = ap Some (sym e)
+got_at (y ∷ ys) (suc i) x low e = got_at ys i x (omega (arith, low)) e
+
+pub last_is : (last : List (Option ℕ)) (h : ℕ) (o : Option ℕ) → h < length last → o ≡ get_or last h o → o ≡ last_at last h
+last_is [] h o low e = absurd (omega (arith, low))
+last_is (x ∷ xs) zero o low e = e
+last_is (x ∷ xs) (suc h) o low e = last_is xs h o (omega (arith, low)) e
+
+below_left : (o : Option ℕ) (j : ℕ) → IsBelow o j → places_left o < j + 1
+below_left None j b = omega arith
+below_left (Some i) j b = omega (arith, b)
+
+-- a row that is told, at its place
+pub gains_put : (old new : List GroupRow) (row : GroupRow) (place : ℕ) (ts : List model.GroupRow) → row_of row ∷ [] ≡ ts → new ≡ insert old place row → Gains (map row_of old) ts (map row_of new)
+gains_put old new row place ts is put =
+    subst (λ zs. Gains (map row_of old) zs (map row_of new)) is
+    (subst (Gains (map row_of old) (row_of row ∷ [])) (sym (ap (map row_of) put ∙ map_insert row_of old place row)) (gains_one (row_of row) place))
+
+pub gains_nothing : (old : List model.GroupRow) (ts : List model.GroupRow) → [] ≡ ts → Gains old ts old
+gains_nothing old ts is = subst (λ zs. Gains old zs old) is gains_none
+
+-- a group while it is told: of its rows, those that were told, and those that stand on the way back from the next one
+pub record Walks {X T C W B : Type 0} (rows : List (Row X T C W B)) (h : ℕ) (before : List (Option ℕ)) (next : Option ℕ) (told : List model.GroupRow) : Type 0 where
+  pub rest : List ℕ
+  pub part : List ℕ
+  pub chain : Chain before next rest
+  pub each : (j : ℕ) → model.Has j part → LeadsTo (into_of rows) j h
+  pub each_rest : (j : ℕ) → model.Has j rest → (j < length rows) × LeadsTo (into_of rows) j h
+  pub all : (j : ℕ) (g : model.GroupRow) → TellsAt rows j g → LeadsTo (into_of rows) j h → Either j part rest
+  pub differ : model.AllDiffer part
+  pub differ_rest : model.AllDiffer rest
+  pub apart : (j : ℕ) → model.Has j part → model.Has j rest → ⊥
+  pub along : Along (TellsAt rows) part told
+
+module _ {X T C W B : Type 0} (rows : List (Row X T C W B)) (h : ℕ) (before : List (Option ℕ)) where
+  pub walk_start : (last : List (Option ℕ)) (next : Option ℕ) (told : List model.GroupRow) → AreMembers rows (length rows) last before → h < length rows → next ≡ get_or last h next → told ≡ [] → Walks rows h before next told
+  walk_start last next told are low at none =
+      let m = are.members h in
+      let lasts = are.lasts in
+      let same : next ≡ last_at last h = last_is last h next (omega (arith, low, lasts)) at in
       record {
-        numbers = [];
+        rest = m.numbers;
+        part = [];
+        chain = subst (λ o. Chain before o m.numbers) (sym same) m.chain;
         each = λ j x. elim x [ ];
-        all = λ j g low t l. absurd (omega (arith, low));
+        each_rest = m.each;
+        all = λ j g t l. on_right (m.all j g (at_below t.at) t l);
         differ = model.differ_none;
-        along = along_none;
+        differ_rest = m.differ;
+        apart = λ j x y. elim x [ ];
+        along = subst (Along (TellsAt rows) []) (sym none) along_none;
       }
 
-  -- below the next number, or it
-  next : (P : Type 0) (j n : ℕ) → j < n + 1 → (j < n → P) → (j ≡ n → P) → P
-  next P j n low below same = by (cases_lt j n)
-    where
-      by : ((j < n) ⊎ (n ≤ j)) → P
-      by (inl a) = below a
-      by (inr b) = same (omega (arith, b, low))
-
-  -- a row that doesn't count, or stands in another group
-  pub front_skip : (n : ℕ) (told : List model.GroupRow) → IsFrontGroup rows n h told →
-      ((g : model.GroupRow) → TellsAt rows n g → LeadsTo (into_of rows) n h → ⊥) → IsFrontGroup rows (n + 1) h told
-  front_skip n told f never =
+  pub walk_end : (next : Option ℕ) (told : List model.GroupRow) → Walks rows h before next told → next ≡ None → IsTold rows h told
+  walk_end next told w e =
+      let none = ended before next w.rest w.chain e in
       record {
-        numbers = f.numbers;
-        each = λ j x. (let z = (f.each j x).0 in omega (arith, z), (f.each j x).1);
-        all = λ j g low t l.
-            next (model.Has j f.numbers) j n low (λ a. f.all j g a t l)
-            (λ e. absurd (never g (subst (λ i. TellsAt rows i g) e t) (subst (λ i. LeadsTo (into_of rows) i h) e l)));
-        differ = f.differ;
-        along = f.along;
-      }
-
-  -- a row that counts, in this group, at some place
-  pub front_add : (n : ℕ) (told : List model.GroupRow) (place : ℕ) (g : model.GroupRow) → IsFrontGroup rows n h told →
-      TellsAt rows n g → LeadsTo (into_of rows) n h → IsFrontGroup rows (n + 1) h (insert told place g)
-  front_add n told place g f tells leads =
-      record {
-        numbers = insert f.numbers place n;
-        each = λ j x. each_of j (inserted f.numbers place n x);
-        all = λ j k low t l.
-            next (model.Has j (insert f.numbers place n)) j n low (λ a. has_other place n (f.all j k a t l))
-            (λ e. subst (λ i. model.Has i (insert f.numbers place n)) (sym e) (has_new f.numbers place n));
-        differ = differ_insert f.numbers place n f.differ (λ x. let z = (f.each n x).0 in omega (arith, z));
-        along = along_insert (TellsAt rows) place f.along tells;
+        numbers = w.part;
+        each = w.each;
+        all = λ j g t l. only_left j (w.all j g t l) none;
+        differ = w.differ;
+        along = w.along;
       }
     where
-      each_of : (j : ℕ) → Either j f.numbers (n ∷ []) → (j < n + 1) × LeadsTo (into_of rows) j h
-      each_of j (on_left x) = (let z = (f.each j x).0 in omega (arith, z), (f.each j x).1)
-      each_of _ (on_right model.has_here) = (omega arith, leads)
-      each_of j (on_right (model.has_there x)) = elim x [ ]
+      only_left : (j : ℕ) {xs ys : List ℕ} → Either j xs ys → ys ≡ [] → model.Has j xs
+      only_left j (on_left x) none = x
+      only_left j (on_right y) none = let z : model.Has j [] = subst (model.Has j) none y in elim z [ ]
 
-module _ {A : Type 0} where
-  set_here : (xs : List A) (i : ℕ) (v : A) → i < length xs → slice_get (slice_set xs i v) i ≡ Some v
-  set_here [] i v low = absurd (omega (arith, low))
-  set_here (x ∷ xs) zero v low = refl
-  set_here (x ∷ xs) (suc n) v low = set_here xs n v (omega (arith, low))
+  module _ (next : Option ℕ) (told : List model.GroupRow) (w : Walks rows h before next told) (j : ℕ) (is : next ≡ Some j) where
+    here : Behind before j w.rest
+    here = behind before next w.rest j w.chain is
 
-  set_other : (xs : List A) (i : ℕ) (v : A) (h : ℕ) → (h ≡ i → ⊥) → slice_get (slice_set xs i v) h ≡ slice_get xs h
-  set_other [] i v h apart = refl
-  set_other (x ∷ xs) zero v zero apart = absurd (apart refl)
-  set_other (x ∷ xs) zero v (suc h) apart = refl
-  set_other (x ∷ xs) (suc n) v zero apart = refl
-  set_other (x ∷ xs) (suc n) v (suc h) apart = set_other xs n v h (λ e. apart (ap suc e))
+    rest_has : model.Has j w.rest
+    rest_has = subst (model.Has j) (sym here.is) model.has_here
 
-  set_length : (xs : List A) (i : ℕ) (v : A) → length (slice_set xs i v) ≡ length xs
-  set_length [] i v = refl
-  set_length (x ∷ xs) zero v = refl
-  set_length (x ∷ xs) (suc n) v = omega (arith, set_length xs n v)
+    pub walk_low : j < length rows
+    walk_low = (w.each_rest j rest_has).0
 
--- one more group without a row
-pub no_rows_more : (groups : List (Vec GroupRow Global)) (v : Vec GroupRow Global) → v.items ≡ [] → NoRows groups → NoRows (groups ++ v ∷ [])
-no_rows_more [] v e none zero = ap (map row_of) e
-no_rows_more [] v e none (suc h) = refl
-no_rows_more (g ∷ groups) v e none zero = none zero
-no_rows_more (g ∷ groups) v e none (suc h) = no_rows_more groups v e (λ k. none (suc k)) h
+    module _ (after : Option ℕ) (low : j < length before) (at : after ≡ get_or before j after) where
+      same : here.next ≡ after
+      same = let a = got_at before j after low at in let b = here.at in cc
 
--- one more row in the group of a host
-pub gained : (old new : List (Vec GroupRow Global)) (host : ℕ) (v : Vec GroupRow Global) (place : ℕ) (row : model.GroupRow) → host < length old → new ≡ slice_set old host v →
-    map row_of v.items ≡ insert (told_at old host) place row → Gained old host row new
-gained old new host v place row low is e =
-    record {
-      counted = ap length is ∙ set_length old host v;
-      place = place;
-      here = ap (λ gs. told_at gs host) is ∙ ap told_in (set_here old host v low) ∙ e;
-      others = λ h apart. ap (λ gs. told_at gs h) is ∙ ap told_in (set_other old host v h apart);
-    }
+      pub walk_less : places_left after < j + 1
+      walk_less = below_left after j (subst (λ o. IsBelow o j) same here.below)
 
-module _ {X T C W B : Type 0} (rows : List (Row X T C W B)) where
-  pub groups_none : (groups : List (Vec GroupRow Global)) → length groups ≡ length rows → NoRows groups → AreFrontGroups rows 0 groups
-  groups_none groups counted none = record { counted = counted; fronts = λ h. subst (IsFrontGroup rows 0 h) (sym (none h)) (front_none rows h) }
+      never_again : model.Has j here.more → ⊥
+      never_again x = first_never (subst model.AllDiffer here.is w.differ_rest) x
 
-  pub groups_skip : (n : ℕ) (groups : List (Vec GroupRow Global)) → AreFrontGroups rows n groups → ((g : model.GroupRow) → TellsAt rows n g → ⊥) → AreFrontGroups rows (n + 1) groups
-  groups_skip n groups f never = record { counted = f.counted; fronts = λ h. front_skip rows h n (told_at groups h) (f.fronts h) (λ g t l. never g t) }
+      differ_more_rest : model.AllDiffer here.more
+      differ_more_rest = tail_differs (subst model.AllDiffer here.is w.differ_rest)
 
-  -- the host is among the rows
-  leads_low : {into : List (Option ℕ)} {i h : ℕ} → LeadsTo into i h → h < length into
-  leads_low (ends a) = at_below a
-  leads_low (goes a rest) = leads_low rest
+      later : (i : ℕ) → model.Has i here.more → model.Has i w.rest
+      later i x = subst (model.Has i) (sym here.is) (model.has_there x)
 
-  map_length : {A D : Type 0} (f : A → D) (xs : List A) → length (map f xs) ≡ length xs
-  map_length f [] = refl
-  map_length f (x ∷ xs) = omega (arith, map_length f xs)
+      -- the row counts
+      step_one : (g : model.GroupRow) (place : ℕ) → TellsAt rows j g → Walks rows h before after (insert told place g)
+      step_one g place tells =
+          record {
+            rest = here.more;
+            part = insert w.part place j;
+            chain = subst (λ o. Chain before o here.more) same here.chain;
+            each = λ i x. each_of i (inserted w.part place j x);
+            each_rest = λ i x. w.each_rest i (later i x);
+            all = λ i k t l. all_of i (w.all i k t l) here.is;
+            differ = differ_insert w.part place j w.differ (λ x. w.apart j x rest_has);
+            differ_rest = differ_more_rest;
+            apart = λ i x y. apart_of i (inserted w.part place j x) y;
+            along = along_insert (TellsAt rows) place w.along tells;
+          }
+        where
+          each_of : (i : ℕ) → Either i w.part (j ∷ []) → LeadsTo (into_of rows) i h
+          each_of i (on_left x) = w.each i x
+          each_of i (on_right x) = subst (λ n. LeadsTo (into_of rows) n h) (sym (only x)) (w.each_rest j rest_has).1
 
-  pub host_low : (n host : ℕ) (groups : List (Vec GroupRow Global)) → AreFrontGroups rows n groups → {i : ℕ} → LeadsTo (into_of rows) i host → host < length groups
-  host_low n host groups f leads = omega (arith, leads_low leads, f.counted, map_length (λ (row : Row X T C W B). number_of row.into) rows)
+          of_rest : (i : ℕ) → model.Has i (j ∷ here.more) → Either i (insert w.part place j) here.more
+          of_rest _ model.has_here = on_left (has_new w.part place j)
+          of_rest i (model.has_there x) = on_right x
 
-  -- nothing is told of the row
-  pub not_told : (n : ℕ) (row : Row X T C W B) → slice_get rows n ≡ Some row → [] ≡ told_by (into_of rows) row → (g : model.GroupRow) → TellsAt rows n g → ⊥
-  not_told n row at none g t =
-      let same : t.row ≡ row = at_one t.at (from_get rows n row at) in
-      let told : told_by (into_of rows) row ≡ g ∷ [] = subst (λ r. told_by (into_of rows) r ≡ g ∷ []) same t.told_is in
-      cc
+          all_of : (i : ℕ) {xs : List ℕ} → Either i w.part xs → xs ≡ j ∷ here.more → Either i (insert w.part place j) here.more
+          all_of i (on_left x) e = on_left (has_other place j x)
+          all_of i (on_right x) e = of_rest i (subst (model.Has i) e x)
 
-  -- this is told of it
-  pub row_told : (n : ℕ) (row : Row X T C W B) (t : GroupRow) → slice_get rows n ≡ Some row → row_of t ∷ [] ≡ told_by (into_of rows) row → TellsAt rows n (row_of t)
-  row_told n row t at told = record { row = row; at = from_get rows n row at; told_is = sym told }
+          apart_of : (i : ℕ) → Either i w.part (j ∷ []) → model.Has i here.more → ⊥
+          apart_of i (on_left x) y = w.apart i x (later i y)
+          apart_of i (on_right x) y = never_again (subst (λ n. model.Has n here.more) (only x) y)
 
-  pub groups_add : (n : ℕ) (groups new : List (Vec GroupRow Global)) (host : ℕ) (g : model.GroupRow) → AreFrontGroups rows n groups → Gained groups host g new →
-      TellsAt rows n g → LeadsTo (into_of rows) n host → AreFrontGroups rows (n + 1) new
-  groups_add n groups new host g f gain tells leads = record { counted = gain.counted ∙ f.counted; fronts = λ h. at h (cases_lt h host) (cases_lt host h) }
-    where
-      same : IsFrontGroup rows (n + 1) host (told_at new host)
-      same = subst (IsFrontGroup rows (n + 1) host) (sym gain.here) (front_add rows host n (told_at groups host) gain.place g (f.fronts host) tells leads)
+      -- it doesn't
+      step_none : ((g : model.GroupRow) → TellsAt rows j g → ⊥) → Walks rows h before after told
+      step_none never =
+          record {
+            rest = here.more;
+            part = w.part;
+            chain = subst (λ o. Chain before o here.more) same here.chain;
+            each = w.each;
+            each_rest = λ i x. w.each_rest i (later i x);
+            all = λ i k t l. all_of i k t (w.all i k t l) here.is;
+            differ = w.differ;
+            differ_rest = differ_more_rest;
+            apart = λ i x y. w.apart i x (later i y);
+            along = w.along;
+          }
+        where
+          of_rest : (i : ℕ) (k : model.GroupRow) → TellsAt rows i k → model.Has i (j ∷ here.more) → Either i w.part here.more
+          of_rest _ k t model.has_here = absurd (never k t)
+          of_rest i k t (model.has_there x) = on_right x
 
-      other : (h : ℕ) → (h ≡ host → ⊥) → IsFrontGroup rows (n + 1) h (told_at new h)
-      other h apart = subst (IsFrontGroup rows (n + 1) h) (sym (gain.others h apart)) (front_skip rows h n (told_at groups h) (f.fronts h) (λ k t l. apart (leads_one l leads)))
+          all_of : (i : ℕ) (k : model.GroupRow) → TellsAt rows i k → {xs : List ℕ} → Either i w.part xs → xs ≡ j ∷ here.more → Either i w.part here.more
+          all_of i k t (on_left x) e = on_left x
+          all_of i k t (on_right x) e = of_rest i k t (subst (model.Has i) e x)
 
-      at : (h : ℕ) → ((h < host) ⊎ (host ≤ h)) → ((host < h) ⊎ (h ≤ host)) → IsFrontGroup rows (n + 1) h (told_at new h)
-      at h (inl a) q = other h (λ e. absurd (omega (arith, a, e)))
-      at h (inr a) (inl b) = other h (λ e. absurd (omega (arith, b, e)))
-      at h (inr a) (inr b) = let e : host ≡ h = omega (arith, a, b) in subst (λ i. IsFrontGroup rows (n + 1) i (told_at new i)) e same
+      step_by : (row : Row X T C W B) → slice_get rows j ≡ Some row → (ts new : List model.GroupRow) → ts ≡ told_by (into_of rows) row → Gains told ts new → Walks rows h before after new
+      step_by row there _ _ is gains_none =
+          step_none
+          (λ g t.
+          let one : t.row ≡ row = at_one t.at (from_get rows j row there) in
+          let tells : told_by (into_of rows) row ≡ g ∷ [] = subst (λ r. told_by (into_of rows) r ≡ g ∷ []) one t.told_is in
+          cc)
+      step_by row there _ _ is (gains_one g place) = step_one g place (record { row = row; at = from_get rows j row there; told_is = sym is })
+
+      pub walk_step : (row : Row X T C W B) (new : List model.GroupRow) → slice_get rows j ≡ Some row → Gains told (told_by (into_of rows) row) new → Walks rows h before after new
+      walk_step row new there gains = step_by row there (told_by (into_of rows) row) new refl gains
 
 and_true : (b : Bool) → (b && true) ≡ b
 and_true true = refl
@@ -231,13 +287,6 @@ module _ {X T C W B : Type 0} where
 pub none_is : {A : Type 0} (b : Bool) (o : Option A) → is_some o ≡ not b → b ≡ is_none o
 none_is true o e = sym (ap not e)
 none_is false o e = sym (ap not e)
-
-module _ (groups : List (Vec GroupRow Global)) (host : ℕ) (low : host < length groups) where
-  -- one more row in a vector of the groups
-  pub gained_insert : (old new : Vec GroupRow Global) (row : GroupRow) (place : ℕ) → old ≡ get_or groups host old → new.items ≡ insert old.items place row → Gained groups host (row_of row) (slice_set groups host new)
-  gained_insert old new row place at put =
-      gained groups (slice_set groups host new) host new place (row_of row) low refl
-      (ap (map row_of) put ∙ map_insert row_of old.items place row ∙ ap (λ (v : Vec GroupRow Global). insert (map row_of v.items) place (row_of row)) at ∙ ap (λ zs. insert zs place (row_of row)) (sym (told_is groups host old low)))
 
 pub on_ok : {A E P Q : Type 0} (r : Result A E) → (P → Q) → OnOk r P → OnOk r Q
 on_ok (Ok x) f p = f p

@@ -11,6 +11,7 @@ pub mod Taking
 pub mod Whole
 pub mod Rising
 pub mod Leading
+pub mod Entering
 pub mod Grouping
 pub mod Telling
 pub mod Grounding
@@ -18,3 +19,4 @@ pub mod Askings
 pub mod Sizing
 pub mod Building
 pub mod Ready
+pub mod Waiting

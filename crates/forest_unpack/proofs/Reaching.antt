@@ -3,13 +3,12 @@ use Rattle.std.specs.Prelude.{◌≡◌, ℕ, ◌<◌, Bool, Option, Some, None,
 use Rattle.std.proofs.Common.{Vec, Global, refl, ap, subst, sym, arith, get_or, zero, suc}
 use Rattle.std.proofs.lemmas.List.Elements.{All-head, All-tail, All-nil, All-cons, All-append, All-push, All-map}
 use Rattle.std.specs.Arc.{arc_value}
+use Rattle.chart_core.specs.declared.Row.{Row}
 use Rattle.forest_model.specs.Readings.{Wholes}
 use Rattle.forest_model.specs.Lists as model
 use Rattle.forest_unpack.specs.declared.item.Item.{Item}
-use Rattle.forest_unpack.specs.declared.rows.GroupRow.{GroupRow}
-use Rattle.forest_unpack.specs.declared.rows.GroupRow.TheVariants as rows
 use Rattle.forest_unpack.specs.Items.{item_of, list_in, list_at, IsMade, IsListed}
-use Rattle.forest_unpack.specs.Plans.{row_of, told_in, told_at, Fits, IsPlan, AreGathered}
+use Rattle.forest_unpack.specs.Plans.{Fits, IsPlan, AreGathered}
 use Rattle.forest_unpack.specs.Reached.{IsReached, reached_leaf, reached_phrase}
 use Rattle.forest_unpack.specs.Inner.Memos.{IsReachedItem, AreReached}
 use Rattle.forest_unpack.proofs.Memos.{made_is}
@@ -17,11 +16,6 @@ use Rattle.forest_unpack.proofs.Memos.{made_is}
 unmapped : {A B : Type 0} (P : B → Type 0) (f : A → B) (xs : List A) → All P (map f xs) → All (λ x. P (f x)) xs
 unmapped P f [] all = All-nil (λ x. P (f x))
 unmapped P f (x ∷ xs) all = All-cons (λ y. P (f y)) x xs (All-head P (f x) (map f xs) all) (unmapped P f xs (All-tail P (f x) (map f xs) all))
-
-got : {A : Type 0} (xs : List A) (n : ℕ) (x : A) → slice_get xs n ≡ Some x → (n < length xs) × (get_or xs n x ≡ x)
-got [] n x e = absurd (cc)
-got (y ∷ xs) zero x e = (omega arith, cc)
-got (y ∷ xs) (suc n) x e = let z = got xs n x e in let low = z.0 in (omega (arith, low), z.1)
 
 module _ {C V : Type 0} (w : Wholes V C) (named : ℕ → Type 0) where
   abbrev Holds : model.Item V → Type 0
@@ -48,36 +42,17 @@ module _ {C V : Type 0} (w : Wholes V C) (named : ℕ → Type 0) where
     gather_reached n (model.gather_stops told e) = All-nil Holds
     gather_reached n (model.gather_more row told xs ys g rest) = All-append Holds xs ys (gives_reached (n row model.has_here) g) (gather_reached (λ r h. n r (model.has_there h)) rest)
 
-  fits_named : (ruled : ℕ → ℕ → Type 0) (hosts : ℕ) (ranks : List ℕ) (host : ℕ) (row : GroupRow) → Fits named ruled hosts ranks host row → Named (row_of row)
-  fits_named ruled hosts ranks host (rows.Leaf name) f = f
-  fits_named ruled hosts ranks host (rows.Whole rule daughters) f = tt
-
-  rows_named : (group : List GroupRow) → ((i : ℕ) (e : GroupRow) → i < length group → Named (row_of (get_or group i e))) → (row : model.GroupRow) → model.Has row (map row_of group) → Named row
-  rows_named [] each row h = elim h [ ]
-  rows_named (e ∷ es) each _ model.has_here = each 0 e (omega arith)
-  rows_named (e ∷ es) each row (model.has_there h) = rows_named es (λ i d low. each (suc i) d (omega (arith, low))) row h
-
-  -- the rows of a plan are named
-  told_named : (ruled : ℕ → ℕ → Type 0) (groups : List (Vec GroupRow Global)) (ranks : List ℕ) → IsPlan named ruled groups ranks → (host : ℕ) (row : model.GroupRow) → model.Has row (told_at groups host) → Named row
-  told_named ruled groups ranks plan host row h = by_group (slice_get groups host) refl row h
-    where
-      by_group : (o : Option (Vec GroupRow Global)) → slice_get groups host ≡ o → (row : model.GroupRow) → model.Has row (told_in o) → Named row
-      by_group None e row h = elim h [ ]
-      by_group (Some group) e row h =
-          let z = got groups host group e in
-          rows_named group.items
-          (λ i d low.
-          let inside : i < length (get_or groups host group).items = subst (λ (v : Vec GroupRow Global). i < length v.items) (sym z.1) low in
-          fits_named ruled (length groups) ranks host (get_or group.items i d)
-          (subst (λ (v : Vec GroupRow Global). Fits named ruled (length groups) ranks host (get_or v.items i d)) z.1 (plan host i group d z.0 inside)))
-          row h
+  fits_named : (ruled : ℕ → ℕ → Type 0) (hosts : ℕ) (ranks : List ℕ) (host : ℕ) (row : model.GroupRow) → Fits named ruled hosts ranks host row → Named row
+  fits_named ruled hosts ranks host (model.a_leaf name) f = f
+  fits_named ruled hosts ranks host (model.a_whole rule ds) f = tt
 
 module _ {X T C W V : Type 0} (value : T → V) (w : Wholes V C) (named : ℕ → Type 0) where
   -- lists that were gathered by a plan hold what leaves and rules give
-  pub gathered_reached : (ruled : ℕ → ℕ → Type 0) (cut : Bool) (groups : List (Vec GroupRow Global)) (ranks : List ℕ) (table : List (Option (Vec (Item X T C W) Global))) → IsPlan named ruled groups ranks → AreGathered value w cut groups table → AreReached value w named table
-  gathered_reached ruled cut groups ranks table plan gathered h made at =
+  pub gathered_reached : {Y S D U B : Type 0} (ruled : ℕ → ℕ → Type 0) (cut : Bool) (rows : List (Row Y S D U B)) (last before : List (Option ℕ)) (ranks : List ℕ) (table : List (Option (Vec (Item X T C W) Global))) → IsPlan named ruled rows last before ranks → AreGathered value w cut rows table → AreReached value w named table
+  gathered_reached ruled cut rows last before ranks table plan gathered h made at =
       let listed : IsListed table h = subst IsMade (sym at) tt in
-      let all = gather_reached w named cut (list_at value table) (IsListed table) (told_named w named ruled groups ranks plan h) (gathered h listed) in
+      let g = gathered h listed in
+      let all = gather_reached w named cut (list_at value table) (IsListed table) (λ row has. fits_named w named ruled (length rows) ranks h row (plan.fits h g.told g.is row has)) g.gather in
       unmapped (Holds w named) (item_of value) made.items (subst (All (Holds w named)) (ap (list_in value) at) all)
 
   -- the items of a list that was made

@@ -2,7 +2,7 @@
 use Rattle.std.specs.Prelude.{◌≡◌, ℕ, Bool, true, false, if◌then◌else◌, Option, Some, List, [], ◌∷◌, length, map, slice_get, refl}
 use Rattle.std.proofs.Common.{ap, subst, sym, ◌∙◌, zero, suc}
 use Rattle.cover.specs.Calculus.{Calculus, Along, along_none, along_more}
-use Rattle.chart_model.specs.At.{At, here, there, at_one, at_below, at_found, to_get}
+use Rattle.chart_model.specs.At.{At, here, there, at_one, at_found, to_get}
 use Rattle.chart_model.specs.Chart as chart
 use Rattle.chart_model.specs.Chart.{OfLeaf, OfWhole, all_free, leaf_row}
 use Rattle.chart_model.specs.Finished.{IsComplete}
@@ -12,7 +12,7 @@ use Rattle.chart_core.specs.declared.RowKind.{RowKind}
 use Rattle.chart_core.specs.declared.RowKind.TheVariants as kinds
 use Rattle.chart_core.specs.View.{into_of, list_of, kind_of, row_of, rows_of}
 use Rattle.forest_model.specs.Lists as model
-use Rattle.forest_unpack.specs.Groups.{told_of_kind, TellsAt, IsFrontGroup}
+use Rattle.forest_unpack.specs.Groups.{told_of_kind, TellsAt, IsTold}
 
 told_leaf : (into : List (Option ℕ)) (ds : List ℕ) (kind : RowKind) (name : ℕ) → kind_of kind ≡ OfLeaf name → told_of_kind into ds kind ≡ model.a_leaf name ∷ []
 told_leaf into ds (kinds.Leaf n) name e = let f : n ≡ name = cc in ap (λ i. model.a_leaf i ∷ []) f
@@ -82,12 +82,12 @@ module _ {X T C W B M : Type 0} (k : Calculus M C) (limits : chart.Limits) (leav
   along_described along_none = along_none
   along_described (along_more {x = j} {y = g} t rest) = along_more (describes j g t) (along_described rest)
 
-  pub told_group : (h : ℕ) (told : List model.GroupRow) → IsFrontGroup rows (length rows) h told → model.IsToldGroup leaves ch h told
+  pub told_group : (h : ℕ) (told : List model.GroupRow) → IsTold rows h told → model.IsToldGroup leaves ch h told
   told_group h told f =
       record {
         rows = f.numbers;
         are = record {
-          each = λ i x. subst (λ into. LeadsTo into i h) (sym into_is) (f.each i x).1;
+          each = λ i x. subst (λ into. LeadsTo into i h) (sym into_is) (f.each i x);
           all = λ t i s. counts s;
           differ = f.differ;
         };
@@ -98,13 +98,13 @@ module _ {X T C W B M : Type 0} (k : Calculus M C) (limits : chart.Limits) (leav
       counts (stands_leaf {l = l} low leads) =
           let leaf = at_found leaves l low in
           let s = source_at (complete.leaf_rows.row_is l leaf.0 leaf.1) in
-          f.all l (model.a_leaf leaf.0.name) (at_below s.at)
+          f.all l (model.a_leaf leaf.0.name)
           (record { row = s.source; at = s.at; told_is = told_leaf (into_of rows) (list_of s.source.daughters) s.source.kind leaf.0.name (ap (λ (r : chart.Row M C). r.kind) s.is) })
           (subst (λ into. LeadsTo into l h) into_is leads)
       counts (stands_phrase {rule = rule} {i = i} row at kind free all leads) =
           let s = source_at at in
           let same : list_of s.source.daughters ≡ row.daughters = ap (λ (r : chart.Row M C). r.daughters) s.is in
           let live : all_free (into_of rows) (list_of s.source.daughters) ≡ true = ap (all_free (into_of rows)) same ∙ ap (λ into. all_free into row.daughters) (sym into_is) ∙ free in
-          f.all i (model.a_whole rule (list_of s.source.daughters)) (at_below s.at)
+          f.all i (model.a_whole rule (list_of s.source.daughters))
           (record { row = s.source; at = s.at; told_is = told_whole (into_of rows) (list_of s.source.daughters) s.source.kind rule (ap (λ (r : chart.Row M C). r.kind) s.is ∙ kind) live })
           (subst (λ into. LeadsTo into i h) into_is leads)

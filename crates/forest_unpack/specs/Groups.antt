@@ -1,7 +1,5 @@
 -- The rows of groups, as they are told of a chart's rows.
-use Rattle.std.specs.Prelude.{◌≡◌, ℕ, ◌<◌, if◌then◌else◌, Option, List, [], ◌∷◌, length}
-use Rattle.std.specs.List.{insert}
-use Rattle.std.proofs.Common.{Vec, Global}
+use Rattle.std.specs.Prelude.{◌≡◌, ℕ, if◌then◌else◌, Option, List, [], ◌∷◌}
 use Rattle.cover.specs.Calculus.{Along}
 use Rattle.chart_model.specs.At.{At}
 use Rattle.chart_model.specs.Chart.{all_free}
@@ -11,8 +9,6 @@ use Rattle.chart_core.specs.declared.RowKind.{RowKind}
 use Rattle.chart_core.specs.declared.RowKind.TheVariants as kinds
 use Rattle.chart_core.specs.View.{into_of, list_of}
 use Rattle.forest_model.specs.Lists as model
-use Rattle.forest_unpack.specs.declared.rows.GroupRow.{GroupRow}
-use Rattle.forest_unpack.specs.Plans.{told_at}
 
 abbrev pub told_of_kind : List (Option ℕ) → List ℕ → RowKind → List model.GroupRow
 told_of_kind into ds (kinds.Leaf name) = model.a_leaf name ∷ []
@@ -30,24 +26,10 @@ module _ {X T C W B : Type 0} where
     pub at : At rows j row
     pub told_is : told_by (into_of rows) row ≡ told ∷ []
 
-  -- of the first n rows, exactly these are told in the group of h, each once
-  pub record IsFrontGroup (rows : List (Row X T C W B)) (n h : ℕ) (told : List model.GroupRow) : Type 0 where
+  -- exactly these are told in the group of h, each once, in some order
+  pub record IsTold (rows : List (Row X T C W B)) (h : ℕ) (told : List model.GroupRow) : Type 0 where
     pub numbers : List ℕ
-    pub each : (j : ℕ) → model.Has j numbers → (j < n) × LeadsTo (into_of rows) j h
-    pub all : (j : ℕ) (g : model.GroupRow) → j < n → TellsAt rows j g → LeadsTo (into_of rows) j h → model.Has j numbers
+    pub each : (j : ℕ) → model.Has j numbers → LeadsTo (into_of rows) j h
+    pub all : (j : ℕ) (g : model.GroupRow) → TellsAt rows j g → LeadsTo (into_of rows) j h → model.Has j numbers
     pub differ : model.AllDiffer numbers
     pub along : Along (TellsAt rows) numbers told
-
-  pub record AreFrontGroups (rows : List (Row X T C W B)) (n : ℕ) (groups : List (Vec GroupRow Global)) : Type 0 where
-    pub counted : length groups ≡ length rows
-    pub fronts : (h : ℕ) → IsFrontGroup rows n h (told_at groups h)
-
-abbrev pub NoRows : List (Vec GroupRow Global) → Type 0
-NoRows groups = (h : ℕ) → told_at groups h ≡ []
-
--- the group of the host has one row more at some place, the others stayed
-pub record Gained (old : List (Vec GroupRow Global)) (host : ℕ) (row : model.GroupRow) (new : List (Vec GroupRow Global)) : Type 0 where
-  pub counted : length new ≡ length old
-  pub place : ℕ
-  pub here : told_at new host ≡ insert (told_at old host) place row
-  pub others : (h : ℕ) → (h ≡ host → ⊥) → told_at new h ≡ told_at old h

@@ -1,37 +1,21 @@
-//! The rows of each group of a finished chart.
+//! The rows of the group of a host.
 
-ghost use Rattle.std.specs.Prelude.{◌≡◌, ◌<◌, ◌≤◌, ◌+◌, ◌++◌, ◌∷◌, [], length, map, IfOk, OnOk, true};
+ghost use Rattle.std.specs.Prelude.{◌≡◌, ◌<◌, ◌≤◌, ◌++◌, [], length, map, IfOk, OnOk};
 ghost use Rattle.cover.specs.Tuples.{on_list};
 ghost use Rattle.chart_model.specs.Chart.{all_free};
-ghost use Rattle.chart_model.specs.Grown.{LeadsTo};
-ghost use Rattle.chart_core.specs.Grammar.{grammar_of};
-ghost use Rattle.chart_core.specs.Kept.{IsCore, core_of, rows_in};
+ghost use Rattle.chart_core.specs.Kept.{core_of, rows_in};
 ghost use Rattle.chart_core.specs.View.{into_of, list_of, one_of};
-ghost use Rattle.forest_unpack.specs.Plans.{row_of, told_at};
-ghost use Rattle.forest_unpack.specs.Groups.{told_by, AreFrontGroups, NoRows, Gained};
+ghost use Rattle.forest_unpack.specs.Plans.{row_of};
+ghost use Rattle.forest_unpack.specs.Groups.{told_by, IsTold};
+ghost use Rattle.forest_unpack.specs.Inner.Members.{AreMembers, Gains};
 
 use crate::NoMemory;
+use crate::members::Members;
 use crate::ranks::LEVELS;
 use crate::rows::GroupRow;
 use chart_core::{Daughters, Finished, Row, RowId, RowKind};
 use cover::Shapes;
 use std::alloc::Global;
-
-/// The last representative of a row: the host that it is packed or frosted into, by way of others; a row that is neither is its own.
-fn host_of<S: Shapes>(finished: &Finished<S>, row: RowId) -> RowId
-    requires core { (s : S) × IsCore (grammar_of S.Shapes S.Cover.Cover.own s) (core_of finished.now) }
-    requires made { row.0 < length (rows_in (core_of finished.now)) }
-    ensures { LeadsTo (into_of (rows_in (core_of finished.now))) row.0 result.0 }
-{
-    let Some(first) = finished.row(row).into else {
-        return row;
-    };
-    let mut host = first;
-    while let Some(next) = finished.row(host).into {
-        host = next;
-    }
-    host
-}
 
 /// Whether a row, if there is one, is a live host.
 fn is_live<S: Shapes>(finished: &Finished<S>, row: Option<RowId>) -> bool
@@ -97,18 +81,6 @@ fn told<S: Shapes>(
     }
 }
 
-/// As many groups with no row.
-fn no_groups(alloc: Global, count: usize) -> Result<Vec<Vec<GroupRow>>, NoMemory>
-    ensures { IfOk result (λ groups. (length groups.items ≡ count) × NoRows groups.items) }
-{
-    let mut groups = Vec::new(alloc);
-    while groups.len() < count {
-        let group = Vec::new(alloc);
-        groups.push(group)?;
-    }
-    Ok(groups)
-}
-
 /// The size of a daughter, by its rank.
 fn size_of(ranks: &[u64], daughter: u64) -> u64 {
     match ranks.get(daughter as usize) {
@@ -150,62 +122,49 @@ fn is_after(ranks: &[u64], row: &GroupRow, other: &GroupRow) -> bool {
     }
 }
 
-/// The place of one more row in a group: behind those that don't come after it.
+/// The place of one more row in a group: behind those that it comes after. Rows are added from the last one backwards, so of rows between which rules and sizes don't tell the first one stands first.
 fn place_of(ranks: &[u64], group: &[GroupRow], row: &GroupRow) -> usize
     ensures { result ≤ length group.now }
 {
-    group.partition_point(|other| !is_after(ranks, other, row))
+    group.partition_point(|other| is_after(ranks, row, other))
 }
 
-/// Adds a row to the group of a host, at its place.
-fn add(
-    groups: &mut Vec<Vec<GroupRow>>,
+/// Adds what is told of a row at its place, if the row counts.
+fn add_told<S: Shapes>(
+    alloc: Global,
+    finished: &Finished<S>,
     ranks: &[u64],
-    host: u64,
-    row: GroupRow,
+    row: &Row<S>,
+    group: &mut Vec<GroupRow>,
 ) -> Result<(), NoMemory>
-    requires { host < length groups.old.items }
-    ensures { OnOk result (Gained groups.old.items host (row_of row) groups.new.items) }
+    ensures { OnOk result (Gains (map row_of group.old.items) (told_by (into_of (rows_in (core_of finished.now))) row.now) (map row_of group.new.items)) }
 {
-    let group = &mut groups[host as usize];
-    let place = place_of(ranks, group, &row);
-    group.insert(place, row)?;
+    let Some(told) = told(alloc, finished, row)? else {
+        return Ok(());
+    };
+    let place = place_of(ranks, group, &told);
+    group.insert(place, told)?;
     Ok(())
 }
 
-/// Adds what is told of a row to the group of its host, if it counts.
-fn add_row<S: Shapes>(
+/// The rows of the group of a host that count, in the order of the trees that they give as far as rules and sizes tell it.
+pub fn group_of<S: Shapes>(
     alloc: Global,
     finished: &Finished<S>,
+    members: &Members,
     ranks: &[u64],
-    row: RowId,
-    groups: &mut Vec<Vec<GroupRow>>,
-) -> Result<(), NoMemory>
-    requires core { (s : S) × IsCore (grammar_of S.Shapes S.Cover.Cover.own s) (core_of finished.now) }
-    requires made { row.0 < length (rows_in (core_of finished.now)) }
-    requires groups { AreFrontGroups (rows_in (core_of finished.now)) row.0 groups.old.items }
-    ensures { OnOk result (AreFrontGroups (rows_in (core_of finished.now)) (row.0 + 1) groups.new.items) }
+    host: u64,
+) -> Result<Vec<GroupRow>, NoMemory>
+    requires members { AreMembers (rows_in (core_of finished.now)) (length (rows_in (core_of finished.now))) members.now.last.items members.now.before.items }
+    requires host { host < length (rows_in (core_of finished.now)) }
+    ensures { IfOk result (λ group. IsTold (rows_in (core_of finished.now)) host (map row_of group.items)) }
 {
-    let made = finished.row(row);
-    let Some(told) = told(alloc, finished, made)? else {
-        return Ok(());
-    };
-    let host = host_of(finished, row);
-    add(groups, ranks, host.0, told)
-}
-
-/// The rows of each group, by its host, in the order of the trees that they give as far as rules and sizes tell it. Other rows have none.
-pub fn groups_of<S: Shapes>(
-    alloc: Global,
-    finished: &Finished<S>,
-    ranks: &[u64],
-) -> Result<Vec<Vec<GroupRow>>, NoMemory>
-    requires { (s : S) × IsCore (grammar_of S.Shapes S.Cover.Cover.own s) (core_of finished.now) }
-    ensures { IfOk result (λ groups. AreFrontGroups (rows_in (core_of finished.now)) (length (rows_in (core_of finished.now))) groups.items) }
-{
-    let mut groups = no_groups(alloc, finished.rows() as usize)?;
-    for i in 0..finished.rows() {
-        add_row(alloc, finished, ranks, RowId(i), &mut groups)?;
+    let mut group = Vec::new(alloc);
+    let mut next = members.last[host as usize];
+    while let Some(number) = next {
+        let row = finished.row(RowId(number as u64));
+        add_told(alloc, finished, ranks, row, &mut group)?;
+        next = members.before[number as usize];
     }
-    Ok(groups)
+    Ok(group)
 }

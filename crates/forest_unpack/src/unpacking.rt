@@ -2,7 +2,7 @@
 
 ghost use Rattle.std.specs.Prelude.{◌≡◌, IfOk, MatchOption, MatchResult, length, map};
 ghost use Rattle.chart_core.specs.CoreView.{chart_of, leaves_of};
-ghost use Rattle.chart_core.specs.Kept.{core_of};
+ghost use Rattle.chart_core.specs.Kept.{core_of, rows_in};
 ghost use Rattle.chart_core.specs.Grammar.{grammar_of};
 ghost use Rattle.derivation.specs.Views.{derivation_of};
 ghost use Rattle.forest_unpack.specs.Unpacking.{Suits, AreUnpacked, IsUnpackFault};
@@ -13,13 +13,12 @@ ghost use Rattle.forest_unpack.specs.Skeletons.{IsSkeleton};
 
 use crate::asking::wanted_of;
 use crate::collecting::{Wanted, collect};
-use crate::groups::groups_of;
 use crate::item::Item;
 use crate::keeping::{sort, trees_of};
-use crate::lists::Plan;
+use crate::listing::Plan;
+use crate::members::{Members, members_of};
 use crate::memo::Memo;
 use crate::ranks::ranks_of;
-use crate::rows::GroupRow;
 use crate::{Fulls, NoMemory, UnpackFault};
 use chart_core::Finished;
 use cover::Shapes;
@@ -41,22 +40,21 @@ fn no_lists<F: Fulls>(alloc: Global, count: usize) -> Result<Vec<Option<Vec<Item
 /// One pass over the wanted hosts of a chart: the trees that are asked for, or none where a list was cut.
 fn pass<'p, 'w, S: Shapes, F: Fulls<Cover = S::Cover>>(
     alloc: Global,
-    _finished: &Finished<S>,
     _shapes: &S,
-    plan: &'p Plan<'p, F>,
+    plan: &'p Plan<'p, S, F>,
     wanted: &'w [Wanted<'w, F>],
     work: &mut F::Work,
     max: u32,
 ) -> Result<Option<Vec<Tree>>, UnpackFault>
-    requires suits { Suits (grammar_of S.Shapes S.Cover.Cover.own _shapes.now) (F.wholes plan.now.fulls.now) _finished.now (S.full _shapes.now) (S.agrees _shapes.now) (F.named plan.now.fulls.now) (F.ruled plan.now.fulls.now) }
-    requires skeleton { IsSkeleton (F.wholes plan.now.fulls.now) (leaves_of (S.meaning _shapes.now) (core_of _finished.now)) (chart_of (S.meaning _shapes.now) (core_of _finished.now)) plan.now.groups.now plan.now.ranks.now (map asked_of wanted.now) }
-    requires plan { IsPlan (F.named plan.now.fulls.now) (F.ruled plan.now.fulls.now) plan.now.groups.now plan.now.ranks.now }
-    requires wanted { AllBelow (length plan.now.groups.now) wanted.now }
+    requires suits { Suits (grammar_of S.Shapes S.Cover.Cover.own _shapes.now) (F.wholes plan.now.fulls.now) plan.now.finished.now (S.full _shapes.now) (S.agrees _shapes.now) (F.named plan.now.fulls.now) (F.ruled plan.now.fulls.now) }
+    requires skeleton { IsSkeleton (F.wholes plan.now.fulls.now) (leaves_of (S.meaning _shapes.now) (core_of plan.now.finished.now)) (chart_of (S.meaning _shapes.now) (core_of plan.now.finished.now)) (rows_in (core_of plan.now.finished.now)) plan.now.ranks.now (map asked_of wanted.now) }
+    requires plan { IsPlan (F.named plan.now.fulls.now) (F.ruled plan.now.fulls.now) (rows_in (core_of plan.now.finished.now)) plan.now.members.now.last.items plan.now.members.now.before.items plan.now.ranks.now }
+    requires wanted { AllBelow (length (rows_in (core_of plan.now.finished.now))) wanted.now }
     ensures { MatchResult result
-        (λ o. MatchOption o (Unit {0}) (λ v. AreUnpacked (grammar_of S.Shapes S.Cover.Cover.own _shapes.now) (F.wholes plan.now.fulls.now) _finished.now max (map derivation_of v.items)))
-        (IsUnpackFault (grammar_of S.Shapes S.Cover.Cover.own _shapes.now) (F.wholes plan.now.fulls.now) _finished.now max) }
+        (λ o. MatchOption o (Unit {0}) (λ v. AreUnpacked (grammar_of S.Shapes S.Cover.Cover.own _shapes.now) (F.wholes plan.now.fulls.now) plan.now.finished.now max (map derivation_of v.items)))
+        (IsUnpackFault (grammar_of S.Shapes S.Cover.Cover.own _shapes.now) (F.wholes plan.now.fulls.now) plan.now.finished.now max) }
 {
-    let mut table = no_lists(alloc, plan.groups.len())?;
+    let mut table = no_lists(alloc, plan.finished.rows() as usize)?;
     let mut memo = Memo::new(alloc);
     let mut cut = false;
     let mut trees = Vec::new(alloc);
@@ -81,22 +79,22 @@ fn pass<'p, 'w, S: Shapes, F: Fulls<Cover = S::Cover>>(
     Ok(Some(trees_of(alloc, trees)?))
 }
 
-/// The trees over a chart's leaves that are asked for, by its groups, ranks and wanted hosts. Lists are cut first just above `max`, and later if need be.
+/// The trees over a chart's leaves that are asked for, by the rows of its groups, their ranks and wanted hosts. Lists are cut first just above `max`, and later if need be.
 fn unpack_by<'w, S: Shapes, F: Fulls<Cover = S::Cover>>(
     alloc: Global,
     finished: &Finished<S>,
     shapes: &S,
     fulls: &F,
-    groups: &[Vec<GroupRow>],
+    members: &Members,
     ranks: &[u64],
     wanted: &'w [Wanted<'w, F>],
     work: &mut F::Work,
     max: u32,
 ) -> Result<Vec<Tree>, UnpackFault>
     requires suits { Suits (grammar_of S.Shapes S.Cover.Cover.own shapes.now) (F.wholes fulls.now) finished.now (S.full shapes.now) (S.agrees shapes.now) (F.named fulls.now) (F.ruled fulls.now) }
-    requires skeleton { IsSkeleton (F.wholes fulls.now) (leaves_of (S.meaning shapes.now) (core_of finished.now)) (chart_of (S.meaning shapes.now) (core_of finished.now)) groups.now ranks.now (map asked_of wanted.now) }
-    requires plan { IsPlan (F.named fulls.now) (F.ruled fulls.now) groups.now ranks.now }
-    requires wanted { AllBelow (length groups.now) wanted.now }
+    requires skeleton { IsSkeleton (F.wholes fulls.now) (leaves_of (S.meaning shapes.now) (core_of finished.now)) (chart_of (S.meaning shapes.now) (core_of finished.now)) (rows_in (core_of finished.now)) ranks.now (map asked_of wanted.now) }
+    requires plan { IsPlan (F.named fulls.now) (F.ruled fulls.now) (rows_in (core_of finished.now)) members.now.last.items members.now.before.items ranks.now }
+    requires wanted { AllBelow (length (rows_in (core_of finished.now))) wanted.now }
     ensures { MatchResult result
         (λ v. AreUnpacked (grammar_of S.Shapes S.Cover.Cover.own shapes.now) (F.wholes fulls.now) finished.now max (map derivation_of v.items))
         (IsUnpackFault (grammar_of S.Shapes S.Cover.Cover.own shapes.now) (F.wholes fulls.now) finished.now max) }
@@ -105,11 +103,12 @@ fn unpack_by<'w, S: Shapes, F: Fulls<Cover = S::Cover>>(
     loop {
         let plan = Plan {
             fulls: &*fulls,
-            groups: &*groups,
+            finished: &*finished,
+            members: &*members,
             ranks: &*ranks,
             most,
         };
-        if let Some(trees) = pass(alloc, finished, shapes, &plan, &*wanted, work, max)? {
+        if let Some(trees) = pass(alloc, shapes, &plan, &*wanted, work, max)? {
             return Ok(trees);
         }
         if most == usize::MAX {
@@ -138,9 +137,9 @@ pub fn unpack<S: Shapes, F: Fulls<Cover = S::Cover>>(
         (IsUnpackFault (grammar_of S.Shapes S.Cover.Cover.own shapes.now) (F.wholes fulls.now) finished.now max) }
 {
     let ranks = ranks_of(alloc, finished)?;
-    let groups = groups_of(alloc, finished, &ranks)?;
+    let members = members_of(alloc, finished)?;
     let wanted = wanted_of(alloc, finished, fulls)?;
     unpack_by(
-        alloc, finished, shapes, fulls, &groups, &ranks, &wanted, work, max,
+        alloc, finished, shapes, fulls, &members, &ranks, &wanted, work, max,
     )
 }

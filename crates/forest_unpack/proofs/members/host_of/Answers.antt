@@ -2,7 +2,7 @@ use Rattle.std.proofs.Common.{length}
 use Rattle.chart_core.specs.Grammar.{grammar_of}
 use Rattle.chart_core.specs.Kept.{core_of, rows_in}
 use Rattle.forest_unpack.proofs.Leading.{leads_itself, follows_end, follows_first, follows_next, next_later, less_left}
-use Rattle.forest_unpack.proofs.groups.host_of.Goals as goal
+use Rattle.forest_unpack.proofs.members.host_of.Goals as goal
 
 pub returns-in_default : goal.returns-in_default
 returns-in_default g c = leads_itself (rows_in (core_of c.args.finished.now)) c.args.row.0 c.row.result.now c.row.ensures c.in_default.is

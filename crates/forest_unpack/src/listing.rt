@@ -1,0 +1,234 @@
+//! The list of a host, after the lists that it needs.
+//!
+//! Trees can be as deep as the chart has rows, so the lists on their way stand in a `Vec`, and no function calls itself for them.
+
+ghost use Rattle.std.specs.Prelude.{◌≡◌, ℕ, ◌≤◌, ◌<◌, ◌++◌, ◌∷◌, [], true, All, IfOk, MatchOption, OnOk, length};
+ghost use Rattle.chart_core.specs.Kept.{core_of, rows_in};
+ghost use Rattle.forest_model.specs.Lists as model;
+ghost use Rattle.forest_unpack.specs.Items.{AllListed, IsListed, items_of};
+ghost use Rattle.forest_unpack.specs.Inner.Making.{AreMaking, IsBegun, IsLacked, IsLower, IsMaking, Stepped, daughters_in};
+ghost use Rattle.forest_unpack.specs.Inner.Memos.{AreReached, IsNumbered, IsReady, StaysReady, known_in};
+ghost use Rattle.forest_unpack.specs.Plans.{AreGathered, Fits, Gave, Grows, IsGathered, IsPlan, row_of};
+
+use crate::counted::CountedTree;
+use crate::groups::group_of;
+use crate::item::Item;
+use crate::lists::{combine, nothing};
+use crate::members::Members;
+use crate::memo::Memo;
+use crate::rows::GroupRow;
+use crate::{Fulls, NoMemory};
+use chart_core::Finished;
+use cover::Shapes;
+use std::alloc::Global;
+
+/// What lists are made of: a finished chart with the rows of its groups, a rank that falls from a host to its daughters, and the most items that a list may have.
+#[derive(Drop)]
+pub struct Plan<'p, S: Shapes, F: Fulls> {
+    pub fulls: &'p F,
+    pub finished: &'p Finished<S>,
+    pub members: &'p Members,
+    pub ranks: &'p [u64],
+    pub most: usize,
+}
+
+/// A list on its way: its host, the rows of the host's group, how many of them were gone through, and what these gave.
+#[derive(Drop)]
+pub struct Making<F: Fulls> {
+    pub host: u64,
+    pub group: Vec<GroupRow>,
+    pub next: usize,
+    pub made: Vec<Item<F>>,
+}
+
+/// The list of a host, of which no row was gone through yet.
+fn begin<S: Shapes, F: Fulls>(
+    alloc: Global,
+    plan: &Plan<S, F>,
+    host: u64,
+) -> Result<Making<F>, NoMemory>
+    requires plan { IsPlan (F.named plan.now.fulls.now) (F.ruled plan.now.fulls.now) (rows_in (core_of plan.now.finished.now)) plan.now.members.now.last.items plan.now.members.now.before.items plan.now.ranks.now }
+    requires host { host < length (rows_in (core_of plan.now.finished.now)) }
+    ensures { IfOk result (IsBegun (rows_in (core_of plan.now.finished.now)) host) }
+{
+    let group = group_of(alloc, plan.finished, plan.members, plan.ranks, host)?;
+    let made = Vec::new(alloc);
+    Ok(Making {
+        host,
+        group,
+        next: 0,
+        made,
+    })
+}
+
+/// The first of these hosts that has no list.
+fn first_lacking<F: Fulls>(table: &[Option<Vec<Item<F>>>], hosts: &[u64]) -> Option<u64>
+    requires { (d : ℕ) → model.Has d hosts.now → d < length table.now }
+    ensures { MatchOption result (AllListed table.now hosts.now) (λ d. IsLacked table.now d hosts.now) }
+{
+    let Some((host, more)) = hosts.split_first() else {
+        return None;
+    };
+    if table[*host as usize].is_none() {
+        return Some(*host);
+    }
+    first_lacking(table, more)
+}
+
+/// The first daughter of a row that has no list.
+fn lacking<F: Fulls>(table: &[Option<Vec<Item<F>>>], row: &GroupRow) -> Option<u64>
+    requires { (d : ℕ) → model.Has d (daughters_in (row_of row.now)) → d < length table.now }
+    ensures { MatchOption result (AllListed table.now (daughters_in (row_of row.now))) (λ d. IsLacked table.now d (daughters_in (row_of row.now))) }
+{
+    match row {
+        GroupRow::Leaf { .. } => None,
+        GroupRow::Whole { daughters, .. } => first_lacking(table, daughters),
+    }
+}
+
+/// Adds what a row gives whose daughters have lists; `cut` where the list was full before all were tried.
+fn add_row<S: Shapes, F: Fulls>(
+    alloc: Global,
+    plan: &Plan<S, F>,
+    work: &mut F::Work,
+    memo: &mut Memo<F>,
+    row: &GroupRow,
+    table: &[Option<Vec<Item<F>>>],
+    cut: &mut bool,
+    made: &mut Vec<Item<F>>,
+) -> Result<(), NoMemory>
+    requires row { (host : ℕ) × Fits (F.named plan.now.fulls.now) (F.ruled plan.now.fulls.now) (length (rows_in (core_of plan.now.finished.now))) plan.now.ranks.now host (row_of row.now) }
+    requires listed { AllListed table.now (daughters_in (row_of row.now)) }
+    requires reached { AreReached (F.value plan.now.fulls.now) (F.wholes plan.now.fulls.now) (F.named plan.now.fulls.now) table.now }
+    requires ready { IsReady (F.value plan.now.fulls.now) (F.wholes plan.now.fulls.now) memo.old table.now }
+    requires numbered { All (IsNumbered (F.value plan.now.fulls.now) (known_in (F.value plan.now.fulls.now) memo.old)) made.old.items }
+    ensures ready { OnOk result (StaysReady (F.value plan.now.fulls.now) (F.wholes plan.now.fulls.now) memo.old memo.new table.now) }
+    ensures cut { OnOk result (cut.old ≡ true → cut.new ≡ true) }
+    ensures numbered { OnOk result (All (IsNumbered (F.value plan.now.fulls.now) (known_in (F.value plan.now.fulls.now) memo.new)) made.new.items) }
+    ensures made { OnOk result (Gave (F.value plan.now.fulls.now) (F.wholes plan.now.fulls.now) cut.new table.now row.now made.old.items made.new.items) }
+{
+    match row {
+        GroupRow::Leaf { name } => {
+            let (full, tree) = plan.fulls.leaf(alloc, *name)?;
+            let number = memo.number(alloc, plan.fulls, full)?;
+            let full = memo.full(number)?;
+            let tree = CountedTree { tree };
+            made.push(Item { full, number, tree })?;
+            Ok(())
+        }
+        GroupRow::Whole { rule, daughters } => {
+            let count = daughters.len() as u32;
+            let none = nothing();
+            if combine(
+                alloc, plan.fulls, work, memo, *rule, count, table, &none, daughters, plan.most,
+                made,
+            )? {
+                *cut = true;
+            }
+            Ok(())
+        }
+    }
+}
+
+/// Goes on with a list as far as its rows' daughters have lists: the daughter that has none, or none where the list is done.
+/// It is done where all rows were gone through, and where it is full before, which is a cut.
+fn go_on<S: Shapes, F: Fulls>(
+    alloc: Global,
+    plan: &Plan<S, F>,
+    work: &mut F::Work,
+    memo: &mut Memo<F>,
+    table: &[Option<Vec<Item<F>>>],
+    cut: &mut bool,
+    list: &mut Making<F>,
+) -> Result<Option<u64>, NoMemory>
+    requires plan { IsPlan (F.named plan.now.fulls.now) (F.ruled plan.now.fulls.now) (rows_in (core_of plan.now.finished.now)) plan.now.members.now.last.items plan.now.members.now.before.items plan.now.ranks.now }
+    requires table { length table.now ≡ length (rows_in (core_of plan.now.finished.now)) }
+    requires reached { AreReached (F.value plan.now.fulls.now) (F.wholes plan.now.fulls.now) (F.named plan.now.fulls.now) table.now }
+    requires ready { IsReady (F.value plan.now.fulls.now) (F.wholes plan.now.fulls.now) memo.old table.now }
+    requires list { IsMaking (F.value plan.now.fulls.now) (F.wholes plan.now.fulls.now) cut.old (rows_in (core_of plan.now.finished.now)) (known_in (F.value plan.now.fulls.now) memo.old) table.now list.old }
+    ensures ready { OnOk result (StaysReady (F.value plan.now.fulls.now) (F.wholes plan.now.fulls.now) memo.old memo.new table.now) }
+    ensures cut { OnOk result (cut.old ≡ true → cut.new ≡ true) }
+    ensures host { OnOk result (list.new.host ≡ list.old.host) }
+    ensures list { OnOk result (IsMaking (F.value plan.now.fulls.now) (F.wholes plan.now.fulls.now) cut.new (rows_in (core_of plan.now.finished.now)) (known_in (F.value plan.now.fulls.now) memo.new) table.now list.new) }
+    ensures done { IfOk result (λ lacked. MatchOption lacked
+        (IsGathered (F.value plan.now.fulls.now) (F.wholes plan.now.fulls.now) cut.new (rows_in (core_of plan.now.finished.now)) table.now list.new.host (items_of (F.value plan.now.fulls.now) list.new.made.items))
+        (λ d. IsLower (length (rows_in (core_of plan.now.finished.now))) plan.now.ranks.now table.now list.new.host d)) }
+{
+    while list.next < list.group.len() {
+        if list.made.len() >= plan.most {
+            *cut = true;
+            return Ok(None);
+        }
+        let row = &list.group[list.next];
+        if let Some(daughter) = lacking(table, row) {
+            return Ok(Some(daughter));
+        }
+        add_row(alloc, plan, work, memo, row, table, cut, &mut list.made)?;
+        list.next += 1;
+    }
+    Ok(None)
+}
+
+/// Goes on with a list: it is put into the table where it is done, else back over the lists that wait for it, and the list that it waits for over it.
+fn step<S: Shapes, F: Fulls>(
+    alloc: Global,
+    plan: &Plan<S, F>,
+    work: &mut F::Work,
+    memo: &mut Memo<F>,
+    mut list: Making<F>,
+    table: &mut Vec<Option<Vec<Item<F>>>>,
+    cut: &mut bool,
+    waiting: &mut Vec<Making<F>>,
+) -> Result<(), NoMemory>
+    requires plan { IsPlan (F.named plan.now.fulls.now) (F.ruled plan.now.fulls.now) (rows_in (core_of plan.now.finished.now)) plan.now.members.now.last.items plan.now.members.now.before.items plan.now.ranks.now }
+    requires table { length table.old.items ≡ length (rows_in (core_of plan.now.finished.now)) }
+    requires gathered { AreGathered (F.value plan.now.fulls.now) (F.wholes plan.now.fulls.now) cut.old (rows_in (core_of plan.now.finished.now)) table.old.items }
+    requires ready { IsReady (F.value plan.now.fulls.now) (F.wholes plan.now.fulls.now) memo.old table.old.items }
+    requires lists { AreMaking (F.value plan.now.fulls.now) (F.wholes plan.now.fulls.now) cut.old (rows_in (core_of plan.now.finished.now)) (known_in (F.value plan.now.fulls.now) memo.old) table.old.items plan.now.ranks.now (waiting.old.items ++ list ∷ []) }
+    ensures { OnOk result (Stepped (F.value plan.now.fulls.now) (F.wholes plan.now.fulls.now) (rows_in (core_of plan.now.finished.now)) plan.now.ranks.now cut.old cut.new memo.old memo.new table.old.items table.new.items (waiting.old.items ++ list ∷ []) waiting.new.items) }
+{
+    match go_on(alloc, plan, work, memo, table, cut, &mut list)? {
+        None => {
+            table[list.host as usize] = Some(list.made);
+        }
+        Some(daughter) => {
+            let needed = begin(alloc, plan, daughter)?;
+            waiting.push(list)?;
+            waiting.push(needed)?;
+        }
+    }
+    Ok(())
+}
+
+/// Makes the list of a host, and those that it needs; `cut` where a list was left before its end.
+pub fn list<S: Shapes, F: Fulls>(
+    alloc: Global,
+    plan: &Plan<S, F>,
+    work: &mut F::Work,
+    memo: &mut Memo<F>,
+    host: u64,
+    table: &mut Vec<Option<Vec<Item<F>>>>,
+    cut: &mut bool,
+) -> Result<(), NoMemory>
+    requires plan { IsPlan (F.named plan.now.fulls.now) (F.ruled plan.now.fulls.now) (rows_in (core_of plan.now.finished.now)) plan.now.members.now.last.items plan.now.members.now.before.items plan.now.ranks.now }
+    requires host { host < length (rows_in (core_of plan.now.finished.now)) }
+    requires table { length table.old.items ≡ length (rows_in (core_of plan.now.finished.now)) }
+    requires gathered { AreGathered (F.value plan.now.fulls.now) (F.wholes plan.now.fulls.now) cut.old (rows_in (core_of plan.now.finished.now)) table.old.items }
+    requires ready { IsReady (F.value plan.now.fulls.now) (F.wholes plan.now.fulls.now) memo.old table.old.items }
+    ensures grows { OnOk result (Grows (F.value plan.now.fulls.now) table.old.items table.new.items) }
+    ensures ready { OnOk result (StaysReady (F.value plan.now.fulls.now) (F.wholes plan.now.fulls.now) memo.old memo.new table.new.items) }
+    ensures cut { OnOk result (cut.old ≡ true → cut.new ≡ true) }
+    ensures listed { OnOk result (IsListed table.new.items host) }
+    ensures gathered { OnOk result (AreGathered (F.value plan.now.fulls.now) (F.wholes plan.now.fulls.now) cut.new (rows_in (core_of plan.now.finished.now)) table.new.items) }
+{
+    if table[host as usize].is_some() {
+        return Ok(());
+    }
+    let first = begin(alloc, plan, host)?;
+    let mut waiting = Vec::new(alloc);
+    waiting.push(first)?;
+    while let Some(list) = waiting.pop() {
+        step(alloc, plan, work, memo, list, table, cut, &mut waiting)?;
+    }
+    Ok(())
+}
