@@ -2,6 +2,11 @@ pub mod Forming
 pub mod Sound
 pub mod OneGraph
 pub mod Climbing
+pub mod Climbs
+pub mod Keeping
+pub mod Walking
+pub mod Asking
+pub mod Steps
 pub mod Rows
 pub mod Meaning
 pub mod Making

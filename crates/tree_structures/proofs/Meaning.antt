@@ -1,5 +1,5 @@
 -- The closure of what a graph tells is the closure of what its structure says.
-use Rattle.std.proofs.Common.{◌≡◌, List, [], ◌∷◌, arith}
+use Rattle.std.proofs.Common.{List, [], ◌∷◌, arith}
 use Rattle.fs_model.specs.Claims.{Claim, System, Has, here, there}
 use Rattle.fs_model.specs.Closure.{Closure, given_claim, AreConsistent, IsConsistent}
 use Rattle.fs_model.specs.Sources.{Reader, Told, IsGraphOf}

@@ -1,9 +1,8 @@
 -- Full structures of daughters from left to right, and of the phrase over them.
-use Rattle.std.proofs.Common.{ℕ, zero, suc, ◌≡◌, ◌+◌, ◌<◌, ◌≤◌, List, [], ◌∷◌, ◌++◌, length, map, take, get_or, Vec, Global, refl, sym, ap, subst, ◌∙◌, arith}
+use Rattle.std.proofs.Common.{ℕ, zero, suc, ◌≡◌, ◌<◌, ◌≤◌, List, [], ◌∷◌, length, map, get_or, Vec, Global, refl, sym, ap, subst, ◌∙◌, arith}
 use Rattle.std.specs.Prelude.{Option, Some, String, All, option_map}
 use Rattle.std.specs.Arc.{arc_value}
 use Rattle.std.specs.declared.sync.Arc.{Arc}
-use Rattle.std.proofs.lemmas.List.{take_more}
 use Rattle.fs_model.specs.Claims.{IsOrder}
 use Rattle.derivation.specs.Trees.{Daughters, lexical, phrase, no_more, first}
 use Rattle.derivation.specs.Views.{derivation_of, in_order}
@@ -35,18 +34,6 @@ module _ (g : Signs) where
   pub formed-Lexical : (entry : ℕ) (rules : Arc (Vec ℕ Global) Global) (words : Arc (Vec (String Global) Global) Global) (nodes : Option (ℕ × ℕ)) → IsFormed g (derivation_of (Lexical entry rules words nodes)) →
       IsEntryAt g entry × All (IsLexicalRuleAt g) (arc_value rules).items
   formed-Lexical entry rules words nodes h = subst (IsFormed g) (derivation_of-Lexical entry rules words nodes) h
-
-  push : (ts : List Tree) (t : Tree) (fs : List Structure) (f : Structure) → Fulls g (in_order (map derivation_of ts)) fs → Full g (derivation_of t) f → Fulls g (in_order (map derivation_of (ts ++ t ∷ []))) (fs ++ f ∷ [])
-  push [] t _ f no_fulls x = more_fulls x no_fulls
-  push (u ∷ ts) t _ f (more_fulls {fs = fs} a all) x = more_fulls a (push ts t fs f all x)
-
-  -- one daughter more
-  pub fulls_more : (ts : List Tree) (k : ℕ) (t : Tree) (fs gs : List Structure) (f : Structure) → k < length ts → t ≡ get_or ts k t → gs ≡ fs ++ f ∷ [] →
-      Fulls g (in_order (map derivation_of (take k ts))) fs → Full g (derivation_of t) f → Fulls g (in_order (map derivation_of (take (k + 1) ts))) gs
-  fulls_more ts k t fs gs f lt at is all x =
-      let whole : take k ts ++ t ∷ [] ≡ take (k + 1) ts = ap (λ u. take k ts ++ u ∷ []) at ∙ sym (take_more ts k t lt) in
-      subst (λ hs. Fulls g (in_order (map derivation_of (take (k + 1) ts))) hs) (sym is)
-      (subst (λ us. Fulls g (in_order (map derivation_of us)) (fs ++ f ∷ [])) whole (push (take k ts) t fs f all x))
 
   -- where one has no structure, they have none
   pub none_among : (ts : List Tree) (k : ℕ) (t d : Tree) → k < length ts → t ≡ get_or ts k d → ((f : Structure) → Full g (derivation_of t) f → ⊥) → (fs : List Structure) → Fulls g (in_order (map derivation_of ts)) fs → ⊥

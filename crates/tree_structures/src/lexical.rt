@@ -1,44 +1,45 @@
 //! The full structures of entries under lexical rules.
 
-ghost use Rattle.std.specs.Prelude.{All, IfOk, MatchOption};
-ghost use Rattle.rule_model.specs.Structures.{Structure};
+ghost use Rattle.std.specs.Prelude.{All, IfOk};
 ghost use Rattle.item_model.specs.Lexical.{FullLexical};
 ghost use Rattle.book_signs.specs.Trees.{signs_of};
-ghost use Rattle.rule_trees.specs.Mothers.{view_in};
 ghost use Rattle.tree_structures.specs.Formed.{IsEntryAt, IsLexicalRuleAt};
+ghost use Rattle.tree_structures.specs.Known.{IsRight};
+ghost use Rattle.tree_structures.specs.Inner.Stays.{Stays, IsNumbered};
 
 use crate::NoMemory;
+use crate::memo::FullMemo;
+use crate::numbering::{entry_number, mother_number};
+use crate::question::Numbers;
 use book_signs::SignBook;
 use fs_unify::Scratch;
-use lexical_items::LexicalFulls;
-use rule_trees::{FullStructure, SignFulls};
 use std::alloc::Global;
 
-/// The full structure of an entry under lexical rules, from the inside out; none exactly where there is none.
-pub(crate) fn lexical_full<'a>(
+/// The number of the full structure of an entry under lexical rules, from the inside out; none exactly where there is none.
+pub(crate) fn lexical_number<'a>(
     alloc: Global,
     work: &mut Scratch,
+    memo: &mut FullMemo,
     signs: &'a SignBook<'a>,
     entry: u32,
     rules: &[u32],
-) -> Result<Option<FullStructure>, NoMemory>
+) -> Result<Option<u32>, NoMemory>
+    requires right { IsRight signs.now memo.old }
     requires entry { IsEntryAt (signs_of signs.now) entry }
     requires rules { All (IsLexicalRuleAt (signs_of signs.now)) rules.now }
-    ensures { IfOk result (λ o. MatchOption o
-        ((f : Structure) → FullLexical (signs_of signs.now) entry rules.now f → ⊥)
-        (λ full. FullLexical (signs_of signs.now) entry rules.now (view_in signs.now full.graph))) }
+    ensures stays { IfOk result (λ _. Stays signs.now memo.old memo.new) }
+    ensures number { IfOk result (IsNumbered signs.now memo.new (FullLexical (signs_of signs.now) entry rules.now)) }
 {
     signs.laws();
-    let fulls = SignFulls { signs };
-    fulls.laws();
-    let Some(mut full) = fulls.entry(alloc, work, entry)? else {
+    let Some(mut number) = entry_number(alloc, work, memo, signs, entry)? else {
         return Ok(None);
     };
     for rule in rules {
-        match fulls.under(alloc, work, *rule, &full)? {
-            Some(above) => full = above,
+        let over = Numbers::none().with(number);
+        match mother_number(alloc, work, memo, signs, *rule, over)? {
+            Some(above) => number = above,
             None => return Ok(None),
         }
     }
-    Ok(Some(full))
+    Ok(Some(number))
 }

@@ -5,9 +5,13 @@ ghost use Rattle.tree_structures.specs.Laws.{FullsAreFormed, FullsAreMade, Fulls
 
 mod closing;
 mod fulls;
+mod index;
 mod lexical;
 mod memo;
+mod numbering;
+mod opened;
 mod parts;
+mod question;
 
 pub use closing::closed_of;
 pub use fulls::full_of;
@@ -26,12 +30,6 @@ impl From<AllocError> for NoMemory {
 
 impl<T: Drop> From<AllocFailed<T>> for NoMemory {
     fn from(_: AllocFailed<T>) -> NoMemory {
-        NoMemory
-    }
-}
-
-impl From<derivation::NoMemory> for NoMemory {
-    fn from(_: derivation::NoMemory) -> NoMemory {
         NoMemory
     }
 }

@@ -1,95 +1,91 @@
-//! Full structures of trees that were met.
+//! Full structures that are known, by number.
 
-ghost use Rattle.std.specs.Prelude.{◌≡◌, ◌≤◌, length, IfOk, IfSome, Contains};
+ghost use Rattle.std.specs.Prelude.{◌≡◌, ◌<◌, ◌++◌, ◌∷◌, [], length, IfOk, IfSome, Some, slice_get};
+ghost use Rattle.std.specs.Global.{Global};
 ghost use Rattle.std.specs.Arc.{arc_value};
-ghost use Rattle.derivation.specs.Views.{derivation_of};
-ghost use Rattle.item_model.specs.Trees.{Full};
-ghost use Rattle.book_signs.specs.Trees.{SignTree, signs_of};
-ghost use Rattle.rule_trees.specs.Mothers.{view_in};
-ghost use Rattle.tree_structures.specs.Known.{IsRight};
+ghost use Rattle.std.specs.declared.sync.Arc.{Arc};
+ghost use Rattle.book_signs.specs.Trees.{SignTree};
+ghost use Rattle.rule_trees.specs.declared.full.FullStructure.{FullStructure};
+ghost use Rattle.tree_structures.specs.declared.memo.Known.{Known};
+ghost use Rattle.tree_structures.specs.Known.{IsRight, fulls_in};
 
 use crate::NoMemory;
-use derivation::{Tree, compare};
+use crate::index::Index;
+use crate::question::Question;
 use rule_trees::FullStructure;
 use std::alloc::Global;
 use std::sync::Arc;
 
-/// A tree with its full structure.
+/// A full structure, with what it is made of.
 #[derive(Drop)]
 pub(crate) struct Known {
-    pub(crate) tree: Tree,
+    pub(crate) question: Question,
     pub(crate) full: Arc<FullStructure>,
 }
 
-/// Full structures of the trees that were met, so that a tree that stands in several others is unified once. They stand in the
-/// order of trees, so that one is found by halving.
+/// Full structures that were made, each with its place as its number, so that what stands in several trees is unified once. What one
+/// is made of is told by the numbers of its daughters' structures, so no tree is compared. The index only says where to look.
 #[derive(Drop)]
 pub struct FullMemo {
     pub(crate) known: Vec<Known>,
+    index: Index,
 }
 
 impl FullMemo {
-    /// No trees, and no memory.
+    /// No structures, and no memory.
     pub fn new(alloc: Global) -> FullMemo
         ensures { (t : SignTree) → IsRight t result }
     {
         FullMemo {
             known: Vec::new(alloc),
+            index: Index::new(alloc),
         }
     }
 
-    // How many of the trees stand before a tree.
-    fn place_of(&self, tree: &Tree) -> usize
-        ensures { result ≤ length self.now.known.items }
+    /// The structure of a number.
+    pub(crate) fn full(&self, number: u32) -> Result<Arc<FullStructure>, NoMemory>
+        requires { number < length self.now.known.items }
+        ensures { IfOk result (λ full. slice_get (fulls_in self.now) number ≡ Some (arc_value full)) }
     {
-        let mut low = 0;
-        let mut high = self.known.len();
-        while low < high {
-            let middle = low + (high - low) / 2;
-            if compare(&self.known[middle].tree, tree).is_lt() {
-                low = middle + 1;
-            } else {
-                high = middle;
+        let full = self.known[number as usize].full.clone()?;
+        Ok(full)
+    }
+
+    /// The number of what is made of this, where it is found.
+    pub(crate) fn find(&self, question: &Question) -> Option<u32>
+        ensures { IfSome result (λ number. (known : Known) × (slice_get self.now.known.items number ≡ Some known) × (known.question ≡ question.now)) }
+    {
+        let hash = question.hash();
+        let mut next = self.index.last(hash);
+        while let Some(place) = next {
+            let at = place as usize;
+            if at >= self.known.len() {
+                return None;
             }
+            if self.known[at].question.is(question) {
+                return Some(place);
+            }
+            next = self.index.before(hash, place);
         }
-        low
+        None
     }
 
-    /// A tree that was met.
-    pub(crate) fn find(&self, tree: &Tree) -> Option<&Known>
-        ensures known { IfSome result (λ k. Contains self.now.known.items k.now) }
-        ensures same { IfSome result (λ k. derivation_of k.now.tree ≡ derivation_of tree.now) }
-    {
-        derivation::order_is_total();
-        let place = self.place_of(tree);
-        if place == self.known.len() {
-            return None;
-        }
-        let known = &self.known[place];
-        if compare(&known.tree, tree).is_eq() {
-            Some(known)
-        } else {
-            None
-        }
-    }
-
-    /// Keeps the full structure of a tree.
+    /// Keeps a structure with what it is made of.
     pub(crate) fn keep(
         &mut self,
         alloc: Global,
-        tree: &Tree,
+        question: Question,
         full: FullStructure,
-    ) -> Result<Arc<FullStructure>, NoMemory>
-        ensures same { IfOk result (λ a. arc_value a ≡ full) }
-        ensures right { (t : SignTree) → IsRight t self.old → Full (signs_of t) (derivation_of tree.now) (view_in t full.graph) → IfOk result (λ _. IsRight t self.new) }
+    ) -> Result<u32, NoMemory>
+        ensures number { IfOk result (λ number. number ≡ length self.old.known.items) }
+        ensures known { IfOk result (λ _. (shared : Arc FullStructure Global) × (arc_value shared ≡ full) × (self.new.known.items ≡ self.old.known.items ++ record { question = question; full = shared } ∷ [])) }
     {
-        let full = Arc::new(alloc, full)?;
-        let known = Known {
-            tree: tree.copy()?,
-            full: full.clone()?,
+        let Ok(number) = u32::try_from(self.known.len()) else {
+            return Err(NoMemory);
         };
-        let place = self.place_of(tree);
-        self.known.insert(place, known)?;
-        Ok(full)
+        let full = Arc::new(alloc, full)?;
+        self.known.push(Known { question, full })?;
+        self.index.push(alloc, question.hash())?;
+        Ok(number)
     }
 }
