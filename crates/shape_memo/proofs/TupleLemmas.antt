@@ -1,6 +1,6 @@
 -- Tuples whose daughters stand for the same structures, one by one, stand for the same list.
-use Rattle.std.specs.Prelude.{◌≡◌, Option, None, Some, List, [], All, IfSome, map, option_map}
-use Rattle.std.proofs.Common.{refl, suc, arith}
+use Rattle.std.specs.Prelude.{◌≡◌, Option, None, Some, List, [], ◌∷◌, All, IfSome, map, option_map}
+use Rattle.std.proofs.Common.{refl, sym, ap, ◌∙◌, suc, arith}
 use Rattle.cover.specs.declared.Part.{Part}
 use Rattle.cover.specs.declared.Tuple.{Tuple}
 use Rattle.cover.specs.Tuples.{on_list, shapes_of}
@@ -53,3 +53,9 @@ module _ {T C : Type 0} (P : T → Type 0) where
         of_c = first_one t.c (on_list t.d []) l;
         of_d = first_one t.d [] m;
       }
+
+-- what stands for the first daughter begins a tuple
+pub begins : {T C M : Type 0} (meaning : T → M) (t : Tuple T C) (part : Part T C) (shape : T) → t.a ≡ Some part → meaning shape ≡ meaning part.shape →
+    (rest : List M) × (meaning shape ∷ rest ≡ map meaning (shapes_of t))
+begins meaning t part shape e h =
+    (told meaning (on_list t.b (on_list t.c (on_list t.d []))), ap (λ m. m ∷ told meaning (on_list t.b (on_list t.c (on_list t.d [])))) h ∙ sym (ap (λ a. told meaning (on_list a (on_list t.b (on_list t.c (on_list t.d []))))) e))

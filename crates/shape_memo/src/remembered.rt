@@ -1,16 +1,21 @@
 //! Shapes that remember.
 
-ghost use Rattle.std.specs.Prelude.{◌≡◌, All, IfOk, IfSome, map, option_map};
-ghost use Rattle.cover.specs.Tuples.{shapes_of};
+ghost use Rattle.std.specs.Prelude.{◌≡◌, ◌<◌, All, IfOk, IfSome, IsTrue, map, option_map};
+ghost use Rattle.cover.specs.Tuples.{shapes_of, IsFor};
 ghost use Rattle.shape_memo.specs.Known.{IsRightFor, meant};
 
 use crate::NoMemory;
 use crate::answer::{Answer, Outcome, hash_of};
+use crate::front::first_alone;
 use crate::marked::Marked;
 use crate::memo::Memo;
 use cover::{Part, Shapes, Tuple};
 use std::alloc::Global;
 use std::marker::Model;
+use std::sync::atomic::{AtomicU64, Ordering};
+
+/// After so many first daughters that fit in no pair, each one is tested before it is tried in pairs.
+const MANY_IN_VAIN: u64 = 4;
 
 /// Shapes with the answers that they gave. In contracts they are the shapes themselves.
 ///
@@ -21,6 +26,8 @@ use std::marker::Model;
 pub struct RememberedShapes<'a, S: Marked> {
     shapes: &'a S,
     memo: Memo<S>,
+    // how many first daughters were found to fit in no pair
+    in_vain: AtomicU64,
 }
 
 impl<'a, S: Marked> Model for RememberedShapes<'a, S> {
@@ -101,7 +108,11 @@ impl<'a, S: Marked> RememberedShapes<'a, S> {
         ensures { IfOk result (λ s. s ≡ shapes.now) }
     {
         let memo = Memo::new(alloc, shapes)?;
-        Ok(RememberedShapes { shapes, memo })
+        Ok(RememberedShapes {
+            shapes,
+            memo,
+            in_vain: AtomicU64::new(0),
+        })
     }
 
     /// The shapes themselves, which remember nothing.
@@ -140,6 +151,66 @@ impl<'a, S: Marked> RememberedShapes<'a, S> {
         if let Ok(answer) = Box::new(alloc, answer) {
             self.memo.keep(alloc, answer, weight);
         }
+    }
+
+    // Whether the first daughter of a pair is tried in pairs untested. Mostly a daughter that passes the quick test fits, so
+    // that testing it alone is work for nothing; where some didn't fit, the others are tested.
+    fn is_trusted(&self, rule: u32, count: u32) -> bool
+        requires { rule < (S.calculus self.now).rules }
+    {
+        if count == 1 && self.shapes.arity(rule) == 2 {
+            self.in_vain.load(Ordering::SeqCst) < MANY_IN_VAIN
+        } else {
+            false
+        }
+    }
+
+    // Whether it is known of the first daughter of a pair that it fits in none.
+    fn is_in_vain(&self, alloc: Global, rule: u32, parts: &Tuple<S::Shape, S::Cover>) -> bool
+        requires parts { IsFor (S.calculus self.now) (S.belongs self.now) rule parts.now }
+        requires whole { parts.now.count ≡ (S.calculus self.now).arity rule }
+        ensures { IsTrue result → (S.calculus self.now).applies rule (map (S.meaning self.now) (shapes_of parts.now)) → ⊥ }
+    {
+        if parts.count != 2 {
+            return false;
+        }
+        let Ok(front) = first_alone(alloc, self.shapes, parts) else {
+            return false;
+        };
+        let hash = hash_of(self.shapes, false, rule, &front);
+        match self.memo.find(self.shapes, hash, rule, &front) {
+            Some(Outcome::Fits(yes)) => !*yes,
+            _ => false,
+        }
+    }
+
+    // Tests the first daughter of a pair to which a rule doesn't apply, once, so that it isn't tried in further pairs in vain.
+    fn test_first(
+        &self,
+        alloc: Global,
+        work: &mut S::Work,
+        rule: u32,
+        parts: &Tuple<S::Shape, S::Cover>,
+    )
+        requires { IsFor (S.calculus self.now) (S.belongs self.now) rule parts.now }
+    {
+        if parts.count != 2 {
+            return;
+        }
+        let Ok(front) = first_alone(alloc, self.shapes, parts) else {
+            return;
+        };
+        let hash = hash_of(self.shapes, false, rule, &front);
+        if self.memo.find(self.shapes, hash, rule, &front).is_some() {
+            return;
+        }
+        let Ok(yes) = self.shapes.fits(alloc, work, rule, &front) else {
+            return;
+        };
+        if !yes {
+            self.in_vain.fetch_add(1, Ordering::SeqCst);
+        }
+        self.remember(alloc, hash, rule, &front, Outcome::Fits(yes));
     }
 }
 
@@ -203,6 +274,9 @@ impl<S: Marked> Shapes for RememberedShapes<'_, S> {
         if let Some(Outcome::Fits(yes)) = self.memo.find(self.shapes, hash, rule, parts) {
             return Ok(*yes);
         }
+        if self.is_trusted(rule, parts.count) {
+            return Ok(true);
+        }
         let yes = self.shapes.fits(alloc, work, rule, parts)?;
         self.remember(alloc, hash, rule, parts, Outcome::Fits(yes));
         Ok(yes)
@@ -219,7 +293,13 @@ impl<S: Marked> Shapes for RememberedShapes<'_, S> {
         if let Some(Outcome::Mother(mother)) = self.memo.find(self.shapes, hash, rule, parts) {
             return mother_again(alloc, self.shapes, mother);
         }
+        if self.is_in_vain(alloc, rule, parts) {
+            return Ok(None);
+        }
         let mother = self.shapes.apply(alloc, work, rule, parts)?;
+        if mother.is_none() {
+            self.test_first(alloc, work, rule, parts);
+        }
         if let Ok(again) = mother_again(alloc, self.shapes, &mother) {
             self.remember(alloc, hash, rule, parts, Outcome::Mother(again));
         }
