@@ -1,5 +1,5 @@
 -- Nodes one after the other along one feature, and walks along lists.
-use Rattle.std.specs.Prelude.{ℕ, ◌≡◌, ◌+◌, ◌<◌, ◌≤◌, true, Option, Some, None, Ok, Err, List, [], ◌∷◌, ◌++◌, length}
+use Rattle.std.specs.Prelude.{ℕ, ◌≡◌, ◌+◌, ◌<◌, ◌≤◌, true, Option, Some, None, Ok, Err, List, [], ◌∷◌, ◌++◌, length, slice_get}
 use Rattle.std.proofs.Common.{refl, sym, ◌∙◌, ap, subst, arith, zero, suc}
 use Rattle.type_hierarchy.specs.Table.{TypeTable}
 use Rattle.fs_model.specs.Table.{walk}
@@ -18,6 +18,15 @@ ok_one x a b e f = let z : Ok a ≡ Ok b = sym e ∙ f in cc
 
 nil_one : (ns : List ℕ) → Some [] ≡ Some ns → [] ≡ ns
 nil_one ns e = cc
+
+-- an element before more that was found
+pub more_is : {A : Type 0} (at : A) (cells : List A) (more : Sought (List A)) → and_more at more ≡ Ok cells → (xs : List A) × (more ≡ Ok xs) × (at ∷ xs ≡ cells)
+more_is at cells (Err path) o = err_ok path cells o
+more_is at cells (Ok xs) o = (xs, refl, ok_one (Ok (at ∷ xs)) (at ∷ xs) cells refl o)
+
+-- a walk that begins with an arc
+pub walk_arc : (g : GraphMap) (n f k : ℕ) (q : List ℕ) → arc_to (arcs_at g n) f ≡ Some k → walk (table_of g) n (f ∷ q) ≡ walk (table_of g) k q
+walk_arc g n f k q e = ap (λ o. elim o as (λ _. Option ℕ) [ None ↦ None | Some m ↦ walk (table_of g) m q ]) e
 
 module _ (g : GraphMap) (is : IsGraph g) (rest : ℕ) where
   pub data Chain : ℕ → ℕ → ℕ → Type 0 where
@@ -43,7 +52,7 @@ module _ (g : GraphMap) (is : IsGraph g) (rest : ℕ) where
       let r = chain_falls c (arc_inside n k lt a) in
       omega (arith, f, r)
 
-  no_return : {n d e : ℕ} → Chain n (suc d) e → n < length g.types → n ≡ e → ⊥
+  pub no_return : {n d e : ℕ} → Chain n (suc d) e → n < length g.types → n ≡ e → ⊥
   no_return c lt s = let f = chain_falls c lt in let h = ap is.height s in omega (arith, f, h)
 
   -- a chain between two nodes has one length
@@ -79,6 +88,28 @@ module _ (g : GraphMap) (is : IsGraph g) (rest : ℕ) where
         let same : k ≡ next = some_one (ap (arc_named g at.node) rest_is ∙ a) r in
         more_long at m cells more
         (λ xs e. walk_long m (record { node = next; path = at.path ++ p.rest.name ∷ [] }) (subst (λ x. Chain x m last) same c) (subst (λ x. x < length g.types) same (arc_inside at.node k lt a)) more w xs e) o
+
+    -- and each of its cells stands as many steps on as there are cells before it
+    pub walk_at : (d : ℕ) (at : Place) → Chain at.node d last → at.node < length g.types → (out : Sought (List Place)) → Walks g types p (Some last) at out → (cells : List Place) → out ≡ Ok cells →
+        (i : ℕ) → i < d → (c : Place) × (slice_get cells i ≡ Some c) × (walk (table_of g) at.node (times rest i) ≡ Some c.node)
+    walk_at zero at ch lt out w cells o i l = absurd (omega (arith, l))
+    walk_at (suc m) at (chain_more a c) lt out (at_last _ e) cells o i l = absurd (no_return (chain_more a c) lt (some_one e refl))
+    walk_at (suc m) at (chain_more {k = k} a c) lt out (at_null _ e) cells o i l = absurd (apart at.node k lt a e)
+    walk_at (suc m) at (chain_more a c) lt out (is_open _ h n q) cells o i l = err_ok at.path cells o
+    walk_at (suc m) at (chain_more a c) lt out (no_rest _ h n q r) cells o i l = err_ok _ cells o
+    walk_at (suc m) at (chain_more {k = k} a c) lt out (goes_on _ next more h n q r w) cells o i l =
+        let same : k ≡ next = some_one (ap (arc_named g at.node) rest_is ∙ a) r in
+        let there : Place = record { node = next; path = at.path ++ p.rest.name ∷ [] } in
+        let m_is = more_is at cells more o in
+        by_place i l same m_is (λ j lj. walk_at m there (subst (λ x. Chain x m last) same c) (subst (λ x. x < length g.types) same (arc_inside at.node k lt a)) more w m_is.0 m_is.1 j lj)
+      where
+        by_place : (i : ℕ) → i < suc m → k ≡ next → (q : (xs : List Place) × (more ≡ Ok xs) × (at ∷ xs ≡ cells)) →
+            ((j : ℕ) → j < m → (c : Place) × (slice_get q.0 j ≡ Some c) × (walk (table_of g) next (times rest j) ≡ Some c.node)) →
+            (c : Place) × (slice_get cells i ≡ Some c) × (walk (table_of g) at.node (times rest i) ≡ Some c.node)
+        by_place zero l same q go = (at, sym (ap (λ xs. slice_get xs 0) q.2), refl)
+        by_place (suc j) l same q go =
+            let z = go j (omega (arith, l)) in
+            (z.0, sym (ap (λ xs. slice_get xs (suc j)) q.2) ∙ z.1, walk_arc g at.node rest next (times rest j) (a ∙ ap Some same) ∙ z.2)
 
 -- following features is walking along their numbers
 module _ (g : GraphMap) where

@@ -1,5 +1,5 @@
 -- The elements of a list and the elementary predications of its MRS.
-use Rattle.std.specs.Prelude.{ℕ, ◌≡◌, ◌<◌, true, Option, Some, None, Ok, Err, List, [], ◌∷◌, ◌++◌, length, map}
+use Rattle.std.specs.Prelude.{ℕ, ◌≡◌, ◌<◌, true, Option, Some, None, Ok, Err, List, [], ◌∷◌, ◌++◌, length, map, slice_get}
 use Rattle.std.proofs.Common.{refl, sym, ◌∙◌, ap, subst, arith, suc, append_assoc}
 use Rattle.std.specs.List.{AllZip}
 use Rattle.std.proofs.lemmas.List.{length-map}
@@ -25,7 +25,7 @@ use Rattle.relation_fit.specs.Lists.{RelList, numbers, longer, list_at, list_in}
 use Rattle.relation_fit.specs.Fits.{NullApart, SameBelow}
 use Rattle.relation_fit.specs.Inner.Cells.{AreCells}
 use Rattle.relation_fit.proofs.Nodes.{some_one, node_next}
-use Rattle.relation_fit.proofs.Chains.{Chain, chain_of, chain_one, walk_long, follow_walk, err_ok, ok_one}
+use Rattle.relation_fit.proofs.Chains.{Chain, chain_of, chain_one, walk_long, walk_at, follow_walk, err_ok, ok_one}
 
 all_long : {A : Type 0} (rs : List (Sought A)) (xs : List A) → all_there rs ≡ Ok xs → length xs ≡ length rs
 all_long [] xs e = sym (ap length (ok_one (Ok []) [] xs refl e))
@@ -49,7 +49,7 @@ then_ok : {A B : Type 0} {first : Sought A → Type 0} {second : A → Sought B 
 then_ok (stops path h) b e = err_ok path b e
 then_ok {second = second} (leads a out h k) b e = (a, h, subst (second a) e k)
 
-look_ok : (g : GraphMap) (at to : Place) (fs : List Feature) → look g at fs ≡ Ok to → follow g fs (Some at.node) ≡ Some to.node
+pub look_ok : (g : GraphMap) (at to : Place) (fs : List Feature) → look g at fs ≡ Ok to → follow g fs (Some at.node) ≡ Some to.node
 look_ok g at to fs e = by_found (follow g fs (Some at.node)) refl e
   where
     by_found : (o : Option ℕ) → follow g fs (Some at.node) ≡ o → found (at.path ++ looking.names fs) o ≡ Ok to → follow g fs (Some at.node) ≡ Some to.node
@@ -57,18 +57,18 @@ look_ok g at to fs e = by_found (follow g fs (Some at.node)) refl e
     by_found (Some n) y z = y ∙ ap (λ (x : Place). Some x.node) (ok_one (Ok (record { node = n; path = at.path ++ looking.names fs })) (record { node = n; path = at.path ++ looking.names fs }) to refl z)
 
 -- how a walk begins and ends
-record Begun (g : GraphMap) (types : TypeTable) (p : Paths) (rels : List Pair) : Type 0 where
+pub record Begun (g : GraphMap) (types : TypeTable) (p : Paths) (rels : List Pair) : Type 0 where
   m : ℕ
   at : ℕ
-  start : Place
-  cells : List Place
+  pub start : Place
+  pub cells : List Place
   m_is : follow g p.mrs_path (Some 0) ≡ Some m
   at_is : step g m p.rels ≡ Some at
   start_is : step g at p.diff_list ≡ Some start.node
   walks : Walks g types p (step g at p.diff_last) start (Ok cells)
-  long : length rels ≡ length cells
+  pub pairs : pairs_in g p p.pred p.lbl cells ≡ Ok rels
 
-one_step : (g : GraphMap) (n k : ℕ) (f : Feature) → follow g (f ∷ []) (Some n) ≡ Some k → step g n f ≡ Some k
+pub one_step : (g : GraphMap) (n k : ℕ) (f : Feature) → follow g (f ∷ []) (Some n) ≡ Some k → step g n f ≡ Some k
 one_step g n k f e = by_arc (step g n f) e
   where
     by_arc : (o : Option ℕ) → follow g [] o ≡ Some k → o ≡ Some k
@@ -88,10 +88,10 @@ elements_begun g types p m out h (walked at start (Ok cells) e f w) rels o = rec
   at_is = one_step g m.node at.node p.rels (look_ok g m at (p.rels ∷ []) e);
   start_is = one_step g at.node start.node p.diff_list (look_ok g at start (p.diff_list ∷ []) f);
   walks = w;
-  long = pairs_long g p p.pred p.lbl cells rels o;
+  pairs = o;
 }
 
-looks_begun : (g : GraphMap) (types : TypeTable) (p : Paths) (parts : Parts) → Looks g types p (Ok parts) → Begun g types p parts.rels
+pub looks_begun : (g : GraphMap) (types : TypeTable) (p : Paths) (parts : Parts) → Looks g types p (Ok parts) → Begun g types p parts.rels
 looks_begun g types p parts l =
     let m = then_ok l parts refl in
     let top = then_ok m.2 parts refl in
@@ -109,7 +109,7 @@ zip_long R (x ∷ xs) [] z = absurd z
 zip_long R (x ∷ xs) (y ∷ ys) z = ap suc (zip_long R xs ys z.1)
 
 -- the numbers of the features of the list
-record Known (p : Paths) (l : RelList) : Type 0 where
+pub record Known (p : Paths) (l : RelList) : Type 0 where
   mrs : Path
   rels : ℕ
   list : ℕ
@@ -122,7 +122,7 @@ record Known (p : Paths) (l : RelList) : Type 0 where
   start : l.ends.start ≡ longer mrs rels list
   end : l.ends.end ≡ longer mrs rels last
 
-known : (p : Paths) (l : RelList) → list_in p ≡ Some l → Known p l
+pub known : (p : Paths) (l : RelList) → list_in p ≡ Some l → Known p l
 known p l h = by_each (numbers p.mrs_path) refl p.rels.number refl p.diff_list.number refl p.diff_last.number refl p.rest.number refl h
   where
     by_each : (a : Option (List ℕ)) → numbers p.mrs_path ≡ a → (b : Option ℕ) → p.rels.number ≡ b → (c : Option ℕ) → p.diff_list.number ≡ c → (d : Option ℕ) → p.diff_last.number ≡ d → (e : Option ℕ) → p.rest.number ≡ e →
@@ -153,10 +153,10 @@ module _ (g : GraphMap) (is : IsGraph g) where
   two_more p m at n f h a b = ap (node_at g) (sym (append_assoc p (f ∷ []) (h ∷ []))) ∙ node_next g is (p ++ f ∷ []) at h (node_next g is p m f a ∙ b)
 
   -- the chain from the beginning of a list to its end
-  list_chain : (l : RelList) (start m e : ℕ) → node_at g l.ends.start ≡ Some start → node_at g (l.ends.start ++ times l.rest m) ≡ Some e → Chain g is l.rest start m e
+  pub list_chain : (l : RelList) (start m e : ℕ) → node_at g l.ends.start ≡ Some start → node_at g (l.ends.start ++ times l.rest m) ≡ Some e → Chain g is l.rest start m e
   list_chain l start m e a b = chain_of g is l.rest m start e (sym (walk-append (table_of g) is.numbered.table 0 start l.ends.start (times l.rest m) a) ∙ b)
 
-  start_inside : (p : Path) (n : ℕ) → node_at g p ≡ Some n → n < length g.types
+  pub start_inside : (p : Path) (n : ℕ) → node_at g p ≡ Some n → n < length g.types
   start_inside p n a = (walk_ends (table_of g) is.numbered.table 0 n p is.numbered.filled a).0
 
 module _ (s : System) (order : IsOrder s) (types : TypeTable) (same_order : SameBelow s types) (p : Paths) (l : RelList) (apart : NullApart s p l.rest) (k : Known p l) where
@@ -172,16 +172,33 @@ module _ (s : System) (order : IsOrder s) (types : TypeTable) (same_order : Same
       let f : None ≡ Some met.0 = sym (apart t x) ∙ met.1 in absurd (cc)
 
   module _ (g : GraphMap) (is : IsGraph g) (u : Structure) (paths : List Path) (shows : Shows s (Closure s (Says paths u)) (reader_of g)) where
-    cells_long : (rels : List Pair) → Begun g types p rels → (m : ℕ) → Reaches (Closure s (Says paths u)) l.rest l.ends m → length rels ≡ m
-    cells_long rels b m r =
+    -- the walk goes from the beginning of the list to its end
+    pub begun_walk : (rels : List Pair) (b : Begun g types p rels) (m : ℕ) → Reaches (Closure s (Says paths u)) l.rest l.ends m →
+        (e : ℕ) × (node_at g l.ends.start ≡ Some b.start.node) × Chain g is l.rest b.start.node m e × (b.start.node < length g.types) × Walks g types p (Some e) b.start (Ok b.cells)
+    begun_walk rels b m r =
         let t = (shows.equalities (l.ends.start ++ times l.rest m) l.ends.end).0 r in
         let mrs : node_at g k.mrs ≡ Some b.m = sym (follow_walk g p.mrs_path k.mrs 0 k.mrs_is) ∙ b.m_is in
         let at : arc_to (arcs_at g b.m) k.rels ≡ Some b.at = ap (looking.arc_by g b.m) (sym k.rels_is) ∙ b.at_is in
         let start : node_at g l.ends.start ≡ Some b.start.node = ap (node_at g) k.start ∙ two_more g is k.mrs b.m b.at 0 k.rels k.list mrs at ∙ ap (looking.arc_by g b.at) (sym k.list_is) ∙ b.start_is in
         let last : step g b.at p.diff_last ≡ Some t.0 = ap (looking.arc_by g b.at) k.last_is ∙ sym (two_more g is k.mrs b.m b.at 0 k.rels k.last mrs at) ∙ ap (node_at g) (sym k.end) ∙ t.2 in
-        let inside = start_inside g is l.ends.start b.start.node start in
-        b.long ∙ walk_long g is l.rest types p k.rest_is t.0 (λ n j lt arc null. null_by g is u paths shows n j lt arc p.null refl null) m b.start (list_chain g is l b.start.node m t.0 start t.1) inside (Ok b.cells)
-        (subst (λ o. Walks g types p o b.start (Ok b.cells)) last b.walks) b.cells refl
+        (t.0, start, list_chain g is l b.start.node m t.0 start t.1, start_inside g is l.ends.start b.start.node start, subst (λ o. Walks g types p o b.start (Ok b.cells)) last b.walks)
+
+    -- no cell is an empty list
+    pub cells_apart : (n j : ℕ) → n < length g.types → arc_to (arcs_at g n) l.rest ≡ Some j → looking.below types (type_at g n) p.null ≡ true → ⊥
+    cells_apart n j lt arc null = null_by g is u paths shows n j lt arc p.null refl null
+
+    cells_long : (rels : List Pair) → Begun g types p rels → (m : ℕ) → Reaches (Closure s (Says paths u)) l.rest l.ends m → length rels ≡ m
+    cells_long rels b m r =
+        let w = begun_walk rels b m r in
+        pairs_long g p p.pred p.lbl b.cells rels b.pairs ∙ walk_long g is l.rest types p k.rest_is w.0 cells_apart m b.start w.2 w.3 (Ok b.cells) w.4 b.cells refl
+
+    -- the cells that are walked over are those of the list
+    pub cell_at : (rels : List Pair) (b : Begun g types p rels) (m : ℕ) → Reaches (Closure s (Says paths u)) l.rest l.ends m → (i : ℕ) → i < m →
+        (c : Place) × (slice_get b.cells i ≡ Some c) × (node_at g (l.ends.start ++ times l.rest i) ≡ Some c.node)
+    cell_at rels b m r i lt =
+        let w = begun_walk rels b m r in
+        let c = walk_at g is l.rest types p k.rest_is w.0 cells_apart m b.start w.2 w.3 (Ok b.cells) w.4 b.cells refl i lt in
+        (c.0, c.1, walk-append (table_of g) is.numbered.table 0 b.start.node l.ends.start (times l.rest i) w.1 ∙ c.2)
 
 -- an accepted structure has as many elements as the input has elementary predications
 pub eps_long : (g : Signs) → IsOrder g.system → (input : Input) → SameBelow g.system input.types → (l : RelList) → list_in input.paths ≡ Some l → NullApart g.system input.paths l.rest →

@@ -5,3 +5,12 @@ pub mod Linking
 pub mod Stepping
 pub mod Chains
 pub mod Elements
+pub mod Over
+pub mod Predications
+pub mod Joined
+pub mod Misfits
+pub mod Turning
+pub mod Beginnings
+pub mod Naming
+pub mod Scanning
+pub mod Mapped

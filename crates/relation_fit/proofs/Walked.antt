@@ -6,10 +6,10 @@ use Rattle.std.proofs.lemmas.Bool.{cases_lt}
 use Rattle.fs_graph.specs.declared.graph.Node.{Node}
 use Rattle.fs_graph.specs.GraphMap.{GraphMap, IsGraph, node_at, arc_to, arcs_at, reader_of}
 use Rattle.rule_model.specs.Structures.{Structure}
-use Rattle.rule_model.specs.Views.{Shows}
 use Rattle.rule_model.specs.Mothers.{RuleSystem, Meant}
 use Rattle.generate_model.specs.Threads.{times}
 use Rattle.generate_model.specs.Threading.{Fit}
+use Rattle.relation_fit.specs.Fits.{IsPartOf}
 use Rattle.relation_fit.specs.Lists.{RelList}
 use Rattle.relation_fit.specs.Inner.Cells.{AreCells, nodes_of}
 use Rattle.relation_fit.proofs.Nodes.{node_next}
@@ -50,8 +50,8 @@ module _ (g : GraphMap) (l : RelList) where
   pub before_end : (cells : List ℕ) (node : ℕ) → Before cells node → node_at g l.ends.end ≡ Some node → AreCells g l cells
   before_end cells node b e = record { each = b.each; end = node; behind = b.there; ends = e }
 
-  pub cells_fit : (cells : List ℕ) → AreCells g l cells → (h : RuleSystem) (f : Structure) → Shows h.system (Meant h f) (reader_of g) → Fit h l.rest l.ends f
-  cells_fit cells c h f shows = (length cells, (shows.equalities (l.ends.start ++ times l.rest (length cells)) l.ends.end).1 (c.end, c.behind, c.ends))
+  pub cells_fit : (cells : List ℕ) → AreCells g l cells → (h : RuleSystem) (f : Structure) → IsPartOf (Meant h f) (reader_of g) → Fit h l.rest l.ends f
+  cells_fit cells c h f part = (length cells, part.equal (l.ends.start ++ times l.rest (length cells)) l.ends.end c.end c.behind c.ends)
 
 pub nodes_more : (ns : List Node) (n : Node) → nodes_of (ns ++ n ∷ []) ≡ nodes_of ns ++ n.0 ∷ []
 nodes_more ns n = map-append (λ (m : Node). m.0) ns (n ∷ [])

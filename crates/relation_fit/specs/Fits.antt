@@ -1,6 +1,7 @@
 -- What is asked of a grammar where structures are tested against an MRS.
 use Rattle.std.specs.Prelude.{ℕ, ◌≡◌, Some, None}
-use Rattle.fs_model.specs.Claims.{System, IsOrder}
+use Rattle.fs_model.specs.Claims.{Path, Claim, same, below, System, IsOrder}
+use Rattle.fs_model.specs.Sources.{Reader}
 use Rattle.type_hierarchy.specs.Table.{TypeTable, is_below}
 use Rattle.mrs_places.specs.Paths.{Paths}
 use Rattle.item_model.specs.Signs.{Signs}
@@ -21,3 +22,8 @@ pub record IsAskedOf (g : Signs) (input : Input) (l : RelList) : Type 0 where
   pub same_below : SameBelow g.system input.types
   pub list : list_in input.paths ≡ Some l
   pub apart : NullApart g.system input.paths l.rest
+
+-- what a graph says is among these claims
+pub record IsPartOf (claims : Claim → Type 0) (r : Reader) : Type 0 where
+  pub equal : (p q : Path) (n : ℕ) → r.node_at p ≡ Some n → r.node_at q ≡ Some n → claims (same p q)
+  pub typed : (p : Path) (n : ℕ) → r.node_at p ≡ Some n → claims (below p (r.type_of n))

@@ -3,9 +3,9 @@
 ghost use Rattle.std.specs.Prelude.{◌≡◌, ◌<◌, true, length, option_map, IfOk, IfSome};
 ghost use Rattle.fs_graph.specs.GraphMap.{arc_to, arcs_at, reader_of};
 ghost use Rattle.rule_model.specs.Structures.{Structure};
-ghost use Rattle.rule_model.specs.Views.{Shows};
 ghost use Rattle.rule_model.specs.Mothers.{RuleSystem, Meant};
 ghost use Rattle.generate_model.specs.Threading.{Fit};
+ghost use Rattle.relation_fit.specs.Fits.{IsPartOf};
 ghost use Rattle.relation_fit.specs.Lists.{list_seen};
 ghost use Rattle.relation_fit.specs.Inner.Cells.{AreCells, nodes_of};
 
@@ -60,9 +60,9 @@ pub(crate) fn cells(
     Ok(None)
 }
 
-/// Whether the list of a structure reaches its end, as that of each leaf is to. The graph is that of what the structure means.
+/// Whether the list of a structure reaches its end, as that of each leaf is to. The graph says no more than what the structure means.
 pub fn reaches(alloc: Global, graph: &Graph, list: &RelationList) -> Result<bool, NoMemory>
-    ensures { IfOk result (λ yes. yes ≡ true → (g : RuleSystem) (f : Structure) → Shows g.system (Meant g f) (reader_of graph.now) → Fit g (list_seen list.now).rest (list_seen list.now).ends f) }
+    ensures { IfOk result (λ yes. yes ≡ true → (g : RuleSystem) (f : Structure) → IsPartOf (Meant g f) (reader_of graph.now) → Fit g (list_seen list.now).rest (list_seen list.now).ends f) }
 {
     let found = cells(alloc, graph, list)?;
     Ok(found.is_some())

@@ -6,13 +6,18 @@
 
 mod cells;
 mod counting;
+mod fitting;
 mod links;
 mod list;
+mod names;
+mod seeking;
 
 pub use cells::reaches;
 pub use counting::has_too_many;
+pub use fitting::has_misfit;
 pub use links::threads;
 pub use list::{RelationList, is_outside, relation_list};
+pub use seeking::{Named, Sought, SoughtEp, SoughtProp, SoughtRole, SoughtValue, sought_of};
 use std::alloc::{AllocError, AllocFailed};
 
 /// Memory was wanting.
