@@ -10,3 +10,4 @@ pub mod Extended
 pub mod One
 pub mod Calls
 pub mod Known
+pub mod Sifted

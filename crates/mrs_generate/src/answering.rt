@@ -1,6 +1,6 @@
 //! What chart and unpacking answer over the leaves of an input.
 
-ghost use Rattle.std.specs.Prelude.{◌≡◌, length, map, IfOk};
+ghost use Rattle.std.specs.Prelude.{◌≡◌, length, map, IfOk, IfSome};
 ghost use Rattle.chart_core.specs.Kept.{InRange};
 ghost use Rattle.mrs_model.specs.Valid.{IsValid};
 ghost use Rattle.mrs_model.specs.Views.{meaning_of};
@@ -8,6 +8,8 @@ ghost use Rattle.mrs_places.specs.Paths.{feature_of, paths_of};
 ghost use Rattle.mrs_extract.specs.Asked.{ArePaths};
 ghost use Rattle.book_signs.specs.Trees.{signs_of};
 ghost use Rattle.generated_leaves.specs.Views.{leaf_seen};
+ghost use Rattle.relation_fit.specs.Lists.{list_seen};
+ghost use Rattle.pruned_trees.specs.Sieves.{IsThreaded};
 ghost use Rattle.grammar_rules.specs.Lines.{AreShapesOf};
 ghost use Rattle.rule_contributions.specs.Given.{input_of};
 ghost use Rattle.mrs_generate.specs.Answers.{words_by, IsAnswerTo};
@@ -31,7 +33,9 @@ use lexicon::Lexicon;
 use mrs_model::Mrs;
 use mrs_places::{MrsFeat, MrsPaths};
 use packed_items::answer_leaves;
+use pruned_trees::{PrunedFulls, pruned_laws, sieve_of};
 use realized_trees::{RealizedFulls, realized_laws};
+use relation_fit::RelationList;
 use rule_contributions::rule_laws;
 use rule_trees::SignFulls;
 use shape_memo::RememberedShapes;
@@ -42,7 +46,8 @@ use std::thread::Threads;
 use tree_structures::structure_laws;
 use worker_gate::Gate;
 
-/// The answer to an MRS whose leaves are known, with what each rule contributes by its number.
+/// The answer to an MRS whose leaves are known, with what each rule contributes by its number. Structures are dropped by `list`, where the
+/// grammar has one.
 pub(crate) fn answer_over<'a, R: Wait + Threads + Sync>(
     rt: &R,
     alloc: Global,
@@ -53,6 +58,7 @@ pub(crate) fn answer_over<'a, R: Wait + Threads + Sync>(
     _lexicon: &Lexicon,
     _spelling: &Spelling,
     paths: &'a MrsPaths,
+    list: &'a Option<RelationList>,
     _c_cont: &[MrsFeat],
     mrs: &'a Mrs,
     leaves: &'a [GenLeaf],
@@ -63,6 +69,7 @@ pub(crate) fn answer_over<'a, R: Wait + Threads + Sync>(
 ) -> Result<GenAnswer, NoMemory>
     requires shapes { AreShapesOf signs.now shapes.now }
     requires paths { ArePaths signs.now.book.system.types (paths_of paths.now) }
+    requires list { IfSome list.now (λ l. IsThreaded signs.now (paths_of paths.now) (list_seen l)) }
     requires feats { length (paths_of paths.now).feats ≡ length signs.now.book.system.introducers }
     requires valid { IsValid (meaning_of mrs.now) }
     requires limits { InRange limits.now }
@@ -78,12 +85,18 @@ pub(crate) fn answer_over<'a, R: Wait + Threads + Sync>(
     let counted = CountedShapes::make(signs.system(), shapes, again, own);
     let remembered = RememberedShapes::new(alloc, &counted)?;
     let into = chart_leaves(alloc, &mut work.chart, signs, shapes, bound, leaves)?;
-    let fulls = RealizedFulls {
+    pruned_laws();
+    let sieve = sieve_of(alloc, signs, list, paths, mrs, leaves)?;
+    let realized = RealizedFulls {
         signs,
         leaves,
         paths,
         mrs,
         bound,
+    };
+    let fulls = PrunedFulls {
+        fulls: &realized,
+        sieve: &sieve,
     };
     let found = answer_leaves(
         rt,

@@ -14,17 +14,22 @@ use generated_leaves::{ToldTree, told_trees};
 use lexicon::Lexicon;
 use morph_analysis::Feeds;
 use mrs_places::{MrsFeat, MrsPaths};
+use pruned_trees::threaded_list;
+use relation_fit::RelationList;
 use rule_contributions::RulePredicates;
 use spelling_rules::Spelling;
 use std::alloc::Global;
 
-/// The lexical trees of a grammar with the predicates that they contribute, and those that phrase rules contribute themselves.
+/// The lexical trees of a grammar with the predicates that they contribute, those that phrase rules contribute themselves, and the list by
+/// which structures may be dropped.
 #[derive(Drop)]
 pub struct Contributors {
     /// the lexical trees of up to one rule more than the limit
     pub told: Vec<ToldTree>,
     /// what each phrase rule contributes itself
     pub rules: RulePredicates,
+    /// the list of relations, where each phrase rule is seen to append those of its daughters
+    pub list: Option<RelationList>,
 }
 
 // One more than a number. More than a `u32` can number counts as want of memory.
@@ -62,5 +67,6 @@ pub fn contributors_of<'a>(
     let most = one_more(lexical)?;
     let told = told_trees(alloc, work, signs, paths, lexicon, spelling, feeds, most)?;
     let rules = RulePredicates::make(alloc, signs, paths, c_cont)?;
-    Ok(Contributors { told, rules })
+    let list = threaded_list(alloc, signs, paths)?;
+    Ok(Contributors { told, rules, list })
 }

@@ -79,8 +79,23 @@ pub fn generate<'a, R: Wait + Threads + Sync>(
         GenLeaves::Leaves(leaves) => {
             let own = contributors.rules.own(alloc, &bag)?;
             answer_over(
-                rt, alloc, work, crew, signs, shapes, lexicon, spelling, paths, c_cont, mrs,
-                &leaves, &bound, own, limits, gate,
+                rt,
+                alloc,
+                work,
+                crew,
+                signs,
+                shapes,
+                lexicon,
+                spelling,
+                paths,
+                &contributors.list,
+                c_cont,
+                mrs,
+                &leaves,
+                &bound,
+                own,
+                limits,
+                gate,
             )
         }
     }

@@ -41,3 +41,9 @@ impl From<tree_sentences::NoMemory> for NoMemory {
         NoMemory
     }
 }
+
+impl From<pruned_trees::NoMemory> for NoMemory {
+    fn from(_error: pruned_trees::NoMemory) -> NoMemory {
+        NoMemory
+    }
+}

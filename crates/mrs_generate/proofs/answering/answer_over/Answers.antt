@@ -12,7 +12,8 @@ use Rattle.rule_contributions.specs.Given.{input_of}
 use Rattle.mrs_generate.specs.Answers.{words_by, IsSentenceAnswer}
 use Rattle.mrs_generate.specs.Inner.Put.{IsPut}
 use Rattle.mrs_generate.specs.Views.{answer_seen}
-use Rattle.mrs_generate.proofs.Calls.{call_belong, over_fit, over_answer, over_order}
+use Rattle.mrs_generate.proofs.Calls.{call_belong, over_answer, over_order}
+use Rattle.mrs_generate.proofs.Sifted.{sifted_fit, unsifted}
 use Rattle.mrs_generate.proofs.Sound.{known_sound, known_proper}
 use Rattle.mrs_generate.proofs.answering.answer_over.Goals as goal
 
@@ -37,8 +38,8 @@ chart_leaves-requires-clause-proper g c =
     let input = input_of t.book.system.types (paths_of c.args.paths.now) (map feature_of c.args._c_cont.now) (meaning_of c.args.mrs.now) in
     known_proper (leaf_seen t) (signs_of t) (words_by t c.args._lexicon.now c.args._spelling.now) input c.args.limits.now c.args.own.items c.args.bound.now c.args.leaves.now c.requires.known c.laws.ensures.order
 
-pub invariant_of-fulls : goal.invariant_of-fulls
-invariant_of-fulls g c = record { paths_are = c.requires.paths; feats = c.requires.feats; valid = ∣ c.requires.valid ∣₁ }
+pub invariant_of-realized : goal.invariant_of-realized
+invariant_of-realized g c = record { paths_are = c.requires.paths; feats = c.requires.feats; valid = ∣ c.requires.valid ∣₁ }
 
 pub answer_leaves-found-requires-clause-leaves : goal.answer_leaves-found-requires-clause-leaves
 answer_leaves-found-requires-clause-leaves g c κs within =
@@ -50,12 +51,12 @@ answer_leaves-found-requires-clause-leaves g c κs within =
 pub answer_leaves-found-requires-clause-fit : goal.answer_leaves-found-requires-clause-fit
 answer_leaves-found-requires-clause-fit g c κs within =
     let t = c.args.signs.now in
-    let input = input_of t.book.system.types (paths_of c.args.paths.now) (map feature_of c.args._c_cont.now) (meaning_of c.args.mrs.now) in
     let r = c.in_ok-remembered.remembered in
     let e = c.in_ok-remembered.ensures in
-    over_fit t c.args.shapes.now c.requires.shapes c.laws.ensures.order (words_by t c.args._lexicon.now c.args._spelling.now) input c.args.limits.now c.args.own.items c.args.bound.now (map (leaf_seen t) c.args.leaves.now) c.requires.known
+    sifted_fit t c.args.shapes.now c.requires.shapes c.laws.ensures.order (words_by t c.args._lexicon.now c.args._spelling.now) (paths_of c.args.paths.now) (map feature_of c.args._c_cont.now) (meaning_of c.args.mrs.now) c.args.limits.now c.args.own.items c.args.bound.now (map (leaf_seen t) c.args.leaves.now) c.requires.known
     c.rule_laws.ensures.agree c.realized_laws.ensures c.in_ok-into.into.items c.in_ok-into.ensures.lined r
     (record { shapes = ap shapes_in e ∙ c.make-counted.ensures.shapes; bound_is = ap bound_in e ∙ c.make-counted.ensures.bound ∙ c.in_ok-again.ensures; own_is = ap own_in e ∙ c.make-counted.ensures.own })
+    c.pruned_laws.ensures c.requires.paths c.in_ok-sieve.sieve c.in_ok-sieve.ensures
 
 pub put_together-requires : goal.put_together-requires
 put_together-requires g c =
@@ -66,7 +67,10 @@ put_together-requires g c =
     over_order t c.args.shapes.now c.requires.shapes c.laws.ensures.order (words_by t c.args._lexicon.now c.args._spelling.now) input c.args.limits.now c.args.own.items c.args.bound.now (map (leaf_seen t) c.args.leaves.now) c.requires.known
     c.rule_laws.ensures.agree c.realized_laws.ensures c.in_ok-into.into.items c.in_ok-into.ensures.lined r
     (record { shapes = ap shapes_in e ∙ c.make-counted.ensures.shapes; bound_is = ap bound_in e ∙ c.make-counted.ensures.bound ∙ c.in_ok-again.ensures; own_is = ap own_in e ∙ c.make-counted.ensures.own })
-    c.in-Ok.found c.in-Ok.ensures
+    c.in-Ok.found (unsifted t c.args.shapes.now c.requires.shapes c.laws.ensures.order (words_by t c.args._lexicon.now c.args._spelling.now) (paths_of c.args.paths.now) (map feature_of c.args._c_cont.now) (meaning_of c.args.mrs.now) c.args.limits.now c.args.own.items c.args.bound.now (map (leaf_seen t) c.args.leaves.now) c.requires.known
+    c.rule_laws.ensures.agree c.realized_laws.ensures c.in_ok-into.into.items c.in_ok-into.ensures.lined r
+    (record { shapes = ap shapes_in e ∙ c.make-counted.ensures.shapes; bound_is = ap bound_in e ∙ c.make-counted.ensures.bound ∙ c.in_ok-again.ensures; own_is = ap own_in e ∙ c.make-counted.ensures.own })
+    c.pruned_laws.ensures c.requires.paths c.in_ok-sieve.sieve c.in_ok-sieve.ensures c.in-Ok.found c.in-Ok.ensures)
 
 pub returns-in-Ok : goal.returns-in-Ok
 returns-in-Ok g c =
@@ -80,5 +84,8 @@ returns-in-Ok g c =
     over_answer t c.args.shapes.now c.requires.shapes c.laws.ensures.order words input c.args.limits.now c.args.own.items c.args.bound.now (map (leaf_seen t) c.args.leaves.now) c.requires.known
     c.rule_laws.ensures.agree c.realized_laws.ensures c.in_ok-into.into.items c.in_ok-into.ensures.lined r
     (record { shapes = ap shapes_in e ∙ c.make-counted.ensures.shapes; bound_is = ap bound_in e ∙ c.make-counted.ensures.bound ∙ c.in_ok-again.ensures; own_is = ap own_in e ∙ c.make-counted.ensures.own })
-    c.in-Ok.found (answer_seen a) c.in-Ok.ensures put)
+    c.in-Ok.found (answer_seen a) (unsifted t c.args.shapes.now c.requires.shapes c.laws.ensures.order (words_by t c.args._lexicon.now c.args._spelling.now) (paths_of c.args.paths.now) (map feature_of c.args._c_cont.now) (meaning_of c.args.mrs.now) c.args.limits.now c.args.own.items c.args.bound.now (map (leaf_seen t) c.args.leaves.now) c.requires.known
+    c.rule_laws.ensures.agree c.realized_laws.ensures c.in_ok-into.into.items c.in_ok-into.ensures.lined r
+    (record { shapes = ap shapes_in e ∙ c.make-counted.ensures.shapes; bound_is = ap bound_in e ∙ c.make-counted.ensures.bound ∙ c.in_ok-again.ensures; own_is = ap own_in e ∙ c.make-counted.ensures.own })
+    c.pruned_laws.ensures c.requires.paths c.in_ok-sieve.sieve c.in_ok-sieve.ensures c.in-Ok.found c.in-Ok.ensures) put)
     c.put_together.ensures

@@ -18,4 +18,5 @@ returns c =
     record {
       told = subst (λ n. AreTold (signs_of t) (words_by t c.args.lexicon.now c.args.spelling.now) t.book.system.types (paths_of c.args.paths.now) n (map (told_seen t) c.in_ok-told.told.items)) c.in_ok-most.ensures c.in_ok-told.ensures;
       given = c.in_ok-rules.ensures;
+      list = c.in_ok-list.ensures;
     }

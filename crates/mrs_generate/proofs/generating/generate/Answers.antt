@@ -38,3 +38,6 @@ answer_over-requires-clause-known g c κs within =
     c.in_ok-bound.ensures.small c.in_ok-own-in-Leaves.own.items (c.in_ok-own-in-Leaves.ensures ∙ ap (λ (b : BagTree). own_counts b.places by.rules) c.in_ok-bag.ensures) (leaves_seen t c.in_ok-leaves_of.field-0) (map (leaf_seen t) c.in-Leaves.leaves.items) (ap (leaves_seen t) c.in-Leaves.is)
     (c.in_ok-leaves_of.ensures t words input (own_by_place (signs_of t) (own_counts (distinct (preds_of meaning)) by.rules))
     (asks t c.laws.ensures.order c.rule_laws.ensures.even c.rule_laws.ensures.told c.args.lexicon.now c.args.spelling.now paths cont meaning c.args.limits.now by c.requires.contributors c.deref.result.now c.deref.ensures.value c.in_ok-bag.bag c.in_ok-bag.ensures)))
+
+pub answer_over-requires-clause-list : goal.answer_over-requires-clause-list
+answer_over-requires-clause-list g c κs within = c.requires.contributors.list

@@ -1,0 +1,3 @@
+pub mod Sieves
+pub mod Laws
+pub mod Inner
