@@ -1,5 +1,6 @@
 """Small random grammars with their settings and lines, as bodies and as texts."""
-from .structures import text_of
+from .bodies import NAMES, SETTINGS, named, names_of, text_of
+from .mrs import DEFAULTS
 
 HEAD = [
     ("string", ["*top*"], []),
@@ -7,7 +8,7 @@ HEAD = [
     ("cons", ["list"], [(("FIRST",), []), (("REST",), [("type", "list")])]),
     ("null", ["list"], []),
     ("value", ["*top*"], []),
-    ("sign", ["*top*"], [((f,), [("type", t)]) for f, t in (("STEM", "list"), ("ARGS", "list"), ("HEAD", "value"), ("MARK", "value"), ("VAL", "list"), ("IN", "list"))]),
+    ("sign", ["*top*"], [*(((f,), [("type", "list")]) for f in ("STEM", "ARGS", "VAL", "IN")), *(((f,), [("type", "value")]) for f in ("HEAD", "MARK"))]),
 ]
 
 
@@ -66,9 +67,9 @@ def spelling_of(chance):
 
 
 def case_of(chance):
-    case = {"limit": chance.choice((255, 12)), "daughters": chance.choice((["ARGS"], ["ARGS", "IN"]))}
+    case = {"names": names_of(chance), "limit": chance.choice((255, 12)), "daughters": chance.choice((["ARGS"], ["ARGS", "IN"]))}
     types_of(chance, case)
-    kind = lambda: chance.choice(case["kinds"])
+    kind = lambda: chance.choice(("sign", *case["kinds"]))
     stems = ["a", "b", "ta", "as"][: chance.randint(1, 4)]
     case["entries"], case["words"] = [], {}
     for number in range(chance.randint(1, 4)):
@@ -89,38 +90,66 @@ def case_of(chance):
         tags = ["t1", "t2"] if chance.random() < 0.6 else []
         items = [[("type", kind()), ("avm", said_of(chance, case, tags))] for _ in range(arity)]
         more = [(("ARGS",), [("list", (items, [("type", "null")]))])]
-        case["rules"].append((f"r{arity}_{number}", body_of(chance, case, kind(), tags, more)))
+        case["rules"].append((f"r{number}", body_of(chance, case, kind(), tags, more)))
     case["roots"] = [("root", body_of(chance, case, kind(), []))]
     case["restrictors"] = chance.choice((["STEM"], ["STEM", "MARK"], ["STEM", "VAL"], []))
     case["check"] = chance.choice(("HEAD", "HEAD VAL.FIRST", ""))
     case["edges"], case["readings"] = chance.choice((3, 10, 40, 200)), chance.choice((1, 20, 200))
     case["unary"], case["lexical-limit"] = chance.choice((0, 1, 2)), chance.choice((0, 1, 2))
     case["lattice"] = chance.random() < 0.25
-    case["lines"] = [[chance.choice((*stems, "s", "tas")) for _ in range(chance.randint(0, 5))] for _ in range(chance.randint(1, 3))]
+    known = [word for words in case["words"].values() for word in words]
+    some_word = lambda: chance.choice((*known, *known, *known, *stems, "s", "tas"))
+    case["lines"] = [[some_word() for _ in range(chance.choice((0, 1, 2, 2, 3, 3, 4, 5)))] for _ in range(40)]
     return case
 
 
-def instance_text(name, body, spelling=None):
-    terms = text_of([body[0][1][0], *([("avm", body[1:])] if body[1:] else [])])
-    affix = ""
-    if spelling and spelling[1]:
-        affix = ("%suffix" if spelling[0] else "%prefix") + "".join(f" ({p or '*'} {w or '*'})" for p, w in spelling[1]) + " "
-    return f"{name} := {affix}{terms}."
+def term_text(terms, body, names):
+    return text_of([*terms, *([("avm", body)] if body else [])], names)
+
+
+def affix_text(spelling):
+    if not spelling or not spelling[1]:
+        return ""
+    return ("%suffix" if spelling[0] else "%prefix") + "".join(f" ({p or '*'} {w or '*'})" for p, w in spelling[1]) + " "
+
+
+def statements_of(case):
+    """The statements of a grammar's file, each as the list of its name and text."""
+    names = case.get("names", NAMES)
+    said = [("", f"%(letter-set (!{name} {members}))") for name, members in case.get("letters", {"c": "abst"}).items()]
+    for name, parents, body in case["types"]:
+        said.append((name, f"{names.get(name, name)} := {term_text([('type', parent) for parent in parents], body, names)}."))
+    for key, status in (("entries", "lex-entry"), ("lexical", "lex-rule"), ("rules", "rule"), ("roots", "root")):
+        said.append(("", f":begin :instance :status {status}."))
+        for name, body in case[key]:
+            said.append((name, f"{name} := {affix_text(case['spelling'].get(name))}{term_text(body[0][1], body[1:], names)}."))
+        said.append(("", ":end :instance."))
+    return said
+
+
+def settings_of(case):
+    names = case.get("names", NAMES)
+    lines = [f"path-limit {case['limit']}", f"restrictors {' '.join(named(case['restrictors'], names))}"]
+    lines.append(f"daughter-features {' '.join(named(case['daughters'], names))}")
+    lines += [f"{SETTINGS[name]} {other}" for name, other in names.items() if name != other]
+    lines += [f"check-paths {case['check']}", "irregular-file irregular"]
+    for name, value in case.get("mrs", {}).items():
+        if name == "sort":
+            lines += [f"sort {kind} {letters}" for kind, letters in value]
+        elif value != DEFAULTS[name]:
+            lines.append(f"{name} {value if isinstance(value, str) else ('.' if name.endswith('path') else ' ').join(value)}")
+    return lines
 
 
 def files_of(case):
-    lines = ["%(letter-set (!c abst))"]
-    for name, parents, body in case["types"]:
-        terms = [("type", parent) for parent in parents] + ([("avm", body)] if body else [])
-        lines.append(f"{name} := {text_of(terms)}.")
-    for key, status in (("entries", "lex-entry"), ("lexical", "lex-rule"), ("rules", "rule"), ("roots", "root")):
-        lines.append(f":begin :instance :status {status}.")
-        lines += [instance_text(name, body, case["spelling"].get(name)) for name, body in case[key]]
-        lines.append(":end :instance.")
-    settings = [f"path-limit {case['limit']}", "restrictors " + " ".join(case["restrictors"]), "daughter-features " + " ".join(case["daughters"])]
-    settings += [f"check-paths {case['check']}", "irregular-file irregular"]
-    irregular = [" ".join(line) for line in case["irregular"]]
-    return {"g.tdl": lines, "set": settings, "irregular": irregular}
+    irregular = [" ".join(line) for line in case.get("irregular-lines", case["irregular"])]
+    return {"g.tdl": [text for _, text in statements_of(case)], "set": settings_of(case), "irregular": irregular}
+
+
+def options_of(case):
+    """The limits of a case as words of the command line."""
+    named = [("edges", case["edges"]), ("readings", case["readings"]), ("unary", case["unary"]), ("lexical", case["lexical-limit"])]
+    return [word for name, value in named for word in (f"--{name}", str(value))] + ["--settings", "set"]
 
 
 def lattice_of(chance, words):
@@ -130,3 +159,7 @@ def lattice_of(chance, words):
         i = chance.randrange(len(words))
         steps.append((i, chance.randint(i + 1, len(words)), chance.choice(words)))
     return list(dict.fromkeys(steps)), max((j for _, j, _ in steps), default=0)
+
+
+def line_of(steps, words, is_lattice):
+    return " ".join(f"{i}:{j}:{word}" for i, j, word in steps) if is_lattice else " ".join(words)

@@ -1,61 +1,93 @@
-"""What a random grammar licenses, by plain slow definitions: trees by recursion, classes by the least set, chains by trying
-every lexical rule on every entry."""
-import itertools
+"""What a random grammar is, by plain slow definitions: structures of instances and trees, forms of stems, and chains by trying
+every lexical rule on every entry. What was reckoned once is kept, since it depends on the grammar alone."""
+from .bodies import NAMES, facts_of, named, quoted
+from .structures import Closing, TooMuch, Types, cut, follow
 
-from .structures import Closing, TooMuch, Types, facts_of
-
-MOST_TREES, MOST_MEMBERS = 1500, 400
+MOST_CHAINS, MOST_MOTHERS = 20000, 2500
+KINDS = ("entries", "lexical", "rules", "roots")
 
 
 class Grammar:
-    """What a case says, with the definitions over it."""
+    """What a case says, with the definitions over it. Structures have numbers, so that what was reckoned is found quickly."""
 
     def __init__(self, case):
-        self.types = Types(case["types"])
         self.case, self.limit = case, case["limit"]
-        self.place, self.instance = {}, {}
-        number = 0
-        for status in ("entries", "lexical", "rules", "roots"):
+        self.words_of_lists = case.get("names", NAMES)
+        self.args = named(("ARGS",), self.words_of_lists)
+        self.daughters, self.restrictors = (named(case.get(key, ()), self.words_of_lists) for key in ("daughters", "restrictors"))
+        self.types = Types(case["types"], self.words_of_lists)
+        self.structures, self.numbers = [], {}
+        self.kept, self.mothers = {}, 0
+        self.place, self.instance, self.arity = {}, {}, {}
+        for status in KINDS:
             for name, body in case[status]:
-                self.place[status, name] = number
-                self.instance[status, name] = self.close([((), facts_of(body))])
-                number += 1
+                self.place[status, name] = len(self.place)
+                self.instance[status, name] = self.close([((), facts_of(body, self.words_of_lists))])
 
-    def has_structures(self):
-        """Whether each type but the top one, and each instance, has a structure."""
-        types = (self.close([((), [("below", (), ("type", name))])]) for name in self.types.names[1:])
-        return None not in self.instance.values() and None not in types
+    def constraint(self, name):
+        return self.close([((), [("below", (), ("type", name))])])
+
+    def unstructured(self):
+        """The first type, else the first instance, that has no structure: whether it is a type, and its name."""
+        types = ((True, name) for name in self.types.names[1:] if self.constraint(name) is None)
+        instances = ((False, name) for (_, name), structure in self.instance.items() if structure is None)
+        return next(types, None) or next(instances, None)
 
     def counted(self):
         """The line of `check`."""
-        kinds = [len(self.case[key]) for key in ("entries", "lexical", "rules", "roots")]
-        counts = [len(self.types.names), self.types.added(), len(self.types.introducers), *kinds]
-        return "types {} added {} features {} entries {} lex-rules {} rules {} roots {}\n".format(*counts)
+        kinds = [len(self.case[key]) for key in KINDS]
+        counts = [len(self.types.names), len(self.types.added()), len(self.types.introducers), *kinds]
+        return "types {} added {} features {} entries {} lex-rules {} rules {} roots {}".format(*counts)
 
-    def close(self, said, parts=()):
+    # Structures
+
+    def number(self, structure):
+        """The number of a structure; none has none."""
+        if structure is None:
+            return None
+        if structure not in self.numbers:
+            self.numbers[structure] = len(self.structures)
+            self.structures.append(structure)
+        return self.numbers[structure]
+
+    def keep(self, key, make):
+        if key not in self.kept:
+            self.kept[key] = make()
+        return self.kept[key]
+
+    def close(self, said, parts=(), is_closed=True):
         closing = Closing(self.types, self.limit)
         for path, facts in said:
             closing.say(closing.go(0, path), facts)
         for path, structure in parts:
-            closing.enter(closing.go(0, path), structure)
+            closing.enter(closing.go(0, path), structure, is_closed)
         return closing.closed()
 
-    def cut(self, structure, keeps):
-        closing = Closing(self.types, self.limit)
-        closing.enter(0, structure)
-        return self.close([], [((), closing.drawn(keeps))])
+    def mother(self, kind, rule, daughters):
+        """The number of the structure under a rule over daughters with these numbers, or none."""
+        return self.keep((kind, rule, daughters), lambda: self.number(self.made(self.instance[kind, rule], [self.structures[d] for d in daughters])))
 
-    def mother(self, structure, daughters):
-        parts = [((), structure)] + [(("ARGS",) + ("REST",) * k + ("FIRST",), d) for k, d in enumerate(daughters)]
+    def made(self, rule, daughters):
+        self.mothers += 1
+        if self.mothers > MOST_MOTHERS:
+            raise TooMuch
+        rest, first = self.words_of_lists["REST"], self.words_of_lists["FIRST"]
+        parts = [((), rule)] + [(self.args + (rest,) * k + (first,), daughter) for k, daughter in enumerate(daughters)]
         whole = self.close([], parts)
-        if whole is None:
-            return None
-        return self.cut(whole, lambda is_root, feature: not (is_root and feature in self.case["daughters"]))
+        return None if whole is None else self.close_again(whole, lambda is_root, feature: not (is_root and feature in self.daughters))
+
+    def close_again(self, structure, keeps):
+        return self.close([], [((), cut(structure, keeps))], is_closed=False)
 
     def abstract(self, full):
-        return self.cut(full, lambda _, feature: feature not in self.case["restrictors"])
+        """The number of what is left of a structure without the restrictors."""
+        keeps = lambda _, feature: feature not in self.restrictors
+        return self.keep(("abstract", full), lambda: self.number(self.close_again(self.structures[full], keeps)))
 
     def subsumes(self, general, special):
+        return self.keep(("subsumes", general, special), lambda: self.covers(self.structures[general], self.structures[special]))
+
+    def covers(self, general, special):
         map_of, waiting = {0: 0}, [0]
         while waiting:
             n = waiting.pop()
@@ -69,9 +101,39 @@ class Grammar:
         return True
 
     def is_rooted(self, full):
-        return any(self.close([], [((), self.instance["roots", name]), ((), full)]) for name, _ in self.case["roots"])
+        roots = lambda: any(self.close([], [((), self.instance["roots", name]), ((), self.structures[full])]) for name, _ in self.case["roots"])
+        return self.keep(("rooted", full), roots)
+
+    def arity_of(self, rule):
+        """How many daughters a phrase rule has: the elements of its ARGS."""
+        structure = self.instance["rules", rule]
+        return self.keep(("arity", rule), lambda: len(self.elements(structure, follow(structure, 0, self.args))))
+
+    def elements(self, structure, cell, last=None):
+        """The elements of a closed list, or none where the list is open. It ends at null, or at the node that is its LAST."""
+        found = []
+        while cell is not None and cell != last:
+            value = structure[cell][0]
+            if self.is_named(value, "null"):
+                return found
+            first = follow(structure, cell, (self.words_of_lists["FIRST"],))
+            cell = follow(structure, cell, (self.words_of_lists["REST"],))
+            if first is None or not self.is_named(value, "cons"):
+                return None
+            found.append(first)
+        return None if cell is None else found
+
+    def is_named(self, value, name):
+        """Whether a type is at or below the list type of this name."""
+        mask = self.types.below.get(self.words_of_lists[name])
+        return mask is not None and self.types.is_below(value, mask)
+
+    # Words
 
     def forms(self, rule, stem):
+        return self.keep(("forms", rule, stem), lambda: self.formed(rule, stem))
+
+    def formed(self, rule, stem):
         irregular = [form for form, name, of in self.case["irregular"] if name == rule and of == stem]
         if irregular:
             return list(dict.fromkeys(irregular))
@@ -79,8 +141,8 @@ class Grammar:
         if not groups:
             return [stem]
         for pattern, with_ in reversed(groups):
-            for value in "abst":
-                found, new = pattern.replace("!c", value), with_.replace("!c", value)
+            for values in valuations(pattern, self.case.get("letters", {"c": "abst"})):
+                found, new = filled(pattern, values), filled(with_, values)
                 if suffix and stem.endswith(found):
                     form = stem[: len(stem) - len(found)] + new
                 elif not suffix and stem.startswith(found):
@@ -90,119 +152,51 @@ class Grammar:
                 return [form] if form else []
         return []
 
-    def lexical_trees(self, lattice, most):
-        """The lexical trees of at most so many rules: entry, rules from the inside out, words, from, to, full."""
-        found = []
-        for name, words in self.case["words"].items():
-            chains = [((), words, self.instance["entries", name])]
-            for depth in range(most + 1):
-                for rules, spelled, full in chains:
-                    found += [(name, rules, spelled, i, j, full) for i, j in spans_of(lattice, spelled)]
-                if depth < most:
-                    chains = [
-                        (rules + (rule,), spelled[:-1] + (form,), new)
-                        for rules, spelled, full in chains
-                        for rule, _ in self.case["lexical"]
-                        if (new := self.mother(self.instance["lexical", rule], [full])) is not None
-                        for form in self.forms(rule, spelled[-1])
-                    ]
-                if len(chains) > MOST_TREES:
-                    raise TooMuch
-        return found
+    def chains(self, most):
+        """Each entry under each list of at most so many lexical rules, where the structure exists, in each spelling: entry, rules
+        from the inside out, words, number of the full structure."""
+        return self.keep(("chains", most), lambda: list(dict.fromkeys(self.all_chains(most))))
 
-    def places_below(self, name):
-        return {"r1": 1, "r2": 2, "r3": 3}[name.split("_")[0]]
-
-    def members(self, leaves, end):
-        """The least set of classes: for each cover and level a list of structures."""
-        found = {}
-        most = self.case["unary"]
-        for size in range(1, end + 1):
-            for i in range(end - size + 1):
-                j = i + size
-                level = [self.abstract(leaf[5]) for leaf in leaves if leaf[3:5] == (i, j)]
-                for name, _ in self.case["rules"]:
-                    for cut in cuts(i, j, self.places_below(name)) if self.places_below(name) > 1 else ():
-                        rows = [[s for k in range(most + 1) for s in found.get((a, b, k), ())] for a, b in cut]
-                        level += self.shapes(name, itertools.product(*rows))
-                for k in range(most + 2):
-                    found[i, j, k] = list(dict.fromkeys(level))
-                    if sum(map(len, found.values())) > MOST_MEMBERS:
-                        raise TooMuch
-                    level = []
-                    for name, _ in self.case["rules"] if k <= most else ():
-                        if self.places_below(name) == 1:
-                            level += self.shapes(name, ((s,) for s in found[i, j, k]))
-        return found
-
-    def shapes(self, name, tuples):
-        for daughters in tuples:
-            made = self.mother(self.instance["rules", name], daughters)
-            if made is not None:
-                yield self.abstract(made)
-
-    def class_answer(self, found, end):
-        """The number of packed classes, or the limit that is broken at the least size."""
-        most, count = self.case["unary"], 0
-        for size in range(1, end + 1):
-            for i in range(end - size + 1):
-                if found[i, i + size, most + 1]:
-                    return "unary-chain"
-                for k in range(most + 1):
-                    row = found[i, i + size, k]
-                    count += sum(not any(o != s and self.subsumes(o, s) for o in row) for s in row)
-            if any(found[i, i + size, most + 1] for i in range(end - size + 1)):
-                return "unary-chain"
-            if count > self.case["edges"]:
-                return "edges"
-        return count
-
-    def trees(self, leaves, end):
-        """All trees over each span, with their fulls: by size, and over one span by unary rules until none is left."""
-        found = {}
-        for size in range(1, end + 1):
-            for i in range(end - size + 1):
-                j = i + size
-                row = [(("leaf",) + leaf[:5], leaf[5]) for leaf in leaves if leaf[3:5] == (i, j)]
-                for name, _ in self.case["rules"]:
-                    for cut in cuts(i, j, self.places_below(name)) if self.places_below(name) > 1 else ():
-                        row += self.phrases(name, itertools.product(*(found[span] for span in cut)))
-                all_of, level = list(row), row
-                while level:
-                    level = [t for name, _ in self.case["rules"] if self.places_below(name) == 1 for t in self.phrases(name, ((one,) for one in level))]
-                    all_of += level
-                    if len(all_of) > MOST_TREES:
-                        raise TooMuch
-                found[i, j] = all_of
-        return found
-
-    def phrases(self, name, tuples):
-        for count, daughters in enumerate(tuples):
-            if count > MOST_TREES:
+    def all_chains(self, most):
+        level = [(name, (), words, self.number(self.instance["entries", name])) for name, words in self.case["words"].items()]
+        for depth in range(most + 1):
+            yield from level
+            if depth < most:
+                level = [
+                    (name, (*rules, rule), words[:-1] + (form,), new)
+                    for name, rules, words, full in dict.fromkeys(level)
+                    for rule, _ in self.case["lexical"]
+                    if (new := self.mother("lexical", rule, (full,))) is not None
+                    for form in self.forms(rule, words[-1])
+                ]
+            if len(level) > MOST_CHAINS:
                 raise TooMuch
-            full = self.mother(self.instance["rules", name], [d[1] for d in daughters])
-            if full is not None:
-                yield (("phrase", name, tuple(d[0] for d in daughters)), full)
 
-    def key(self, tree):
-        if tree[0] == "leaf":
-            _, entry, rules, words, i, j = tree
-            places = [self.place["lexical", rule] for rule in reversed(rules)] + [self.place["entries", entry]]
-            return (places[0], 0, places, words, (i, j))
-        return (self.place["rules", tree[1]], 1, [count_of(d) for d in tree[2]], [self.key(d) for d in tree[2]])
+    def chains_from(self, most, word):
+        """The chains whose words begin with this one."""
+        return self.keep(("chains from", most, word), lambda: [chain for chain in self.chains(most) if chain[2][0] == word])
+
+    # Texts
 
     def written(self, tree, nodes):
         if tree[0] == "phrase":
             return f"({tree[1]} {' '.join(self.written(d, nodes) for d in tree[2])})"
-        _, entry, rules, words, i, j = tree
-        text = f'({entry} "{" ".join(words)}"{f" {i} {j}" if nodes else ""})'
+        _, entry, rules, words, span = tree
+        text = f'({entry} {quoted(" ".join(words))}{f" {span[0]} {span[1]}" if nodes else ""})'
         for rule in rules:
             text = f"({rule} {text})"
         return text
 
+    def key(self, tree):
+        """What trees are ordered by."""
+        if tree[0] == "leaf":
+            _, entry, rules, words, span = tree
+            places = [self.place["lexical", rule] for rule in reversed(rules)] + [self.place["entries", entry]]
+            return (places[0], 0, places, words, span or ())
+        return (self.place["rules", tree[1]], 1, [len(words_of(d)) for d in tree[2]], [self.key(d) for d in tree[2]])
+
     def expanded(self, structure):
-        """The list of paths of a structure; none where a node has an added type, whose name isn't reckoned here."""
-        names = {mask: name for name, mask in reversed(self.types.below.items())}
+        """What `expand` writes of a structure."""
         lines, first = [], {}
 
         def visit(n, path):
@@ -211,42 +205,29 @@ class Grammar:
                 return
             first[n] = path
             value, arcs = structure[n]
-            lines.append(f"{path} {names.get(value) if isinstance(value, int) else chr(34) + value[1] + chr(34)}")
+            lines.append(f"{path} {quoted(value[1]) if isinstance(value, tuple) else self.types.named()[value]}")
             for feature, to in arcs:
                 visit(to, f"{'' if path == '.' else path}.{feature}")
 
         visit(0, ".")
-        return "".join(line + "\n" for line in lines) if all(isinstance(v, tuple) or v in names for v, _ in structure) else None
-
-    def answer(self, number, lattice, nodes):
-        """The report on a line, and whether it is refused."""
-        steps, end = lattice
-        leaves = self.lexical_trees(steps, self.case["lexical-limit"] + 1)
-        if any(len(leaf[1]) == self.case["lexical-limit"] + 1 for leaf in leaves):
-            return [f"item {number} refused lexical-depth"], True
-        classes = self.class_answer(self.members(leaves, end), end)
-        if isinstance(classes, str):
-            return [f"item {number} refused {classes}"], True
-        whole = self.trees(leaves, end).get((0, end), [])
-        trees = sorted((t for t, full in whole if self.is_rooted(full)), key=self.key)
-        if len(trees) > self.case["readings"]:
-            return [f"item {number} refused readings"], True
-        return [f"item {number} classes {classes} readings {len(trees)}", *(f"  {self.written(t, nodes)}" for t in trees)], False
+        return lines
 
 
-def count_of(tree):
-    return len(tree[3]) if tree[0] == "leaf" else sum(map(count_of, tree[2]))
+def words_of(tree):
+    return tree[3] if tree[0] == "leaf" else tuple(word for d in tree[2] for word in words_of(d))
 
 
-def cuts(i, j, parts):
-    for inner in itertools.combinations(range(i + 1, j), parts - 1):
-        ends = (i, *inner, j)
-        yield list(zip(ends, ends[1:]))
+def valuations(pattern, letters):
+    """Each way to give the variables of a pattern letters of their sets."""
+    ways = [{}]
+    for k, sign in enumerate(pattern):
+        if sign == "!" and k + 1 < len(pattern):
+            name = pattern[k + 1]
+            ways = [{**way, name: letter} for way in ways for letter in ([way[name]] if name in way else letters[name])]
+    return ways
 
 
-def spans_of(lattice, words):
-    """The pairs of nodes between which some path of steps carries these words."""
-    fronts = {(i, i) for i, _, _ in lattice}
-    for word in words:
-        fronts = {(start, j) for start, at in fronts for i, j, w in lattice if i == at and w == word}
-    return sorted(fronts)
+def filled(pattern, values):
+    for name, letter in values.items():
+        pattern = pattern.replace("!" + name, letter)
+    return pattern

@@ -1,39 +1,63 @@
-"""Typed feature structures by plain slow definitions (Copestake 2002): facts, and closures by adding facts until nothing is
-added."""
+"""Types and typed feature structures by plain slow definitions (Copestake 2002): completed types as sets of written types,
+and closures by adding facts until nothing is added."""
+from .bodies import NAMES, facts_of
 
-MOST_NODES = 400
+MOST_NODES = 1500
 
 
 class TooMuch(Exception):
     """The run is too large for definitions by recursion, and is passed over."""
 
 
-# Types: a type is the set of written types at or below it, as the bits of a number; a string is itself.
+# A type is the set of written types at or below it, as the bits of a number; a string is the pair of "string" and itself.
 
 
 class Types:
-    def __init__(self, written):
-        self.names = ["*top*", *[name for name, _, _ in written]]
+    """What is written of types: triples of a name, its parents and its body."""
+
+    def __init__(self, written, names=NAMES):
+        written = [(names.get(name, name), [names.get(parent, parent) for parent in parents], body) for name, parents, body in written]
+        self.names = ["*top*", *(["string"] if all(name != "string" for name, _, _ in written) else []), *[name for name, _, _ in written]]
         self.number = {name: k for k, name in enumerate(self.names)}
-        above = {name: set() for name in self.names}
-        for name, parents, _ in written:
-            for parent in parents or ["*top*"]:
-                above[name] |= {parent} | above[parent]
-        self.below = {name: 0 for name in self.names}
+        parents = {"*top*": [], "string": ["*top*"], **{name: list(above) or ["*top*"] for name, above, _ in written}}
+        self.below = dict.fromkeys(self.names, 0)
         for name in self.names:
-            for other in {name, *above[name]}:
+            for other in self.reached(name, parents):
                 self.below[other] |= 1 << self.number[name]
         self.top = self.below["*top*"]
-        self.said = {name: [(kind, path, value) for kind, path, value in facts_of(body)] for name, _, body in written}
-        self.said["*top*"] = []
-        self.introducers = {}
-        for name, _, body in written:
-            for path, _ in body:
-                self.introducers.setdefault(path[0], []).append(name)
-        for feature, writers in self.introducers.items():
-            self.introducers[feature] = next(w for w in writers if all(self.below[o] & self.below[w] == self.below[o] for o in writers))
+        self.said = dict.fromkeys(self.names, ())
+        self.said |= {name: facts_of(body, names) for name, _, body in written}
+        self.introducers = {feature: self.highest(writers) for feature, writers in self.writers().items()}
+        self.above_of, self.meets = {}, {}
+
+    def reached(self, name, parents):
+        found, waiting = {name}, [name]
+        while waiting:
+            for parent in parents[waiting.pop()]:
+                if parent not in found:
+                    found.add(parent)
+                    waiting.append(parent)
+        return found
+
+    def writers(self):
+        """The types that write each feature at their own node, in order of definition."""
+        found = {}
+        for name in self.names:
+            for kind, path, _ in self.said[name]:
+                if path and name not in found.setdefault(path[0], []):
+                    found[path[0]].append(name)
+        return found
+
+    def highest(self, writers):
+        """The one writer that is above all others, if there is one."""
+        return next((w for w in writers if all(self.below[o] | self.below[w] == self.below[w] for o in writers)), None)
 
     def meet(self, a, b):
+        if (a, b) not in self.meets:
+            self.meets[a, b] = self.met(a, b)
+        return self.meets[a, b]
+
+    def met(self, a, b):
         if isinstance(a, int) and isinstance(b, int):
             return a & b or None
         if isinstance(a, int):
@@ -45,70 +69,38 @@ class Types:
     def is_below(self, a, b):
         return self.meet(a, b) == a
 
+    def above(self, value):
+        """The written types at or above a type or string, as the bits of a number, and their names where they say something."""
+        if value not in self.above_of:
+            names = [name for name in self.names if self.is_below(value, self.below[name])]
+            self.above_of[value] = sum(1 << self.number[name] for name in names), [name for name in names if self.said[name]]
+        return self.above_of[value]
+
     def added(self):
-        """How many intersections of the written types' sets aren't a written type's set."""
+        """The nonempty intersections of written types' sets that aren't a written type's set, in the order of their members' places."""
         sets = set(self.below.values())
-        whole = set(sets)
-        while True:
-            more = {a & b for a in whole for b in sets} - whole - {0}
-            if not more:
-                return len(whole) - len(sets)
+        whole, more = set(sets), set(sets)
+        while more:
+            more = {a & b for a in more for b in sets} - whole - {0}
             whole |= more
+        return sorted(whole - sets, key=lambda a: [k for k in range(len(self.names)) if a >> k & 1])
 
+    def named(self):
+        """The names of types, strings aside: of written types, then of added ones."""
+        if not hasattr(self, "all_named"):
+            self.all_named = {mask: name for name, mask in self.below.items()}
+            self.all_named |= {mask: f"glbtype{k}" for k, mask in enumerate(self.added(), 1)}
+        return self.all_named
 
-# Bodies: pairs of a path and what holds there, a list of terms. Facts: a path exists, is below a type, or equals another.
-
-
-def facts_of(body):
-    tags, facts = {}, []
-
-    def say(path, terms):
-        facts.append(("exists", path, None))
-        for kind, value in terms:
-            if kind in ("type", "string"):
-                facts.append(("below", path, (kind, value)))
-            elif kind == "tag":
-                facts.append(("same", tags.setdefault(value, path), path))
-            elif kind == "avm":
-                for more, there in value:
-                    say(path + more, there)
-            else:
-                say_list(path, *value)
-
-    def say_list(path, items, end):
-        for item in items:
-            facts.append(("below", path, ("type", "cons")))
-            say(path + ("FIRST",), item)
-            facts.append(("exists", path + ("REST",), None))
-            path += ("REST",)
-        say(path, end)
-
-    for path, terms in body:
-        say(path, terms)
-    return facts
-
-
-def text_of(terms):
-    parts = []
-    for kind, value in terms:
-        if kind == "type":
-            parts.append(value)
-        elif kind == "string":
-            parts.append(f'"{value}"')
-        elif kind == "tag":
-            parts.append(f"#{value}")
-        elif kind == "avm":
-            parts.append("[ " + ", ".join(f"{'.'.join(p)} {text_of(t) or '[ ]'}" for p, t in value) + " ]")
-        else:
-            items, end = value
-            inner = ", ".join(text_of(item) or "[ ]" for item in items)
-            if end == [("type", "null")]:
-                parts.append(f"< {inner} >")
-            elif end == [("type", "list")]:
-                parts.append(f"< {inner}, ... >" if items else "< ... >")
-            else:
-                parts.append(f"< {inner} . {text_of(end)} >")
-    return " & ".join(parts)
+    def listing(self):
+        """What `types` writes: each type with its immediate supertypes, in the order of types."""
+        masks = list(self.named())
+        lines = []
+        for mask in masks:
+            above = [other for other in masks if other != mask and other | mask == other]
+            near = [other for other in above if not any(o != other and o | other == other for o in above)]
+            lines.append(f"{self.named()[mask]}:" + "".join(" " + self.named()[other] for other in near))
+        return lines
 
 
 # Structures: the types and arcs of nodes, the root first, numbered depth first, so that one structure is one value.
@@ -119,8 +111,9 @@ class Closing:
 
     def __init__(self, types, limit):
         self.types, self.limit = types, limit
-        self.into, self.type, self.arcs = [0], [None], [{}]
-        self.ok = True
+        self.into, self.type, self.arcs, self.said = [], [], [], []
+        self.changed, self.ok, self.look = [], True, 300
+        self.node()
 
     def live(self, n):
         while self.into[n] != n:
@@ -130,35 +123,42 @@ class Closing:
     def node(self):
         if len(self.into) > MOST_NODES:
             raise TooMuch
-        self.into.append(len(self.into))
+        n = len(self.into)
+        self.into.append(n)
         self.type.append(None)
         self.arcs.append({})
-        return len(self.into) - 1
+        self.said.append(0)
+        return n
 
     def go(self, n, path):
         for feature in path:
             n = self.live(n)
             if feature not in self.arcs[n]:
                 self.arcs[n][feature] = self.node()
+                self.put(n, self.types.below[self.types.introducers[feature]])
             n = self.arcs[n][feature]
         return self.live(n)
 
     def put(self, n, value):
+        """The type of a node is at or below this one."""
         n = self.live(n)
-        if self.type[n] is None:
-            self.type[n] = value
-        else:
-            self.type[n] = self.types.meet(self.type[n], value)
-            if self.type[n] is None:
-                self.ok, self.type[n] = False, value
+        new = value if self.type[n] is None else self.types.meet(self.type[n], value)
+        if new is None:
+            self.ok = False
+        elif new != self.type[n]:
+            self.type[n] = new
+            self.changed.append(n)
 
     def join(self, a, b):
+        """Two nodes are one."""
         waiting = [(a, b)]
-        while waiting:
+        while waiting and self.ok:
             a, b = map(self.live, waiting.pop())
             if a == b:
                 continue
             self.into[b] = a
+            self.said[a] |= self.said[b]
+            self.changed.append(a)
             if self.type[b] is not None:
                 self.put(a, self.type[b])
             for feature, to in self.arcs[b].items():
@@ -169,68 +169,83 @@ class Closing:
 
     def say(self, n, facts):
         for kind, path, value in facts:
-            at = self.go(n, path)
+            there = self.go(n, path)
             if kind == "below":
-                self.put(at, self.types.below[value[1]] if value[0] == "type" else ("string", value[1]))
+                self.put(there, self.types.below[value[1]] if value[0] == "type" else value)
             elif kind == "same":
-                self.join(at, self.go(n, value))
+                self.join(there, self.go(n, value))
 
-    def enter(self, at, structure):
+    def enter(self, n, structure, is_closed):
+        """A structure holds at a node. One that is closed has all that its own types say."""
         numbers = [self.node() for _ in structure]
-        for n, (value, arcs) in zip(numbers, structure):
+        for at, (value, arcs) in zip(numbers, structure):
+            self.arcs[at] = {feature: numbers[to] for feature, to in arcs}
             if value != self.types.top:
-                self.type[n] = value
-            self.arcs[n] = {feature: numbers[to] for feature, to in arcs}
-        self.join(at, numbers[0])
+                self.type[at] = value
+                self.said[at] = self.types.above(value)[0] if is_closed else 0
+            if not is_closed:
+                self.changed.append(at)
+                for feature in self.arcs[at]:
+                    self.put(at, self.types.below[self.types.introducers[feature]])
+        self.join(n, numbers[0])
 
-    def state(self):
-        live = [n for n in range(len(self.into)) if self.into[n] == n]
-        return len(self.into), len(live), [self.type[n] for n in live], sum(len(self.arcs[n]) for n in live)
-
-    def longest(self, n, memo, open_nodes):
+    def depth(self, n, memo, open_nodes):
+        """The length of the longest path from a node, or none where one comes back."""
         n = self.live(n)
         if n in open_nodes:
             return None
         if n not in memo:
             open_nodes.add(n)
-            below = [self.longest(to, memo, open_nodes) for to in self.arcs[n].values()]
+            below = [self.depth(to, memo, open_nodes) for to in self.arcs[n].values()]
             open_nodes.discard(n)
             memo[n] = None if None in below else 1 + max(below, default=-1)
         return memo[n]
 
+    def is_short(self):
+        depth = self.depth(0, {}, set())
+        return depth is not None and depth <= self.limit
+
     def closed(self):
         """The structure, or none where the facts are inconsistent."""
-        was = None
-        while self.ok and was != self.state():
-            was = self.state()
-            for n in range(len(self.into)):
-                if self.into[n] != n:
-                    continue
-                for feature in list(self.arcs[n]):
-                    self.put(n, self.types.below[self.types.introducers[feature]])
-                if self.type[self.live(n)] is not None:
-                    value = self.type[self.live(n)]
-                    for name in self.types.names:
-                        if self.types.is_below(value, self.types.below[name]):
-                            self.say(n, self.types.said[name])
-            depth = self.longest(0, {}, set())
-            if depth is None or depth > self.limit:
-                return None
-        return self.drawn(lambda is_root, feature: True) if self.ok else None
+        while self.ok and self.changed:
+            n = self.live(self.changed.pop())
+            if self.type[n] is None:
+                continue
+            mask, names = self.types.above(self.type[n])
+            missing = mask & ~self.said[n]
+            self.said[n] |= mask
+            for name in names if missing else ():
+                if missing >> self.types.number[name] & 1:
+                    self.say(n, self.types.said[name])
+            if len(self.into) > self.look:
+                self.ok, self.look = self.is_short(), self.look + 300
+        return self.drawn() if self.ok and self.is_short() else None
 
-    def drawn(self, keeps):
-        order, numbers = [], {}
+    def drawn(self):
+        nodes = [(self.types.top if value is None else value, arcs) for value, arcs in zip(self.type, self.arcs)]
+        return cut(nodes, lambda is_root, feature: True, self.live)
 
-        def visit(n):
-            n = self.live(n)
-            if n in numbers:
-                return numbers[n]
-            numbers[n] = len(order)
+
+def cut(nodes, keeps, live=lambda n: n):
+    """The structure that the root reaches by the arcs that are kept."""
+    order, numbers = [], {}
+
+    def visit(n):
+        n = live(n)
+        if n not in numbers:
+            mine = numbers[n] = len(order)
             order.append(None)
-            mine = numbers[n]
-            arcs = tuple((f, visit(self.arcs[n][f])) for f in sorted(self.arcs[n]) if keeps(mine == 0, f))
-            order[mine] = (self.types.top if self.type[n] is None else self.type[n], arcs)
-            return mine
+            value, arcs = nodes[n]
+            arcs = sorted(arcs.items() if isinstance(arcs, dict) else arcs, key=lambda arc: arc[0].lower())
+            order[mine] = value, tuple((feature, visit(to)) for feature, to in arcs if keeps(mine == 0, feature))
+        return numbers[n]
 
-        visit(0)
-        return tuple(order)
+    visit(0)
+    return tuple(order)
+
+
+def follow(structure, n, path):
+    """The node at a path from a node, if there is one."""
+    for feature in path:
+        n = None if n is None else dict(structure[n][1]).get(feature)
+    return n

@@ -1,0 +1,150 @@
+"""What the program is asked in one run, and what it must write: a run is a random grammar, its settings, and lines, MRSs or
+names over it."""
+from .bodies import NAMES
+from .cases import case_of, files_of, lattice_of, line_of, options_of
+from .grammar import Grammar
+from .items import generate_answer, parse_answer
+from .mrs import Mrs, are_equal, contribution, mrs_line, mrs_of, DEFAULTS
+from .faults import draft_of
+from .mrs_texts import asked_texts
+from .semantic_cases import semantic_case
+from .spelling_cases import lines_of, spelling_case
+from .structures import TooMuch
+from .type_cases import types_asked
+
+MOST_MRSS, BROKEN = 12, 20
+CHECK = ["check", "g", "--settings", "set"]
+
+
+class Asked:
+    """The words of one process, its input, for each case of it the lines that must come, the status and a fault's text; and files
+    that stand in place of the run's."""
+
+    def __init__(self, words, cases, lines=(), status=0, fault="", files=None):
+        self.words, self.cases, self.lines, self.status, self.fault = words, cases, lines, status, fault
+        self.files = files or {}
+
+
+def parsed(chance, case, grammar, mrs_lines=None):
+    """The lines of a case. What is too large for the definitions is passed over."""
+    lines, reports, refused = [], [], False
+    for words in case["lines"]:
+        lattice = lattice_of(chance if case["lattice"] else None, words)
+        try:
+            report, is_refused = parse_answer(grammar, len(lines) + 1, lattice, case["lattice"], mrs_lines)
+        except TooMuch:
+            continue
+        refused |= is_refused
+        lines.append(line_of(lattice[0], words, case["lattice"]))
+        reports.append(report)
+    flags = (["--lattice"] if case["lattice"] else []) + (["--mrs"] if mrs_lines else [])
+    return Asked(["parse", "g", *options_of(case), *flags, *workers_of(chance)], reports, lines, 4 if refused else 0)
+
+
+def workers_of(chance):
+    return ["--workers", "2"] if chance.random() < 0.05 else []
+
+
+def told(case, grammar, chance, most):
+    """What `check`, `types` and `expand` write."""
+    asked = [Asked(CHECK, [[grammar.counted()]]), Asked(["types", "g", "--settings", "set"], [grammar.types.listing()])]
+    first = {}
+    for name in grammar.types.names:
+        first[name] = grammar.constraint(name)
+    for (_, name), structure in grammar.instance.items():
+        first.setdefault(name, structure)
+    for name in chance.sample(list(first), min(most, len(first))):
+        asked.append(Asked(["expand", "g", name, "--settings", "set"], [grammar.expanded(first[name])]))
+    return asked
+
+
+def whole(case):
+    """The grammar of a case, and the fault of its first type or instance without a structure, if there is one."""
+    grammar = Grammar(case)
+    found = grammar.unstructured()
+    if found is None:
+        return grammar, None
+    is_type, name = found
+    text = "\n".join(files_of(case)["g.tdl"]) + "\n"
+    place = (text.index if is_type else text.rindex)(f"\n{name} :=") + 1
+    return grammar, Asked(CHECK, [[]], status=3, fault=f"lkb: g.tdl:{len(text[:place].encode())}: NoStructure {name}\n")
+
+
+def syntax_run(chance):
+    case = case_of(chance)
+    grammar, fault = whole(case)
+    if fault:
+        return files_of(case), [fault]
+    return files_of(case), [parsed(chance, case, grammar), *told(case, grammar, chance, 2)]
+
+
+def semantics_run(chance):
+    case = semantic_case(chance)
+    grammar, fault = whole(case)
+    if fault:
+        return files_of(case), [fault]
+    asked = [parsed(chance, case, grammar, lambda full: mrs_line(grammar, full)), *told(case, grammar, chance, 1)]
+    found = {}
+    for key in list(grammar.kept):
+        if key[0] == "mrs" and isinstance(mrs := mrs_of(grammar, key[1]), Mrs) and len(mrs.eps) < 6:
+            found.setdefault(mrs_line(grammar, key[1]), mrs)
+    texts = list(found)
+    chance.shuffle(texts)
+    return files_of(case), [*asked, generated(chance, case, grammar, [found[text] for text in texts[:MOST_MRSS]])]
+
+
+def spelling_run(chance):
+    case = spelling_case(chance)
+    grammar = Grammar(case)
+    case["lines"] = lines_of(chance, grammar, case)
+    asked = parsed(chance, case, grammar)
+    asked.lines = [line.upper() if chance.random() < 0.1 else line for line in asked.lines]
+    return files_of(case), [asked]
+
+
+def generated(chance, case, grammar, mrss):
+    said = DEFAULTS | case["mrs"]
+    of_leaf = lambda full: grammar.keep(("said", full), lambda: contribution(grammar, grammar.structures[full], said["mrs-path"]))
+    of_rule = lambda rule: contribution(grammar, grammar.instance["rules", rule], said["c-cont-path"])
+    lines, reports, refused = [], [], False
+    for text, mrs in asked_texts(chance, mrss):
+        number = len(lines) + 1
+        if isinstance(mrs, int):
+            report, is_refused = [f"item {number} no-mrs {mrs}"], True
+        else:
+            means = lambda full: isinstance(other := mrs_of(grammar, full), Mrs) and are_equal(mrs, other)
+            try:
+                report, is_refused = generate_answer(grammar, number, mrs.bag(), means, (of_leaf, of_rule))
+            except TooMuch:
+                continue
+        refused |= is_refused
+        lines.append(text)
+        reports.append(report)
+    words = ["generate", "g", *options_of(case), "--empty", str(case["empty"]), *workers_of(chance)]
+    return Asked(words, reports, lines, 4 if refused else 0)
+
+
+def types_run(chance):
+    """A hierarchy with features, or the first fault of its types."""
+    written, text, limit, fault = types_asked(chance)
+    files = {"g.tdl": [text], "set": [f"path-limit {limit}"]}
+    if fault:
+        return files, [Asked(CHECK, [[]], status=3, fault=f"lkb: g.tdl:{fault}\n")]
+    case = {"types": written, "limit": limit, "entries": [], "lexical": [], "rules": [], "roots": []}
+    return files, told(case, Grammar(case), chance, 2)
+
+
+def broken_run(chance):
+    """A grammar without faults, and texts of it that are broken at one known place or two, or that say the same in another way."""
+    case = (case_of if chance.random() < 0.5 else semantic_case)(chance) | {"names": NAMES}
+    grammar, fault = whole(case)
+    if fault:
+        raise TooMuch
+    asked = []
+    for _ in range(BROKEN):
+        files, text = draft_of(chance, case)
+        asked.append(Asked(CHECK, [[grammar.counted()]], files=files) if text is None else Asked(CHECK, [[]], status=3, fault=text, files=files))
+    return {}, asked
+
+
+RUNS = {"syntax": syntax_run, "semantics": semantics_run, "spelling": spelling_run, "types": types_run, "broken": broken_run}
