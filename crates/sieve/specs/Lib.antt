@@ -1,0 +1,5 @@
+pub mod Sketches
+pub mod Unifying
+pub mod Filters
+pub mod Guards
+pub mod Inner

@@ -1,0 +1,20 @@
+//! Kept filters: sketches of structures, sieves that tell from two sketches that no structures unify, priorities and guards.
+//!
+//! The quick check of types at paths before unification: Malouf, Carroll and Copestake 2000.
+#![tactic(auto)]
+
+mod guards;
+mod no_memory;
+mod paths;
+mod priorities;
+mod quick;
+mod sieves;
+mod sketches;
+
+pub use guards::{Decision, Guard};
+pub use no_memory::NoMemory;
+pub use paths::SketchPaths;
+pub use priorities::{Priority, Ranking};
+pub use quick::types_meet;
+pub use sieves::{Filter, Sieve};
+pub use sketches::{Sketch, SketchLine};
