@@ -18,10 +18,6 @@ use std::sync::atomic::{AtomicU64, Ordering};
 /// answers as some hundred lines give, in a tenth of the memory that a process mostly has.
 const LEVELS: usize = 6;
 
-/// The greatest weight of all mothers that are kept, with 16 for each answer besides. A word is a node with its arcs, of some
-/// 24 bytes, so that this is about 50 MB.
-const MOST_WORDS: u64 = 2_097_152;
-
 /// A rule that any value keeps.
 struct Anything;
 
@@ -34,6 +30,8 @@ impl<T> SlotRule<T> for Anything {
 pub struct Memo<S: Marked> {
     pub stamp: Written<Snapshot<S>>,
     levels: Vec<Level<S>>,
+    // the greatest weight of all mothers that are kept, with 16 for each answer besides
+    most: u64,
     // the weight of what is kept; the greatest and more once something found no room
     words: AtomicU64,
     ghost tagged: { AreTagged (stamp.of ∷ []) levels.items },
@@ -62,8 +60,8 @@ fn levels_of<S: Marked>(alloc: Global, tag: &Tag) -> Result<Vec<Level<S>>, NoMem
 }
 
 impl<S: Marked> Memo<S> {
-    /// Nothing is known yet of these shapes.
-    pub fn new(alloc: Global, shapes: &S) -> Result<Memo<S>, NoMemory>
+    /// Nothing is known yet of these shapes. What is kept weighs no more words than said.
+    pub fn new(alloc: Global, shapes: &S, most: u64) -> Result<Memo<S>, NoMemory>
         ensures { IfOk result (λ memo. memo.stamp.value.value ≡ shapes.now) }
     {
         let stamp = stamped(shapes)?;
@@ -71,6 +69,7 @@ impl<S: Marked> Memo<S> {
         Ok(Memo {
             stamp,
             levels,
+            most,
             words: AtomicU64::new(0),
         })
     }
@@ -97,7 +96,7 @@ impl<S: Marked> Memo<S> {
 
     /// Whether there is no room for further answers.
     pub fn is_full(&self) -> bool {
-        self.words.load(Ordering::SeqCst) >= MOST_WORDS
+        self.words.load(Ordering::SeqCst) >= self.most
     }
 
     /// Keeps an answer of some weight, where there is room for it.
@@ -118,6 +117,6 @@ impl<S: Marked> Memo<S> {
             }
             count = count.saturating_mul(2);
         }
-        self.words.fetch_add(MOST_WORDS, Ordering::SeqCst);
+        self.words.fetch_add(self.most, Ordering::SeqCst);
     }
 }

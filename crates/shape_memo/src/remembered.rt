@@ -14,14 +14,18 @@ use std::alloc::Global;
 use std::marker::Model;
 use std::sync::atomic::{AtomicU64, Ordering};
 
+/// The greatest weight of what is remembered, in words, where none is given. A word is a node with its arcs, of some 24 bytes, so
+/// that this is about 50 MB.
+const MOST_WORDS: u64 = 2_097_152;
+
 /// After so many first daughters that fit in no pair, each one is tested before it is tried in pairs.
 const MANY_IN_VAIN: u64 = 4;
 
 /// Shapes with the answers that they gave. In contracts they are the shapes themselves.
 ///
 /// Threads share them by reference: an answer is kept in a slot that is written once, and read without a lock. There is room
-/// for a fixed number of answers; once it is used up, no further ones are kept. One is made for each line: it takes little
-/// memory until something is remembered.
+/// for a fixed number of answers; once it is used up, no further ones are kept (`is_full`). Lines may share one, or each have its
+/// own: it takes little memory until something is remembered.
 #[derive(Drop)]
 pub struct RememberedShapes<'a, S: Marked> {
     shapes: &'a S,
@@ -107,12 +111,29 @@ impl<'a, S: Marked> RememberedShapes<'a, S> {
     pub fn new(alloc: Global, shapes: &'a S) -> Result<RememberedShapes<'a, S>, NoMemory>
         ensures { IfOk result (λ s. s ≡ shapes.now) }
     {
-        let memo = Memo::new(alloc, shapes)?;
+        RememberedShapes::with_room(alloc, shapes, MOST_WORDS)
+    }
+
+    /// These shapes, of which nothing is remembered yet, with room for so many words of what will be: a mother weighs as many as it
+    /// has nodes, and each answer 16 besides.
+    pub fn with_room(
+        alloc: Global,
+        shapes: &'a S,
+        words: u64,
+    ) -> Result<RememberedShapes<'a, S>, NoMemory>
+        ensures { IfOk result (λ s. s ≡ shapes.now) }
+    {
+        let memo = Memo::new(alloc, shapes, words)?;
         Ok(RememberedShapes {
             shapes,
             memo,
             in_vain: AtomicU64::new(0),
         })
+    }
+
+    /// Whether nothing further is remembered, since the room is used up.
+    pub fn is_full(&self) -> bool {
+        self.memo.is_full()
     }
 
     /// The shapes themselves, which remember nothing.
