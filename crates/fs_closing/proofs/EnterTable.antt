@@ -1,30 +1,28 @@
--- The arrays after a graph entered.
-use Rattle.std.proofs.Common.{ℕ, ◌≡◌, ◌≤◌, ◌<◌, ◌+◌, ◌-◌, ◌^◌, ◌⊎◌, inl, inr, List, [], ◌++◌, length, take, slice_index_or, refl, sym, ◌∙◌, ap, subst, arith, length-append}
-use Rattle.std.specs.List.{range_with_len}
-use Rattle.std.specs.Prelude.{replicate}
+-- The table after a graph entered.
+use Rattle.std.proofs.Common.{ℕ, ◌≡◌, ◌≤◌, ◌<◌, ◌+◌, ◌-◌, ◌^◌, ◌⊎◌, inl, inr, Option, None, List, [], ◌++◌, length, slice_index_or, refl, sym, ◌∙◌, ap, subst, arith, length-append}
 use Rattle.std.proofs.lemmas.Bool.{cases_lt}
 use Rattle.std.proofs.Math.ListN.{get_or-append}
-use Rattle.std.proofs.lemmas.List.{get_or-append_right, take_all, get_or-map, length-map, length-replicate, get_or-replicate, get_or_past}
-use Rattle.std.proofs.lemmas.List.FromFn.{length-range_with_len, get_or-range_with_len}
+use Rattle.std.proofs.lemmas.List.{get_or-append_right, get_or-map, length-map, get_or_past}
 use Rattle.fs_model.specs.Claims.{Has}
 use Rattle.fs_graph.specs.declared.graph.GraphArc.{GraphArc}
-use Rattle.fs_graph.specs.GraphMap.{GraphMap, IsGraph, arcs_at}
+use Rattle.fs_graph.specs.GraphMap.{GraphMap, IsGraph, arcs_at, type_at}
+use Rattle.fs_closing.specs.declared.marks.Written.{Written}
 use Rattle.fs_closing.specs.declared.nodes.Cell.{Cell}
-use Rattle.fs_closing.specs.declared.own_rows.OwnRows.{OwnRows}
 use Rattle.fs_closing.specs.Cells.{find_arc, AreOnce}
-use Rattle.fs_closing.specs.OwnRows.{cells_from, graph_rows, own_of, AreOwn}
-use Rattle.fs_closing.specs.NodeTable.{row_of, table_from, AreWhole, AreWithin}
+use Rattle.fs_closing.specs.Marked.{next_by, type_by, first_by}
+use Rattle.fs_closing.specs.OwnRows.{cells_from, graph_rows}
+use Rattle.fs_closing.specs.NodeTable.{table_from, AreWhole, AreWithin}
 use Rattle.fs_closing.specs.NodeSteps.{EntersTable, IsGraphIn}
 use Rattle.fs_closing.proofs.HasLemmas.{Has-of_map}
 use Rattle.fs_closing.proofs.OwnLemmas.{find_from, once_from, rises_found}
-use Rattle.fs_closing.proofs.NodeLemmas.{added_old, added_new, live_old, live_new, type_old, type_new, whole_more, within_more}
+use Rattle.fs_closing.proofs.WiderLemmas.{row_wider_old, row_wider_new, live_wider, live_wider_new, whole_wider}
 
 module _ (g : GraphMap) (graph : IsGraph g) (base : ℕ) where
   row_at : (k : ℕ) → k < length g.types → slice_index_or (graph_rows base g) k [] ≡ cells_from base (arcs_at g k)
   row_at k h = get_or-map (cells_from base) g.arcs k [] [] (omega (arith, graph.even))
 
-  rows_size : length (graph_rows base g) ≡ length g.types
-  rows_size = length-map g.arcs (cells_from base) ∙ graph.even
+  pub length_rows : length (graph_rows base g) ≡ length g.types
+  length_rows = length-map g.arcs (cells_from base) ∙ graph.even
 
   once_at : (k : ℕ) → k < length g.types → AreOnce (slice_index_or (graph_rows base g) k [])
   once_at k h = subst AreOnce (sym (row_at k h)) (once_from base (arcs_at g k) (graph.rises k h))
@@ -40,7 +38,7 @@ module _ (g : GraphMap) (graph : IsGraph g) (base : ℕ) where
           let r = Has-of_map (λ (a : GraphArc). record { feat = a.feat.0; to = base + a.to.0; next = 0 }) c (arcs_at g k) (subst (Has c) (row_at k i) h) in
           (i, r.0, r.1, ap (λ x. x.feat) r.2, ap (λ x. x.to) r.2)
       go (inr i) =
-          absurd (elim (subst (Has c) (get_or_past (graph_rows base g) k [] (omega (arith, rows_size))) h) [ ])
+          absurd (elim (subst (Has c) (get_or_past (graph_rows base g) k [] (omega (arith, length_rows))) h) [ ])
 
   to_at : (k : ℕ) (c : Cell) → Has c (slice_index_or (graph_rows base g) k []) → c.to < base + length g.types
   to_at k c h =
@@ -49,87 +47,103 @@ module _ (g : GraphMap) (graph : IsGraph g) (base : ℕ) where
       let inside = graph.numbered.table.arc_in k r.1.feat.0 r.1.to.0 r.0 found in
       omega (arith, r.4)
 
--- numbers from the end on, and zeros
-pub numbers_at : (n m k d : ℕ) → k < m → slice_index_or (range_with_len n m) k d ≡ n + k
-numbers_at n m k d h = get_or-range_with_len n m k d h
+-- The rows and the types of a graph's nodes are added at the end. What is written at nodes stays as it was.
+module _ (at at' : ℕ → Option Written) (cells : List Cell) (merges size : ℕ) (types : List ℕ) (rows : List (List Cell)) (g : GraphMap) (graph : IsGraph g)
+    (whole : AreWhole at (λ n. slice_index_or rows n []) cells merges size) (rows_size : length rows ≡ size) (types_size : length types ≡ size)
+    (same : (k : ℕ) → at' k ≡ at k) (room : size + length g.types < 2 ^ 32) where
+  abbrev own : ℕ → List Cell
+  own n = slice_index_or rows n []
 
-pub zeros_at : (m k : ℕ) → k < m → ◌≡◌ {A = ℕ} (slice_index_or (replicate m 0) k 0) 0
-zeros_at m k h = get_or-replicate {A = ℕ} m k 0 0 h
+  abbrev own' : ℕ → List Cell
+  own' n = slice_index_or (rows ++ graph_rows size g) n []
 
-module _ (types fs ds firsts : List ℕ) (cells : List Cell) (own : OwnRows) (whole : AreWhole types fs ds firsts cells own) (g : GraphMap) (graph : IsGraph g)
-    (own' : OwnRows) (is : own_of own' ≡ own_of own ++ graph_rows (length types) g) where
-  abbrev fs' : List ℕ
-  fs' = range_with_len (length fs) (length g.types)
+  abbrev own_type : ℕ → ℕ
+  own_type n = slice_index_or types n 0
 
-  abbrev zeros : List ℕ
-  zeros = replicate (length g.types) 0
+  abbrev own_type' : ℕ → ℕ
+  own_type' n = slice_index_or (types ++ g.types) n 0
 
-  rows_even : length (graph_rows (length types) g) ≡ length g.types
-  rows_even = rows_size g graph (length types)
+  own_old : (k : ℕ) → k < size → own' k ≡ own k
+  own_old k h = get_or-append rows (graph_rows size g) [] k (omega (arith, rows_size))
 
-  are : (k d : ℕ) → k < length g.types → slice_index_or fs' k d ≡ length fs + k
-  are k d h = numbers_at (length fs) (length g.types) k d h
+  own_right : (k : ℕ) → size ≤ k → own' k ≡ slice_index_or (graph_rows size g) (k - size) []
+  own_right k h = get_or-append_right rows (graph_rows size g) size k [] rows_size h
 
-  none : (k : ℕ) → k < length g.types → ◌≡◌ {A = ℕ} (slice_index_or zeros k 0) 0
-  none k h = zeros_at (length g.types) k h
+  own_new : (k : ℕ) → k < length g.types → own' (size + k) ≡ cells_from size (arcs_at g k)
+  own_new k h =
+      own_right (size + k) (omega arith)
+      ∙ ap (λ i. slice_index_or (graph_rows size g) i []) (let d : size + k - size ≡ k = omega arith in d)
+      ∙ row_at g graph size k h
 
-  fs_even : length fs' ≡ length g.types
-  fs_even = length-range_with_len (length fs) (length g.types)
+  type_new : (k : ℕ) → k < length g.types → own_type' (size + k) ≡ type_at g k
+  type_new k h =
+      get_or-append_right types g.types size (size + k) 0 types_size (omega arith)
+      ∙ ap (λ i. slice_index_or g.types i 0) (let d : size + k - size ≡ k = omega arith in d)
 
-  zeros_even : length zeros ≡ length g.types
-  zeros_even = length-replicate {A = ℕ} (length g.types) 0
+  next_same : (k : ℕ) → next_by k (at' k) ≡ next_by k (at k)
+  next_same k = ap (next_by k) (same k)
 
-  pub table_entered : EntersTable g (table_from types fs firsts cells (own_of own))
-      (table_from (types ++ g.types) (fs ++ fs') (firsts ++ zeros) cells (own_of own'))
+  first_same : (k : ℕ) → first_by (at' k) ≡ first_by (at k)
+  first_same k = ap first_by (same k)
+
+  is_none : (k : ℕ) → size ≤ k → at' k ≡ None
+  is_none k h = same k ∙ whole.unwritten k h
+
+  pub table_entered : EntersTable g (table_from at own_type own cells merges size) (table_from at' own_type' own' cells merges (size + length g.types))
   table_entered = record {
-    size_is = length-append types g.types;
-    live_old = live_old types fs ds firsts cells own whole g.types fs' zeros zeros (graph_rows (length types) g) fs_even zeros_even zeros_even rows_even are none;
-    live_new = live_new types fs ds firsts cells own whole g.types fs' zeros zeros (graph_rows (length types) g) fs_even zeros_even zeros_even rows_even are none;
-    arc_old = λ k f h.
-        ap (λ r. find_arc (row_of (firsts ++ zeros) cells r k) f) is
-        ∙ ap (λ r. find_arc r f)
-        (added_old types fs ds firsts cells own whole g.types fs' zeros zeros (graph_rows (length types) g) fs_even zeros_even zeros_even rows_even are none k h);
+    size_is = refl;
+    live_old = λ k h. live_wider at at' own own' cells merges size whole next_same first_same own_old k;
+    live_new = live_wider_new at at' own own' cells merges size whole next_same first_same own_old;
+    arc_old = λ k f h. ap (λ r. find_arc r f) (row_wider_old at at' own own' cells merges size whole next_same first_same own_old k h);
     arc_new = λ k f h.
-        ap (λ r. find_arc (row_of (firsts ++ zeros) cells r (length types + k)) f) is
-        ∙ ap (λ r. find_arc r f)
-        (added_new types fs ds firsts cells own whole g.types fs' zeros zeros (graph_rows (length types) g) fs_even zeros_even zeros_even rows_even are none k h
-        ∙ row_at g graph (length types) k h)
-        ∙ find_from (length types) (arcs_at g k) f;
-    type_old = type_old types fs ds firsts cells own whole g.types fs' zeros zeros (graph_rows (length types) g) fs_even zeros_even zeros_even rows_even are none;
-    type_new = type_new types fs ds firsts cells own whole g.types fs' zeros zeros (graph_rows (length types) g) fs_even zeros_even zeros_even rows_even are none;
+        ap (λ r. find_arc r f) (row_wider_new at at' own own' cells merges size whole next_same first_same own_old (size + k) (omega arith) ∙ own_new k h)
+        ∙ find_from size (arcs_at g k) f;
+    type_old = λ k h. ap (type_by (own_type' k)) (same k) ∙ ap (λ t. type_by t (at k)) (get_or-append types g.types 0 k (omega (arith, types_size)));
+    type_new = λ k h. ap (type_by (own_type' (size + k))) (is_none (size + k) (omega arith)) ∙ type_new k h;
   }
 
-  pub whole_entered : length own'.bases.items ≡ length own.bases.items + length g.types → AreOwn own' → length types + length g.types < 2 ^ 32 →
-      AreWhole (types ++ g.types) (fs ++ fs') (ds ++ zeros) (firsts ++ zeros) cells own'
-  whole_entered size ok room =
-      whole_more types fs ds firsts cells own whole g.types fs' zeros zeros (graph_rows (length types) g) fs_even zeros_even zeros_even rows_even are none own' is size ok room
-      (once_at g graph (length types)) (to_at g graph (length types))
+  -- an own arc is an old one or one of the graph
+  own_case : (n : ℕ) (c : Cell) → Has c (own' n) → Has c (own n) ⊎ Has c (slice_index_or (graph_rows size g) (n - size) [])
+  own_case n c h = go (cases_lt n size)
+    where
+      go : (n < size) ⊎ (size ≤ n) → Has c (own n) ⊎ Has c (slice_index_or (graph_rows size g) (n - size) [])
+      go (inl a) = inl (subst (Has c) (own_old n a) h)
+      go (inr a) = inr (subst (Has c) (own_right n a) h)
 
-  pub within_entered : (a b : ℕ) → IsGraphIn a b g → AreWithin a b types cells (own_of own) → AreWithin a b (types ++ g.types) cells (own_of own')
-  within_entered a b inside old =
-      subst (AreWithin a b (types ++ g.types) cells) (sym is)
-      (within_more types fs ds firsts cells own whole g.types fs' zeros zeros (graph_rows (length types) g) fs_even zeros_even zeros_even rows_even are none
-      a b (λ k h. inside.types_in k 0 h)
-      (λ k c h. let r = cell_of g graph (length types) k c h in let low = inside.feats_in k r.1 r.0 r.2 in omega (arith, r.3)) old)
+  pub whole_entered : AreWhole at' own' cells merges (size + length g.types)
+  whole_entered =
+      whole_wider at at' own own' cells merges size whole next_same first_same own_old (size + length g.types) (omega arith) room once_new own_in own_none
+      (λ k h. is_none k (omega arith))
+    where
+      once_new : (k : ℕ) → size ≤ k → k < size + length g.types → AreOnce (own' k)
+      once_new k low high = subst AreOnce (sym (own_right k low)) (once_at g graph size (k - size) (omega arith))
 
--- depths of 0 after others
-pub flat_more : (ds : List ℕ) (m k : ℕ) → ◌≡◌ {A = ℕ} (slice_index_or (ds ++ replicate m 0) k 0) (slice_index_or ds k 0)
-flat_more ds m k = go (cases_lt k (length ds))
-  where
-    past : (k - length ds < m) ⊎ (m ≤ k - length ds) → ◌≡◌ {A = ℕ} (slice_index_or (replicate m 0) (k - length ds) 0) 0
-    past (inl h) = zeros_at m (k - length ds) h
-    past (inr h) = get_or_past (replicate m 0) (k - length ds) 0 (omega (arith, length-replicate {A = ℕ} m 0))
+      own_in : (n : ℕ) (c : Cell) → Has c (own' n) → c.to < size + length g.types
+      own_in n c h = go (own_case n c h)
+        where
+          go : Has c (own n) ⊎ Has c (slice_index_or (graph_rows size g) (n - size) []) → c.to < size + length g.types
+          go (inl i) = omega (arith, whole.own_in n c i)
+          go (inr i) = to_at g graph size (n - size) c i
 
-    go : (k < length ds) ⊎ (length ds ≤ k) → ◌≡◌ {A = ℕ} (slice_index_or (ds ++ replicate m 0) k 0) (slice_index_or ds k 0)
-    go (inl h) = get_or-append ds (replicate m 0) 0 k h
-    go (inr h) =
-        get_or-append_right ds (replicate m 0) (length ds) k 0 refl h ∙ past (cases_lt (k - length ds) m) ∙ sym (get_or_past ds k 0 h)
+      own_none : (n : ℕ) → size + length g.types ≤ n → own' n ≡ []
+      own_none n h = get_or_past (rows ++ graph_rows size g) n [] (omega (arith, rows_size, length-append rows (graph_rows size g), length_rows g graph size))
 
--- what calls of the code add
-pub resized : (xs ys : List ℕ) (n l m : ℕ) → ys ≡ take n xs ++ replicate (n - l) 0 → l ≡ length xs → n ≡ length xs + m → ys ≡ xs ++ replicate m 0
-resized xs ys n l m is len size =
-    is ∙ ap (λ z. z ++ replicate (n - l) 0) (take_all n xs (omega arith)) ∙ ap (λ k. xs ++ replicate k 0) (let e : n - l ≡ m = omega arith in e)
+  pub within_entered : (a b : ℕ) → IsGraphIn a b g → AreWithin a b (λ k. type_by (own_type k) (at k)) own cells size →
+      AreWithin a b (λ k. type_by (own_type' k) (at' k)) own' cells (size + length g.types)
+  within_entered a b inside old = record {
+    type_in = λ k h. type_in k h (cases_lt k size);
+    feat_in = old.feat_in;
+    own_feat = λ n c h. own_feat n c (own_case n c h);
+  }
+    where
+      type_in : (k : ℕ) → k < size + length g.types → (k < size) ⊎ (size ≤ k) → type_by (own_type' k) (at' k) < a
+      type_in k h (inl i) = subst (λ x. x < a) (sym (table_entered.type_old k i)) (old.type_in k i)
+      type_in k h (inr i) =
+          let e : size + (k - size) ≡ k = omega arith in
+          subst (λ j. type_by (own_type' j) (at' j) < a) e
+          (subst (λ x. x < a) (sym (table_entered.type_new (k - size) (omega arith))) (inside.types_in (k - size) 0 (omega arith)))
 
-pub numbered : (fs ys : List ℕ) (a e m : ℕ) → ys ≡ fs ++ range_with_len a (e - a) → a ≡ length fs → e ≡ a + m → ys ≡ fs ++ range_with_len (length fs) m
-numbered fs ys a e m is a_is e_is =
-    is ∙ ap (λ k. fs ++ range_with_len a k) (let d : e - a ≡ m = omega arith in d) ∙ ap (λ k. fs ++ range_with_len k m) a_is
+      own_feat : (n : ℕ) (c : Cell) → Has c (own n) ⊎ Has c (slice_index_or (graph_rows size g) (n - size) []) → c.feat < b
+      own_feat n c (inl h) = old.own_feat n c h
+      own_feat n c (inr h) =
+          let r = cell_of g graph size (n - size) c h in let low = inside.feats_in (n - size) r.1 r.0 r.2 in omega (arith, r.3, low)

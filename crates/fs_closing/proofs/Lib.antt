@@ -1,8 +1,10 @@
-pub mod ChaseLemmas
-pub mod ChaseSet
+pub mod ListLemmas
+pub mod GenerationLemmas
+pub mod ForwardLemmas
 pub mod ChainLemmas
 pub mod OwnLemmas
-pub mod NodeLemmas
+pub mod MarkLemmas
+pub mod WiderLemmas
 pub mod EnterTable
 pub mod HasLemmas
 pub mod WorkLemmas

@@ -1,9 +1,7 @@
 -- What the steps of the code do.
 use Rattle.std.proofs.Common.{ℕ, zero, suc, ◌≡◌, ◌≤◌, ◌<◌, ◌+◌, ◌==◌, ◌⊎◌, inl, inr, Bool, true, false, Some, None, List, [], ◌∷◌, ◌++◌, length, map, drop, slice_index_or, refl, sym, ◌∙◌, ap, subst, arith, eq-eqb}
-use Rattle.std.proofs.Math.ListN.{set, get_or-append}
-use Rattle.std.proofs.Math.Seq.{get_or-append_seam}
 use Rattle.std.proofs.lemmas.Bool.{eqb-true}
-use Rattle.std.proofs.lemmas.List.{get_or-set_same, get_or-set_other, length-set, length-map, get_or-map, drop_all}
+use Rattle.std.proofs.lemmas.List.{length-map, get_or-map, drop_all}
 use Rattle.std.proofs.Math.Seq.{drop-cons}
 use Rattle.std.specs.Prelude.{All}
 use Rattle.fs_paths.specs.declared.facts.Feat.{Feat}
@@ -11,16 +9,16 @@ use Rattle.fs_paths.specs.Facts.{path_of}
 use Rattle.fs_closing.specs.declared.nodes.Nodes.{Nodes}
 use Rattle.fs_model.specs.Claims.{Path, Claim, System, IsBare, Has, here}
 use Rattle.fs_model.specs.Sources.{Told}
-use Rattle.fs_model.specs.Table.{NodeClaim, is_there, is_same, is_under, from, by_node, by_merge, by_type, Follows, stated, same_back, under_same, under_higher}
+use Rattle.fs_model.specs.Table.{Table, NodeClaim, is_there, is_same, is_under, from, by_node, by_merge, by_type, Follows, stated, same_back, under_same, under_higher}
 use Rattle.fs_model.specs.Steps.{Grows, Links, Lowers}
 use Rattle.fs_model.proofs.StepLemmas.{Closes-drop}
 use Rattle.fs_model.proofs.Ends.{clash}
 use Rattle.type_hierarchy.specs.Table.{is_below}
 use Rattle.fs_closing.specs.declared.nodes.Cell.{Cell}
 use Rattle.fs_closing.specs.declared.tasks.Entry.{Entry}
-use Rattle.fs_closing.specs.NodeTable.{table_from}
 use Rattle.fs_closing.specs.Joined.{IsJoined}
-use Rattle.fs_closing.specs.NodeSteps.{KeepsArcs}
+use Rattle.fs_closing.specs.NodeSteps.{KeepsArcs, Retypes, AddsDepth}
+use Rattle.fs_closing.specs.NodeTable.{depth_of}
 use Rattle.fs_closing.specs.Rules.{Rule, Grammar, no_rule, facts_in, rules_with_facts, rules_above, system_of, HaveSame}
 use Rattle.fs_closing.specs.declared.tasks.Tasks.{Tasks}
 use Rattle.fs_closing.specs.Work.{entry_claims, work_of}
@@ -266,25 +264,24 @@ takes_all g node ty old other work work' all = record {
         let r = Has-of_filter (λ j. is_below g.types ty (slice_index_or g.rules j no_rule).ty) (rules_with_facts g.rules) j a in
         inl ((slice_index_or g.rules j no_rule).ty, d, r.1, rule_of_fact g.rules j d (rule_in g.rules j r.0) b, e)
 
--- a type is written
-pub table_lowered : (s : System) (types fs ds firsts : List ℕ) (cells : List Cell) (own : List (List Cell)) (n u v : ℕ) (work work' extra : List NodeClaim) → n < length types →
-    s.meet (slice_index_or types n 0) u ≡ Some v → PushesFacts s n v (slice_index_or types n 0) (slice_index_or types n 0) work work' →
-    Lowers s (table_from types fs firsts cells own) (table_from (set types n v) fs firsts cells own) (work ++ extra) (work' ++ extra) n u v
-table_lowered s types fs ds firsts cells own n u v work work' extra h meet pushed = record {
-  size_is = length-set types n v;
-  live_is = λ k. refl;
-  arc_is = λ k g i. refl;
-  type_here = get_or-set_same types n v 0 h;
+-- a type is written, and the facts that it brings are put to work
+pub lowers_by : (s : System) (t t' : Table) (n u v : ℕ) (work work' extra : List NodeClaim) → Retypes t t' n v → s.meet (t.type_of n) u ≡ Some v →
+    PushesFacts s n v (t.type_of n) (t.type_of n) work work' → Lowers s t t' (work ++ extra) (work' ++ extra) n u v
+lowers_by s t t' n u v work work' extra retyped meet pushed = record {
+  size_is = retyped.size_is;
+  live_is = retyped.live_is;
+  arc_is = λ k g i. retyped.arc_is k g;
+  type_here = retyped.type_here;
   meet_is = meet;
-  type_other = λ k i e. get_or-set_other types n k v 0 e;
+  type_other = λ k i e. retyped.type_other k e;
   work_facts = λ x c below has. facts x c (pushed.facts x c below has);
   work_rest = λ c i. rest c (Has-either c work extra i);
   work_only = λ c i. only c (Has-either c work' extra i);
 }
   where
     facts : (x : ℕ) (c : Claim) →
-        (s.is_below (slice_index_or types n 0) x ≡ true) ⊎ ((s.is_below (slice_index_or types n 0) x ≡ true) ⊎ Has (from n c) work') →
-        (s.is_below (slice_index_or types n 0) x ≡ true) ⊎ Has (from n c) (work' ++ extra)
+        (s.is_below (t.type_of n) x ≡ true) ⊎ ((s.is_below (t.type_of n) x ≡ true) ⊎ Has (from n c) work') →
+        (s.is_below (t.type_of n) x ≡ true) ⊎ Has (from n c) (work' ++ extra)
     facts x c (inl a) = inl a
     facts x c (inr (inl a)) = inl a
     facts x c (inr (inr a)) = inr (Has-left _ work' extra a)
@@ -304,11 +301,11 @@ table_lowered s types fs ds firsts cells own n u v work work' extra h meet pushe
         go (inr x) = inr (Has-left c work extra x)
 
 -- the depths with one more
-pub depth_pushed : (ds ds' : List ℕ) (size d : ℕ) → ds' ≡ ds ++ d ∷ [] → length ds ≡ size →
-    ((k : ℕ) → k < size → slice_index_or ds' k 0 ≡ slice_index_or ds k 0) × ((m : ℕ) → m ≡ size → slice_index_or ds' m 0 ≡ d)
-depth_pushed ds ds' size d is even = (
-  (λ k h. ap (λ l. slice_index_or l k 0) is ∙ get_or-append ds (d ∷ []) 0 k (omega arith)),
-  (λ m e. ap (λ l. slice_index_or l m 0) is ∙ ap (λ i. slice_index_or (ds ++ d ∷ []) i 0) (e ∙ sym even) ∙ get_or-append_seam ds d [] 0),
+pub depth_added : (nodes nodes' : Nodes) (d : ℕ) → AddsDepth d nodes nodes' →
+    ((k : ℕ) → k < nodes.size → depth_of nodes' k ≡ depth_of nodes k) × ((m : ℕ) → m ≡ nodes.size → depth_of nodes' m ≡ d)
+depth_added nodes nodes' d adds = (
+  (λ k h. adds.others k (λ e. omega (arith, e, h))),
+  (λ m e. ap (depth_of nodes') e ∙ adds.here),
 )
 
 -- what a call that pushes a rule says, of work
@@ -390,14 +387,14 @@ steps_after g nodes nodes1 nodes2 a b tasks false one two = Refutes-after (syste
 pub keeps_after : (a b d : Nodes) → KeepsArcs a b → KeepsArcs b d → KeepsArcs a d
 keeps_after a b d one two = record {
   size = two.size ∙ one.size;
-  forwards = two.forwards ∙ one.forwards;
-  own = two.own ∙ one.own;
+  live = λ k. two.live k ∙ one.live k;
+  own = λ k. two.own k ∙ one.own k;
   more = omega (arith, one.more, two.more);
   chains = λ place h. two.chains place (omega (arith, h, one.more)) ∙ one.chains place h;
 }
 
 pub keeps_none : (a : Nodes) → KeepsArcs a a
-keeps_none a = record { size = refl; forwards = refl; own = refl; more = omega arith; chains = λ place h. refl }
+keeps_none a = record { size = refl; live = λ k. refl; own = λ k. refl; more = omega arith; chains = λ place h. refl }
 
 pub claims_append : (n : ℕ) (xs ys : List Cell) → arc_claims n (xs ++ ys) ≡ arc_claims n xs ++ arc_claims n ys
 claims_append n [] ys = refl

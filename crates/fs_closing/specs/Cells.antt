@@ -1,19 +1,7 @@
--- Lists of forwards and of arcs as they stand for nodes.
-use Rattle.std.specs.Prelude.{ℕ, zero, suc, ◌≡◌, ◌≤◌, ◌<◌, ◌+◌, ◌==◌, true, false, Option, None, List, [], ◌∷◌, length, slice_index_or, find, reverse}
+-- Lists of arcs as they stand for nodes.
+use Rattle.std.specs.Prelude.{ℕ, ◌≡◌, ◌≤◌, ◌<◌, ◌+◌, ◌==◌, true, false, Option, None, List, [], ◌∷◌, length, slice_index_or, find, reverse}
 use Rattle.std.specs.Option.{option_map}
 use Rattle.fs_closing.specs.declared.nodes.Cell.{Cell}
-
--- follow the forwards, which fall, so `n` of them are enough from n
-abbrev pub chase : List ℕ → ℕ → ℕ → ℕ
-chase forwards zero n = n
-chase forwards (suc k) n =
-    elim (slice_index_or forwards n n == n) [ true ↦ n | false ↦ chase forwards k (slice_index_or forwards n n) ]
-
-abbrev pub live_of : List ℕ → ℕ → ℕ
-live_of forwards n = chase forwards n n
-
-abbrev pub Falls : List ℕ → Type 0
-Falls forwards = (k : ℕ) → slice_index_or forwards k k ≤ k
 
 -- the cells from a place on, where the last cell comes first
 abbrev pub chain_back : List Cell → ℕ → List Cell

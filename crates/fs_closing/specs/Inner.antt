@@ -1,4 +1,5 @@
 -- What the code keeps.
+pub mod Generations
 pub mod Outlines
 pub mod RuleRows
 pub mod Told

@@ -1,5 +1,5 @@
 -- What a step keeps: where nodes and work stand for given claims, the new ones do.
-use Rattle.std.specs.Prelude.{ℕ, ◌≡◌, ◌<◌, ◌≤◌, ◌⊎◌, Bool, true, false, Option, Some, None, List, [], ◌∷◌, ◌++◌, length, map, slice_index_or}
+use Rattle.std.specs.Prelude.{ℕ, ◌≡◌, ◌<◌, ◌≤◌, ◌⊎◌, Bool, true, false, Option, Some, None, List, [], ◌∷◌, ◌++◌, length, map}
 use Rattle.fs_model.specs.Claims.{Path, Claim, System, Has}
 use Rattle.fs_model.specs.Closure.{IsConsistent}
 use Rattle.fs_model.specs.Sources.{Source, Told}
@@ -13,7 +13,7 @@ use Rattle.fs_closing.specs.Rules.{Grammar, system_of}
 use Rattle.fs_closing.specs.declared.closing.Progress.{Progress}
 use Rattle.fs_closing.specs.declared.closing.Progress.TheVariants.{Stepped, Clashed, Ended}
 use Rattle.fs_closing.specs.Work.{AreReady, work_of}
-use Rattle.fs_closing.specs.NodeTable.{table_of, IsWhole, IsWithin}
+use Rattle.fs_closing.specs.NodeTable.{table_of, depth_of, IsWhole, IsWithin}
 
 -- a table, and for each node a number of features that some path to it has at least
 pub record Deep : Type 0 where
@@ -21,7 +21,7 @@ pub record Deep : Type 0 where
   pub depth : ℕ → ℕ
 
 abbrev pub deep_of : Nodes → Deep
-deep_of nodes = record { table = table_of nodes; depth = λ n. slice_index_or nodes.depths.items n 0 }
+deep_of nodes = record { table = table_of nodes; depth = λ n. depth_of nodes n }
 
 -- the table with its work stands between the given claims and their closure, by paths that are as long as their depths
 pub record Stands (s : System) (given : Claim → Type 0) (x : Deep) (work : List NodeClaim) (w : ℕ → Path) : Type 0 where
@@ -54,7 +54,7 @@ begin n p (is_under m q u) = is_under n p u
 pub record AreSound (g : Grammar) (nodes : Nodes) (tasks : Tasks) : Type 0 where
   pub whole : IsWhole nodes
   pub within : IsWithin (count_of g.types) (length g.introducers) nodes
-  pub ready : AreReady (length nodes.types.items) (count_of g.types) (length g.rules) tasks
+  pub ready : AreReady nodes.size (count_of g.types) (length g.rules) tasks
 
 -- nodes with work lead to nodes with other work
 abbrev pub Leads : Grammar → Nodes → List NodeClaim → Nodes → List NodeClaim → Type 0
@@ -90,7 +90,7 @@ abbrev pub Reaches : Grammar → Nodes → Tasks → ℕ → Path → Nodes → 
 Reaches g nodes tasks n p nodes' tasks' None = (c : NodeClaim) → Clashes g nodes (begin n p c ∷ work_of g.rules tasks)
 Reaches g nodes tasks n p nodes' tasks' (Some m) =
     ((c : NodeClaim) → Leads g nodes (begin n p c ∷ work_of g.rules tasks) nodes' (begin m [] c ∷ work_of g.rules tasks'))
-    × AreSound g nodes' tasks' × (m < length nodes'.types.items) × (length nodes.types.items ≤ length nodes'.types.items)
+    × AreSound g nodes' tasks' × (m < nodes'.size) × (nodes.size ≤ nodes'.size)
 
 -- a closing that goes on, one that met a clash, and one that has no work left
 abbrev pub Progresses : Grammar → Nodes → Tasks → Nodes → Tasks → Progress → Type 0

@@ -1,4 +1,5 @@
 pub mod Cells
+pub mod Marked
 pub mod OwnRows
 pub mod NodeTable
 pub mod NodeSteps

@@ -6,6 +6,7 @@ use Rattle.fs_graph.specs.GraphMap.{GraphMap, type_at, arc_to, arcs_at}
 use Rattle.fs_model.specs.Table.{Table}
 use Rattle.fs_closing.specs.declared.nodes.Nodes.{Nodes}
 use Rattle.fs_closing.specs.Cells.{chain}
+use Rattle.fs_closing.specs.NodeTable.{table_of, own_row, depth_of}
 
 -- a node without arcs is added
 pub record AddsNode (ty : ℕ) (t t' : Table) : Type 0 where
@@ -17,22 +18,31 @@ pub record AddsNode (ty : ℕ) (t t' : Table) : Type 0 where
   pub type_old : (k : ℕ) → k < t.size → t'.type_of k ≡ t.type_of k
   pub type_new : t'.type_of t.size ≡ ty
 
--- nothing but arcs is added
-pub record AddsArcs (nodes nodes' : Nodes) : Type 0 where
-  pub types : nodes'.types.items ≡ nodes.types.items
-  pub forwards : nodes'.forwards.items ≡ nodes.forwards.items
-  pub depths : nodes'.depths.items ≡ nodes.depths.items
-  pub own : nodes'.own ≡ nodes.own
+-- nodes keep what they were merged into and the cells of their arcs; types may be lowered and arcs added
+pub record KeepsArcs (nodes nodes' : Nodes) : Type 0 where
+  pub size : nodes'.size ≡ nodes.size
+  pub live : (k : ℕ) → (table_of nodes').live k ≡ (table_of nodes).live k
+  pub own : (k : ℕ) → own_row nodes' k ≡ own_row nodes k
   pub more : length nodes.cells.items ≤ length nodes'.cells.items
   pub chains : (place : ℕ) → place ≤ length nodes.cells.items → chain nodes'.cells.items place ≡ chain nodes.cells.items place
 
--- nodes keep what they were merged into and the cells of their arcs; types may be lowered and arcs added
-pub record KeepsArcs (nodes nodes' : Nodes) : Type 0 where
-  pub size : length nodes'.types.items ≡ length nodes.types.items
-  pub forwards : nodes'.forwards.items ≡ nodes.forwards.items
-  pub own : nodes'.own ≡ nodes.own
-  pub more : length nodes.cells.items ≤ length nodes'.cells.items
-  pub chains : (place : ℕ) → place ≤ length nodes.cells.items → chain nodes'.cells.items place ≡ chain nodes.cells.items place
+-- nodes keep their depths too
+pub record KeepsDepths (nodes nodes' : Nodes) : Type 0 where
+  pub arcs : KeepsArcs nodes nodes'
+  pub depths : (k : ℕ) → depth_of nodes' k ≡ depth_of nodes k
+
+-- a node of a depth is added
+pub record AddsDepth (depth : ℕ) (nodes nodes' : Nodes) : Type 0 where
+  pub others : (k : ℕ) → k ≢ nodes.size → depth_of nodes' k ≡ depth_of nodes k
+  pub here : depth_of nodes' nodes.size ≡ depth
+
+-- a node gets a type
+pub record Retypes (t t' : Table) (n ty : ℕ) : Type 0 where
+  pub size_is : t'.size ≡ t.size
+  pub live_is : (k : ℕ) → t'.live k ≡ t.live k
+  pub arc_is : (k g : ℕ) → t'.arc k g ≡ t.arc k g
+  pub type_here : t'.type_of n ≡ ty
+  pub type_other : (k : ℕ) → k ≢ n → t'.type_of k ≡ t.type_of k
 
 -- a graph enters a table at its end
 pub record EntersTable (g : GraphMap) (t t' : Table) : Type 0 where

@@ -1,54 +1,84 @@
 -- Nodes as a table.
-use Rattle.std.specs.Prelude.{ℕ, ◌≡◌, ◌<◌, ◌≤◌, ◌^◌, length, List, [], ◌++◌, slice_index_or}
+use Rattle.std.specs.Prelude.{ℕ, ◌≡◌, ◌<◌, ◌≤◌, ◌^◌, Option, None, length, List, [], ◌++◌, slice_index_or}
 use Rattle.fs_model.specs.Claims.{Has}
 use Rattle.fs_model.specs.Table.{Table}
+use Rattle.fs_closing.specs.declared.marks.Written.{Written}
 use Rattle.fs_closing.specs.declared.nodes.Cell.{Cell}
 use Rattle.fs_closing.specs.declared.nodes.Nodes.{Nodes}
-use Rattle.fs_closing.specs.declared.own_rows.OwnRows.{OwnRows}
-use Rattle.fs_closing.specs.OwnRows.{own_of, AreOwn}
-use Rattle.fs_closing.specs.Cells.{live_of, chain, find_arc, Falls, PlacesFall, AreOnce}
+use Rattle.fs_closing.specs.OwnRows.{own_of, types_of, AreOwn}
+use Rattle.fs_closing.specs.Cells.{chain, find_arc, PlacesFall, AreOnce}
+use Rattle.fs_closing.specs.Marked.{written_at, next_by, type_by, first_by, depth_by, chase, Rises}
 
 -- the arcs of a node: those that were added, then those that it has from its graph
-abbrev pub row_of : List ℕ → List Cell → List (List Cell) → ℕ → List Cell
-row_of firsts cells own n = chain cells (slice_index_or firsts n 0) ++ slice_index_or own n []
+abbrev pub row_in : (ℕ → Option Written) → (ℕ → List Cell) → List Cell → ℕ → List Cell
+row_in at own cells n = chain cells (first_by (at n)) ++ own n
 
-abbrev pub table_from : List ℕ → List ℕ → List ℕ → List Cell → List (List Cell) → Table
-table_from types forwards firsts cells own =
+-- `at` has what is written at each node, `own` and `own_type` what a node has from its graph
+abbrev pub table_from : (ℕ → Option Written) → (ℕ → ℕ) → (ℕ → List Cell) → List Cell → ℕ → ℕ → Table
+table_from at own_type own cells merges size =
     record {
-      size = length types;
-      live = live_of forwards;
-      arc = λ n f. find_arc (row_of firsts cells own n) f;
-      type_of = λ n. slice_index_or types n 0;
+      size = size;
+      live = chase (λ n. next_by n (at n)) merges;
+      arc = λ n f. find_arc (row_in at own cells n) f;
+      type_of = λ n. type_by (own_type n) (at n);
     }
 
+abbrev pub at_of : Nodes → ℕ → Option Written
+at_of nodes n = written_at nodes.marks n
+
+abbrev pub own_type : Nodes → ℕ → ℕ
+own_type nodes n = slice_index_or (types_of nodes.own) n 0
+
+abbrev pub own_row : Nodes → ℕ → List Cell
+own_row nodes n = slice_index_or (own_of nodes.own) n []
+
+-- the place of a node's first added arc, and a number of features that some path to it has at least
+abbrev pub first_of : Nodes → ℕ → ℕ
+first_of nodes n = first_by (at_of nodes n)
+
+abbrev pub depth_of : Nodes → ℕ → ℕ
+depth_of nodes n = depth_by (at_of nodes n)
+
+abbrev pub row_of : Nodes → ℕ → List Cell
+row_of nodes n = row_in (at_of nodes) (own_row nodes) nodes.cells.items n
+
 abbrev pub table_of : Nodes → Table
-table_of nodes = table_from nodes.types.items nodes.forwards.items nodes.firsts.items nodes.cells.items (own_of nodes.own)
+table_of nodes = table_from (at_of nodes) (own_type nodes) (own_row nodes) nodes.cells.items nodes.merges nodes.size
 
--- what the arrays keep: one of each for each node; forwards and places that fall; no feature of a node comes twice,
--- and each arc leads to a node
-pub record AreWhole (types forwards depths firsts : List ℕ) (cells : List Cell) (own : OwnRows) : Type 0 where
-  pub forwards_even : length forwards ≡ length types
-  pub depths_even : length depths ≡ length types
-  pub firsts_even : length firsts ≡ length types
-  pub own_even : length own.bases.items ≡ length types
-  pub own_rows : AreOwn own
-  pub small : length types < 2 ^ 32
+-- What is kept: forwards that end, the root's at the root itself; places that fall; no feature of a node comes twice; and each
+-- arc leads to a node.
+pub record AreWhole (at : ℕ → Option Written) (own : ℕ → List Cell) (cells : List Cell) (merges size : ℕ) : Type 0 where
+  pub small : size < 2 ^ 32
   pub few : length cells < 2 ^ 32
-  pub falls : Falls forwards
+  pub unwritten : (n : ℕ) → size ≤ n → at n ≡ None
+  pub root : next_by 0 (at 0) ≡ 0
+  pub rises : Rises (λ n. next_by n (at n)) merges
+  pub forward_in : (n : ℕ) → n < size → next_by n (at n) < size
   pub places : PlacesFall cells
-  pub first_in : (n : ℕ) → n < length types → slice_index_or firsts n 0 ≤ length cells
-  pub once : (n : ℕ) → n < length types → AreOnce (row_of firsts cells (own_of own) n)
-  pub to_in : (c : Cell) → Has c cells → c.to < length types
-  pub own_in : (n : ℕ) (c : Cell) → Has c (slice_index_or (own_of own) n []) → c.to < length types
+  pub first_in : (n : ℕ) → n < size → first_by (at n) ≤ length cells
+  pub once : (n : ℕ) → n < size → AreOnce (row_in at own cells n)
+  pub to_in : (c : Cell) → Has c cells → c.to < size
+  pub own_in : (n : ℕ) (c : Cell) → Has c (own n) → c.to < size
+  pub own_none : (n : ℕ) → size ≤ n → own n ≡ []
 
-abbrev pub IsWhole : Nodes → Type 0
-IsWhole nodes = AreWhole nodes.types.items nodes.forwards.items nodes.depths.items nodes.firsts.items nodes.cells.items nodes.own
+-- the same of nodes, each of which has a place for what is written there, and its own row and type
+pub record IsWhole (nodes : Nodes) : Type 0 where
+  pub stands : AreWhole (at_of nodes) (own_row nodes) nodes.cells.items nodes.merges nodes.size
+  pub enough : nodes.size ≤ length nodes.marks
+  pub own_even : length nodes.own.bases.items ≡ nodes.size
+  pub types_even : length (types_of nodes.own) ≡ nodes.size
+  pub own_rows : AreOwn nodes.own
 
 -- no type and no feature out of range, where there are `type_count` types and `feat_count` features
-pub record AreWithin (type_count feat_count : ℕ) (types : List ℕ) (cells : List Cell) (own : List (List Cell)) : Type 0 where
-  pub type_in : (n : ℕ) → n < length types → slice_index_or types n 0 < type_count
+pub record AreWithin (type_count feat_count : ℕ) (type_of : ℕ → ℕ) (own : ℕ → List Cell) (cells : List Cell) (size : ℕ) : Type 0 where
+  pub type_in : (n : ℕ) → n < size → type_of n < type_count
   pub feat_in : (c : Cell) → Has c cells → c.feat < feat_count
-  pub own_feat : (n : ℕ) (c : Cell) → Has c (slice_index_or own n []) → c.feat < feat_count
+  pub own_feat : (n : ℕ) (c : Cell) → Has c (own n) → c.feat < feat_count
 
 abbrev pub IsWithin : ℕ → ℕ → Nodes → Type 0
-IsWithin type_count feat_count nodes = AreWithin type_count feat_count nodes.types.items nodes.cells.items (own_of nodes.own)
+IsWithin type_count feat_count nodes =
+    AreWithin type_count feat_count (table_of nodes).type_of (own_row nodes) nodes.cells.items nodes.size
+
+-- no path to a node needs a feature
+abbrev pub AreFlat : Nodes → Type 0
+AreFlat nodes = (n : ℕ) → depth_of nodes n ≡ 0

@@ -27,6 +27,10 @@ rows_from bases offsets froms ends arcs = map (own_row bases offsets froms ends 
 abbrev pub own_of : OwnRows → List (List Cell)
 own_of own = rows_from own.bases.items own.offsets.items own.froms.items own.ends.items own.arcs.items
 
+-- the types of all nodes
+abbrev pub types_of : OwnRows → List ℕ
+types_of own = map (λ t. t.0) own.types.items
+
 -- there is one of each for each node, and each row is inside the list of arcs
 pub record AreOwnRows (bases offsets froms ends : List ℕ) (arcs : ℕ) : Type 0 where
   pub offsets_even : length offsets ≡ length bases

@@ -1,12 +1,13 @@
 //! The closing of nodes: tasks are worked off until none is left or a clash is met.
 
-ghost use Rattle.std.specs.Prelude.{◌≡◌, ℕ, ◌+◌, ◌<◌, ◌≤◌, length, List, [], ◌∷◌, ◌++◌, All, IfOk, OnOk, Some, None, true, false};
+ghost use Rattle.std.specs.Prelude.{◌≡◌, ◌≢◌, ℕ, ◌+◌, ◌<◌, ◌≤◌, length, List, [], ◌∷◌, ◌++◌, All, IfOk, OnOk, Some, None, true, false};
 ghost use Rattle.type_hierarchy.specs.Table.{count_of};
 ghost use Rattle.fs_model.specs.Claims.{IsBare};
 ghost use Rattle.fs_model.specs.Table.{is_same, is_under, from};
 ghost use Rattle.fs_paths.specs.Facts.{path_of, claim_of};
 ghost use Rattle.fs_closing.specs.Rules.{system_of, IsClaimIn};
 ghost use Rattle.fs_closing.specs.Work.{work_of, pair_claim, entry_claims};
+ghost use Rattle.fs_closing.specs.NodeTable.{IsWhole};
 ghost use Rattle.fs_closing.specs.Keeps.{AreSound, StepsTo, Reaches, Progresses, Closed};
 
 use crate::fault::NoMemory;
@@ -35,7 +36,7 @@ pub fn reach(
 ) -> Result<Option<u32>, NoMemory>
     requires bare { IsBare (system_of system.now) }
     requires sound { AreSound system.now nodes.old tasks.old }
-    requires node { node < length nodes.old.types.items }
+    requires node { node < nodes.old.size }
     requires feats { All (λ f. f < length system.now.introducers) (path_of path.now) }
     ensures { IfOk result (Reaches system.now nodes.old tasks.old node (path_of path.now) nodes.new tasks.new) }
 {
@@ -49,6 +50,25 @@ pub fn reach(
     Ok(Some(at))
 }
 
+// Whether a node is to be merged into another one, rather than the other way round: the one with fewer arcs from its graph goes,
+// but never the root.
+fn is_barer(nodes: &Nodes, n: u32, than: u32) -> bool
+    requires whole { IsWhole nodes.now }
+    requires n_in { n < nodes.now.size }
+    requires than_in { than < nodes.now.size }
+    requires apart { n ≢ than }
+    ensures yes { result ≡ true → n ≢ 0 }
+    ensures no { result ≡ false → than ≢ 0 }
+{
+    if n == 0 {
+        return false;
+    }
+    if than == 0 {
+        return true;
+    }
+    nodes.own.count(n) <= nodes.own.count(than)
+}
+
 // Two nodes become one. The answer is false where their types have no common subtype, or another clash was met.
 fn step_pair(
     nodes: &mut Nodes,
@@ -57,21 +77,21 @@ fn step_pair(
     pair: Pair,
 ) -> Result<bool, NoMemory>
     requires sound { AreSound system.now nodes.old tasks.old }
-    requires node { pair.node < length nodes.old.types.items }
-    requires other { pair.other < length nodes.old.types.items }
+    requires node { pair.node < nodes.old.size }
+    requires other { pair.other < nodes.old.size }
     ensures { IfOk result (StepsTo system.now nodes.old (pair_claim pair ∷ work_of system.now.rules tasks.old) nodes.new tasks.new) }
 {
-    let a = live(&nodes.forwards, pair.node);
-    let b = live(&nodes.forwards, pair.other);
-    if a < b {
+    let a = live(nodes, pair.node);
+    let b = live(nodes, pair.other);
+    if a == b {
+        return Ok(true);
+    }
+    if is_barer(nodes, b, a) {
         let ok = merge(nodes, tasks, system, a, b)?;
         return Ok(ok);
     }
-    if b < a {
-        let ok = merge(nodes, tasks, system, b, a)?;
-        return Ok(ok);
-    }
-    Ok(true)
+    let ok = merge(nodes, tasks, system, b, a)?;
+    Ok(ok)
 }
 
 /// A fact is put at a node. The answer is false where a path gets too long, or another clash was met.
@@ -84,9 +104,9 @@ pub fn apply(
 ) -> Result<bool, NoMemory>
     requires bare { IsBare (system_of system.now) }
     requires sound { AreSound system.now nodes.old tasks.old }
-    requires node { node < length nodes.old.types.items }
+    requires node { node < nodes.old.size }
     requires fact { IsClaimIn (count_of system.now.types) (length system.now.introducers) (claim_of fact.now) }
-    ensures more { IfOk result (λ ok. ok ≡ true → length nodes.old.types.items ≤ length nodes.new.types.items) }
+    ensures more { IfOk result (λ ok. ok ≡ true → nodes.old.size ≤ nodes.new.size) }
     ensures steps { IfOk result (StepsTo system.now nodes.old (from node (claim_of fact.now) ∷ work_of system.now.rules tasks.old) nodes.new tasks.new) }
 {
     match fact {
@@ -119,10 +139,10 @@ fn apply_same(
 ) -> Result<bool, NoMemory>
     requires bare { IsBare (system_of system.now) }
     requires sound { AreSound system.now nodes.old tasks.old }
-    requires node { node < length nodes.old.types.items }
+    requires node { node < nodes.old.size }
     requires a_in { All (λ f. f < length system.now.introducers) (path_of a.now) }
     requires b_in { All (λ f. f < length system.now.introducers) (path_of b.now) }
-    ensures more { IfOk result (λ ok. ok ≡ true → length nodes.old.types.items ≤ length nodes.new.types.items) }
+    ensures more { IfOk result (λ ok. ok ≡ true → nodes.old.size ≤ nodes.new.size) }
     ensures steps { IfOk result (StepsTo system.now nodes.old (is_same node (path_of a.now) node (path_of b.now) ∷ work_of system.now.rules tasks.old) nodes.new tasks.new) }
 {
     let Some(one) = reach(nodes, tasks, system, node, a)? else {
@@ -147,7 +167,7 @@ fn step_entry(
 ) -> Result<bool, NoMemory>
     requires bare { IsBare (system_of system.now) }
     requires sound { AreSound system.now nodes.old tasks.old }
-    requires node { entry.node < length nodes.old.types.items }
+    requires node { entry.node < nodes.old.size }
     requires rule { entry.rule < length system.now.rules }
     ensures { IfOk result (StepsTo system.now nodes.old (entry_claims system.now.rules entry ++ work_of system.now.rules tasks.old) nodes.new tasks.new) }
 {

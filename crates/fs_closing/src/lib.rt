@@ -4,6 +4,7 @@
 pub mod closing;
 pub mod facts;
 pub mod fault;
+pub mod marks;
 pub mod nodes;
 pub mod outline;
 pub mod own_rows;

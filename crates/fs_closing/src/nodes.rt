@@ -1,17 +1,17 @@
-//! Nodes in plain arrays: each has a type, the node that it was merged into, and arcs.
+//! Nodes by number: each has a type, the node that it was merged into, and arcs.
 
-ghost use Rattle.std.specs.Prelude.{◌≡◌, ℕ, ◌+◌, ◌<◌, ◌≤◌, ◌^◌, length, None, IfOk, OnOk, IfSome, slice_index_or, [], ◌∷◌, ◌++◌, ◌-◌, map};
-ghost use Rattle.std.specs.List.{range_with_len};
+ghost use Rattle.std.specs.Prelude.{◌≡◌, ◌≢◌, ℕ, ◌+◌, ◌<◌, ◌≤◌, ◌^◌, length, None, IfOk, OnOk};
 ghost use Rattle.fs_model.specs.Steps.{Links, Grows};
-ghost use Rattle.fs_closing.specs.NodeSteps.{AddsNode, AddsArcs, EntersTable, IsGraphIn, Unites};
-ghost use Rattle.fs_closing.specs.Cells.{live_of, find_arc, chain, Falls, PlacesFall};
-ghost use Rattle.fs_closing.specs.NodeTable.{table_of, IsWhole, IsWithin};
+ghost use Rattle.fs_closing.specs.Marked.{written_at, next_by, stands_by};
+ghost use Rattle.fs_closing.specs.NodeSteps.{AddsNode, AddsDepth, KeepsArcs, KeepsDepths, Retypes, EntersTable, IsGraphIn, Unites};
+ghost use Rattle.fs_closing.specs.Cells.{find_arc, chain, PlacesFall};
+ghost use Rattle.fs_closing.specs.NodeTable.{table_of, at_of, own_type, own_row, first_of, depth_of, IsWhole, IsWithin};
 
 use crate::fault::NoMemory;
+use crate::marks::{Marks, Written};
 use crate::own_rows::OwnRows;
 use fs_graph::Graph;
 use std::alloc::Global;
-use type_hierarchy::Ty;
 
 /// An arc, with the place of its node's next one: 0 for none, and k + 1 for cell k.
 #[derive(Clone, Copy, Debug)]
@@ -21,61 +21,129 @@ pub struct Cell {
     pub next: u32,
 }
 
-/// Nodes by number. `depths` has a number of features that some path to the node has at least. `firsts` and `cells` have the arcs
-/// that were added, and `own` those that a node has from its graph.
+/// The first `size` nodes by number. `own` has what they have from their graphs, `marks` what was written at them, and `cells`
+/// the arcs that were added to them. So many nodes were merged into others as `merges` says.
 #[derive(Debug, Drop)]
 pub struct Nodes {
-    pub types: Vec<u32>,
-    pub forwards: Vec<u32>,
-    pub depths: Vec<u32>,
-    pub firsts: Vec<u32>,
+    pub marks: Marks,
     pub cells: Vec<Cell>,
     pub own: OwnRows,
+    pub merges: u32,
+    pub size: u32,
 }
 
 impl Nodes {
-    ghost use Rattle.fs_closing.specs.NodeTable.{IsWhole, IsWithin};
+    ghost use Rattle.fs_closing.specs.NodeTable.{IsWhole, IsWithin, AreFlat};
 
-    /// No nodes, and no memory.
-    pub fn new(alloc: Global) -> Nodes {
+    /// No nodes, and no memory. Marks begin at a generation: at the first one for 0.
+    pub fn aged(alloc: Global, generation: u32) -> Nodes {
         Nodes {
-            types: Vec::new(alloc),
-            forwards: Vec::new(alloc),
-            depths: Vec::new(alloc),
-            firsts: Vec::new(alloc),
+            marks: Marks::aged(alloc, generation),
             cells: Vec::new(alloc),
             own: OwnRows::new(alloc),
+            merges: 0,
+            size: 0,
         }
     }
 
     /// Drops all nodes, and keeps their memory.
     pub fn clear(&mut self)
         ensures whole { IsWhole self.new }
-        ensures none { self.new.types.items ≡ [] }
-        ensures none_deep { self.new.depths.items ≡ [] }
+        ensures none { self.new.size ≡ 0 }
+        ensures flat { AreFlat self.new }
         ensures within { (types feats : ℕ) → IsWithin types feats self.new }
     {
-        self.types.clear();
-        self.forwards.clear();
-        self.depths.clear();
-        self.firsts.clear();
+        self.marks.clear();
         self.cells.clear();
         self.own.clear();
+        self.merges = 0;
+        self.size = 0;
+    }
+}
+
+// The node that a node was forwarded to, and itself for one that wasn't.
+fn next(marks: &Marks, n: u32) -> u32
+    requires { n < length marks.now }
+    ensures { result ≡ next_by n (written_at marks.now n) }
+{
+    match marks.get(n) {
+        Some(written) => written.forward,
+        None => n,
     }
 }
 
 /// The node that a node was merged into, and itself for one that wasn't merged.
-pub fn live(forwards: &[u32], n: u32) -> u32
-    requires node { n < length forwards.now }
-    requires falls { Falls forwards.now }
-    ensures value { result ≡ live_of forwards.now n }
-    ensures within { result < length forwards.now }
+pub fn live(nodes: &Nodes, n: u32) -> u32
+    requires whole { IsWhole nodes.now }
+    requires node { n < nodes.now.size }
+    ensures value { result ≡ (table_of nodes.now).live n }
+    ensures within { result < nodes.now.size }
+    ensures stays { (table_of nodes.now).live result ≡ result }
 {
     let mut at = n;
-    while forwards[at as usize] != at {
-        at = forwards[at as usize];
+    let mut left = nodes.merges;
+    while left != 0 {
+        let to = next(&nodes.marks, at);
+        if to == at {
+            return at;
+        }
+        at = to;
+        left -= 1;
     }
     at
+}
+
+/// The type of a node.
+pub fn ty_of(nodes: &Nodes, n: u32) -> u32
+    requires whole { IsWhole nodes.now }
+    requires node { n < nodes.now.size }
+    ensures { result ≡ (table_of nodes.now).type_of n }
+{
+    match nodes.marks.get(n) {
+        Some(written) => written.ty,
+        None => nodes.own.ty(n),
+    }
+}
+
+/// The place of the first arc that was added to a node.
+pub fn first_of(nodes: &Nodes, n: u32) -> u32
+    requires whole { IsWhole nodes.now }
+    requires node { n < nodes.now.size }
+    ensures { result ≡ first_of nodes.now n }
+{
+    match nodes.marks.get(n) {
+        Some(written) => written.first,
+        None => 0,
+    }
+}
+
+/// A number of features that some path to a node has at least.
+pub fn depth_of(nodes: &Nodes, n: u32) -> u32
+    requires whole { IsWhole nodes.now }
+    requires node { n < nodes.now.size }
+    ensures { result ≡ depth_of nodes.now n }
+{
+    match nodes.marks.get(n) {
+        Some(written) => written.depth,
+        None => 0,
+    }
+}
+
+// All that stands at a node.
+fn stands(nodes: &Nodes, n: u32) -> Written
+    requires whole { IsWhole nodes.now }
+    requires node { n < nodes.now.size }
+    ensures { result ≡ stands_by (own_type nodes.now n) n (at_of nodes.now n) }
+{
+    match nodes.marks.get(n) {
+        Some(written) => written,
+        None => Written {
+            forward: n,
+            ty: nodes.own.ty(n),
+            first: 0,
+            depth: 0,
+        },
+    }
 }
 
 /// Where an arc leads, of those from a place on.
@@ -95,35 +163,59 @@ pub fn look_up(cells: &[Cell], first: u32, feat: u32) -> Option<u32>
     None
 }
 
+/// Gives a node a type.
+pub fn set_type(nodes: &mut Nodes, n: u32, ty: u32)
+    requires whole { IsWhole nodes.old }
+    requires node { n < nodes.old.size }
+    ensures retypes { Retypes (table_of nodes.old) (table_of nodes.new) n ty }
+    ensures keeps { KeepsDepths nodes.old nodes.new }
+    ensures whole { IsWhole nodes.new }
+    ensures within { (types feats : ℕ) → ty < types → IsWithin types feats nodes.old → IsWithin types feats nodes.new }
+{
+    let old = stands(nodes, n);
+    let new = Written {
+        forward: old.forward,
+        ty,
+        first: old.first,
+        depth: old.depth,
+    };
+    nodes.marks.write(n, new);
+}
+
 /// Adds a node without arcs.
 pub fn add_node(nodes: &mut Nodes, ty: u32, depth: u32) -> Result<u32, NoMemory>
     requires { IsWhole nodes.old }
     ensures adds { OnOk result (AddsNode ty (table_of nodes.old) (table_of nodes.new)) }
-    ensures place { IfOk result (λ m. m ≡ length nodes.old.types.items) }
-    ensures depths { OnOk result (nodes.new.depths.items ≡ nodes.old.depths.items ++ depth ∷ []) }
+    ensures place { IfOk result (λ m. m ≡ nodes.old.size) }
+    ensures depths { OnOk result (AddsDepth depth nodes.old nodes.new) }
     ensures whole { OnOk result (IsWhole nodes.new) }
     ensures within { OnOk result ((types feats : ℕ) → ty < types → IsWithin types feats nodes.old → IsWithin types feats nodes.new) }
 {
-    let place = nodes.types.len();
-    if place >= u32::MAX as usize {
+    let n = nodes.size;
+    if n == u32::MAX {
         return Err(NoMemory);
     }
-    nodes.types.push(ty)?;
-    nodes.forwards.push(place as u32)?;
-    nodes.depths.push(depth)?;
-    nodes.firsts.push(0)?;
+    nodes.marks.widen(n as usize + 1)?;
     nodes.own.push_none()?;
-    Ok(place as u32)
+    let new = Written {
+        forward: n,
+        ty,
+        first: 0,
+        depth,
+    };
+    nodes.marks.write(n, new);
+    nodes.size = n + 1;
+    Ok(n)
 }
 
 /// Gives a node an arc that it hasn't.
 pub fn add_arc(nodes: &mut Nodes, n: u32, feat: u32, to: u32) -> Result<(), NoMemory>
     requires whole { IsWhole nodes.old }
-    requires node { n < length nodes.old.types.items }
-    requires to { to < length nodes.old.types.items }
+    requires node { n < nodes.old.size }
+    requires to { to < nodes.old.size }
     requires no_arc { (table_of nodes.old).arc n feat ≡ None }
     ensures links { OnOk result (Links (table_of nodes.old) (table_of nodes.new) n feat to) }
-    ensures arcs { OnOk result (AddsArcs nodes.old nodes.new) }
+    ensures keeps { OnOk result (KeepsDepths nodes.old nodes.new) }
     ensures whole { OnOk result (IsWhole nodes.new) }
     ensures within { OnOk result ((types feats : ℕ) → feat < feats → IsWithin types feats nodes.old → IsWithin types feats nodes.new) }
 {
@@ -131,20 +223,31 @@ pub fn add_arc(nodes: &mut Nodes, n: u32, feat: u32, to: u32) -> Result<(), NoMe
     if place >= u32::MAX as usize {
         return Err(NoMemory);
     }
-    let next = nodes.firsts[n as usize];
-    nodes.cells.push(Cell { feat, to, next })?;
-    nodes.firsts[n as usize] = place as u32 + 1;
+    let old = stands(nodes, n);
+    let cell = Cell {
+        feat,
+        to,
+        next: old.first,
+    };
+    nodes.cells.push(cell)?;
+    let new = Written {
+        forward: old.forward,
+        ty: old.ty,
+        first: place as u32 + 1,
+        depth: old.depth,
+    };
+    nodes.marks.write(n, new);
     Ok(())
 }
 
 /// Gives a node an arc to a new node.
 pub fn grow(nodes: &mut Nodes, n: u32, feat: u32, ty: u32, depth: u32) -> Result<u32, NoMemory>
     requires whole { IsWhole nodes.old }
-    requires node { n < length nodes.old.types.items }
+    requires node { n < nodes.old.size }
     requires no_arc { (table_of nodes.old).arc n feat ≡ None }
     ensures grows { OnOk result (Grows ty (table_of nodes.old) (table_of nodes.new) n feat) }
-    ensures place { IfOk result (λ m. m ≡ length nodes.old.types.items) }
-    ensures depths { OnOk result (nodes.new.depths.items ≡ nodes.old.depths.items ++ depth ∷ []) }
+    ensures place { IfOk result (λ m. m ≡ nodes.old.size) }
+    ensures depths { OnOk result (AddsDepth depth nodes.old nodes.new) }
     ensures whole { OnOk result (IsWhole nodes.new) }
     ensures within { OnOk result ((types feats : ℕ) → ty < types → feat < feats → IsWithin types feats nodes.old → IsWithin types feats nodes.new) }
 {
@@ -153,60 +256,60 @@ pub fn grow(nodes: &mut Nodes, n: u32, feat: u32, ty: u32, depth: u32) -> Result
     Ok(to)
 }
 
-/// Merges b into a, which gets a type. Neither was merged before.
+/// Merges b into a, which gets a type. Neither was merged before, and b isn't the root.
 pub fn unite(nodes: &mut Nodes, a: u32, b: u32, ty: u32)
     requires whole { IsWhole nodes.old }
-    requires order { a < b }
-    requires b_in { b < length nodes.old.types.items }
-    requires a_stays { live_of nodes.old.forwards.items a ≡ a }
-    requires b_stays { live_of nodes.old.forwards.items b ≡ b }
+    requires a_in { a < nodes.old.size }
+    requires b_in { b < nodes.old.size }
+    requires apart { a ≢ b }
+    requires no_root { b ≢ 0 }
+    requires few { nodes.old.merges + 1 < 2 ^ 32 }
+    requires a_stays { (table_of nodes.old).live a ≡ a }
+    requires b_stays { (table_of nodes.old).live b ≡ b }
     ensures unites { Unites (table_of nodes.old) (table_of nodes.new) a b ty }
-    ensures depths { nodes.new.depths.items ≡ nodes.old.depths.items }
+    ensures depths { (k : ℕ) → depth_of nodes.new k ≡ depth_of nodes.old k }
     ensures cells { nodes.new.cells.items ≡ nodes.old.cells.items }
-    ensures own { nodes.new.own ≡ nodes.old.own }
+    ensures own { (k : ℕ) → own_row nodes.new k ≡ own_row nodes.old k }
     ensures whole { IsWhole nodes.new }
     ensures within { (types feats : ℕ) → ty < types → IsWithin types feats nodes.old → IsWithin types feats nodes.new }
 {
-    nodes.types[a as usize] = ty;
-    nodes.forwards[b as usize] = a;
-}
-
-// The types of a graph's nodes are added.
-fn push_types(types: &mut Vec<u32>, all: &[Ty]) -> Result<(), NoMemory>
-    ensures { OnOk result (types.new.items ≡ types.old.items ++ map (λ t. t.0) all.now) }
-{
-    types.extend(all.iter().map(|ty| ty.0))?;
-    Ok(())
-}
-
-// The numbers from one to before another are added.
-fn push_numbers(numbers: &mut Vec<u32>, from: u32, end: u32) -> Result<(), NoMemory>
-    requires { from ≤ end }
-    ensures { OnOk result (numbers.new.items ≡ numbers.old.items ++ range_with_len from (end - from)) }
-{
-    numbers.extend(from..end)?;
-    Ok(())
+    let stays = stands(nodes, a);
+    let goes = stands(nodes, b);
+    let gone = Written {
+        forward: a,
+        ty: goes.ty,
+        first: goes.first,
+        depth: goes.depth,
+    };
+    let joined = Written {
+        forward: stays.forward,
+        ty,
+        first: stays.first,
+        depth: stays.depth,
+    };
+    nodes.marks.write(b, gone);
+    nodes.marks.write(a, joined);
+    nodes.merges += 1;
 }
 
 /// A graph enters: its nodes have the numbers from the answer on. They are copied as they stand, each list of the graph at
 /// once.
 pub fn add_graph(nodes: &mut Nodes, graph: &Graph) -> Result<u32, NoMemory>
     requires { IsWhole nodes.old }
-    ensures place { IfOk result (λ o. o ≡ length nodes.old.types.items) }
+    ensures place { IfOk result (λ o. o ≡ nodes.old.size) }
     ensures enters { OnOk result (EntersTable graph.now (table_of nodes.old) (table_of nodes.new)) }
-    ensures flat { OnOk result ((k : ℕ) → slice_index_or nodes.new.depths.items k 0 ≡ slice_index_or nodes.old.depths.items k 0) }
+    ensures flat { OnOk result ((k : ℕ) → depth_of nodes.new k ≡ depth_of nodes.old k) }
     ensures whole { OnOk result (IsWhole nodes.new) }
     ensures within { OnOk result ((types feats : ℕ) → IsGraphIn types feats graph.now → IsWithin types feats nodes.old → IsWithin types feats nodes.new) }
 {
-    let base = nodes.types.len();
-    let size = base + graph.nodes() as usize;
-    if size > u32::MAX as usize {
+    let base = nodes.size;
+    let count = graph.nodes();
+    if count > u32::MAX - base {
         return Err(NoMemory);
     }
-    push_types(&mut nodes.types, graph.types())?;
-    push_numbers(&mut nodes.forwards, base as u32, size as u32)?;
-    nodes.depths.resize(size, 0)?;
-    nodes.firsts.resize(size, 0)?;
-    nodes.own.push_graph(graph, base as u32)?;
-    Ok(base as u32)
+    let size = base + count;
+    nodes.marks.widen(size as usize)?;
+    nodes.own.push_graph(graph, base)?;
+    nodes.size = size;
+    Ok(base)
 }

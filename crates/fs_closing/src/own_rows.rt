@@ -1,19 +1,20 @@
-//! Arcs that nodes have from the graphs that they come from.
+//! Arcs and types that nodes have from the graphs that they come from.
 
 ghost use Rattle.std.specs.Prelude.{◌≡◌, ◌∷◌, ◌++◌, ◌+◌, ◌<◌, ◌^◌, [], length, OnOk, slice_index_or};
 ghost use Rattle.fs_model.specs.Claims.{Has};
 ghost use Rattle.fs_graph.specs.GraphMap.{arc_to};
 ghost use Rattle.fs_closing.specs.declared.nodes.Cell.{Cell as CellValue};
 ghost use Rattle.fs_closing.specs.Cells.{find_arc};
-ghost use Rattle.fs_closing.specs.OwnRows.{cells_from, graph_rows, own_of, AreOwn};
+ghost use Rattle.fs_closing.specs.OwnRows.{cells_from, graph_rows, own_of, types_of, AreOwn};
 
 use crate::fault::NoMemory;
 use crate::nodes::Cell;
 use fs_graph::{Graph, GraphArc};
 use std::alloc::Global;
+use type_hierarchy::Ty;
 
-/// The arcs that nodes have from their graphs, by the number of the node. The arcs of all graphs stand in one list, as they do
-/// in each graph, so that a graph enters by a few copies of whole lists. The arcs of node n are those from `froms[n]` to
+/// The types and the arcs that nodes have from their graphs, by the number of the node. The arcs of all graphs stand in one list,
+/// as they do in each graph, so that a graph enters by a few copies of whole lists. The arcs of node n are those from `froms[n]` to
 /// `ends[n]`, both counted from `offsets[n]`; where they lead is counted from `bases[n]`.
 #[derive(Debug, Drop)]
 pub struct OwnRows {
@@ -22,6 +23,7 @@ pub struct OwnRows {
     pub froms: Vec<u32>,
     pub ends: Vec<u32>,
     pub arcs: Vec<GraphArc>,
+    pub types: Vec<Ty>,
 }
 
 impl OwnRows {
@@ -33,6 +35,7 @@ impl OwnRows {
             froms: Vec::new(alloc),
             ends: Vec::new(alloc),
             arcs: Vec::new(alloc),
+            types: Vec::new(alloc),
         }
     }
 
@@ -40,6 +43,7 @@ impl OwnRows {
     pub fn clear(&mut self)
         ensures none { own_of self.new ≡ [] }
         ensures size { length self.new.bases.items ≡ 0 }
+        ensures types { types_of self.new ≡ [] }
         ensures whole { AreOwn self.new }
     {
         self.bases.clear();
@@ -47,19 +51,22 @@ impl OwnRows {
         self.froms.clear();
         self.ends.clear();
         self.arcs.clear();
+        self.types.clear();
     }
 
-    /// A node that comes from no graph.
+    /// A node that comes from no graph, of the top type.
     pub fn push_none(&mut self) -> Result<(), NoMemory>
         requires { AreOwn self.old }
         ensures rows { OnOk result (own_of self.new ≡ own_of self.old ++ [] ∷ []) }
         ensures size { OnOk result (length self.new.bases.items ≡ length self.old.bases.items + 1) }
+        ensures types { OnOk result (types_of self.new ≡ types_of self.old ++ 0 ∷ []) }
         ensures whole { OnOk result (AreOwn self.new) }
     {
         self.bases.push(0)?;
         self.offsets.push(0)?;
         self.froms.push(0)?;
         self.ends.push(0)?;
+        self.types.push(Ty(0))?;
         Ok(())
     }
 
@@ -68,6 +75,7 @@ impl OwnRows {
         requires { AreOwn self.old }
         ensures rows { OnOk result (own_of self.new ≡ own_of self.old ++ graph_rows base graph.now) }
         ensures size { OnOk result (length self.new.bases.items ≡ length self.old.bases.items + length graph.now.types) }
+        ensures types { OnOk result (types_of self.new ≡ types_of self.old ++ graph.now.types) }
         ensures whole { OnOk result (AreOwn self.new) }
     {
         let (starts, arcs) = graph.rows();
@@ -78,7 +86,16 @@ impl OwnRows {
         self.froms.extend_from_slice(&starts[..count])?;
         self.ends.extend_from_slice(&starts[1..])?;
         self.arcs.extend_from_slice(arcs)?;
+        self.types.extend_from_slice(graph.types())?;
         Ok(())
+    }
+
+    /// The type that a node has from its graph.
+    pub fn ty(&self, n: u32) -> u32
+        requires { n < length (types_of self.now) }
+        ensures { result ≡ slice_index_or (types_of self.now) n 0 }
+    {
+        self.types[n as usize].0
     }
 
     // The arcs of a node, to nodes of its graph.

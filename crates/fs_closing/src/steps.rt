@@ -1,12 +1,11 @@
 //! Steps of a closing: arcs, merged nodes, lowered types.
 
-ghost use Rattle.std.specs.Prelude.{◌≡◌, ℕ, ◌+◌, ◌<◌, ◌≤◌, ◌⊎◌, length, List, [], ◌∷◌, ◌++◌, IfOk, OnOk, MatchOption, IfSome, Some, None, true, slice_index_or};
+ghost use Rattle.std.specs.Prelude.{◌≡◌, ◌≢◌, ℕ, ◌+◌, ◌<◌, ◌≤◌, ◌⊎◌, length, List, [], ◌∷◌, ◌++◌, IfOk, OnOk, MatchOption, IfSome, Some, None, true, slice_index_or};
 ghost use Rattle.type_hierarchy.specs.Table.{count_of, is_below, meet_of};
 ghost use Rattle.fs_model.specs.Claims.{Path, IsBare, IsOrder};
 ghost use Rattle.fs_model.specs.Table.{NodeClaim, is_same, is_under};
-ghost use Rattle.fs_closing.specs.Cells.{live_of, chain};
-ghost use Rattle.fs_closing.specs.OwnRows.{own_of};
-ghost use Rattle.fs_closing.specs.NodeTable.{table_of, IsWhole};
+ghost use Rattle.fs_closing.specs.Cells.{chain};
+ghost use Rattle.fs_closing.specs.NodeTable.{table_of, own_row, IsWhole};
 ghost use Rattle.fs_closing.specs.NodeSteps.{KeepsArcs};
 ghost use Rattle.fs_closing.specs.Rules.{system_of, no_rule};
 ghost use Rattle.fs_closing.specs.Joined.{IsJoined};
@@ -14,19 +13,21 @@ ghost use Rattle.fs_closing.specs.Work.{work_of, entry_claims, AreReady};
 ghost use Rattle.fs_closing.specs.Keeps.{AreSound, Leads, Clashes, StepsTo, begin, arc_claims, IsHeld, PushesFacts};
 
 use crate::fault::NoMemory;
-use crate::nodes::{Nodes, add_arc, grow, live, look_up, unite};
+use crate::nodes::{
+    Nodes, add_arc, depth_of, first_of, grow, live, look_up, set_type, ty_of, unite,
+};
 use crate::system::TypeSystem;
 use crate::tasks::Tasks;
 use type_hierarchy::Ty;
 
 // The arc of a node with a feature.
 fn arc_of(nodes: &Nodes, n: u32, feat: u32) -> Option<u32>
-    requires node { n < length nodes.now.types.items }
+    requires node { n < nodes.now.size }
     requires sound { IsWhole nodes.now }
     ensures value { result ≡ (table_of nodes.now).arc n feat }
-    ensures within { IfSome result (λ m. m < length nodes.now.types.items) }
+    ensures within { IfSome result (λ m. m < nodes.now.size) }
 {
-    if let Some(to) = look_up(&nodes.cells, nodes.firsts[n as usize], feat) {
+    if let Some(to) = look_up(&nodes.cells, first_of(nodes, n), feat) {
         return Some(to);
     }
     nodes.own.find(n, feat)
@@ -97,14 +98,14 @@ fn lower(
 ) -> Result<(), NoMemory>
     requires order { IsOrder (system_of system.now) }
     requires sound { AreSound system.now nodes.old tasks.old }
-    requires node { n < length nodes.old.types.items }
+    requires node { n < nodes.old.size }
     requires ty_in { ty < count_of system.now.types }
-    ensures leads { OnOk result ((m u : ℕ) → live_of nodes.old.forwards.items m ≡ n → meet_of system.now.types (slice_index_or nodes.old.types.items n 0) u ≡ Some ty → Leads system.now nodes.old (is_under m [] u ∷ work_of system.now.rules tasks.old) nodes.new (work_of system.now.rules tasks.new)) }
+    ensures leads { OnOk result ((m u : ℕ) → (table_of nodes.old).live m ≡ n → meet_of system.now.types ((table_of nodes.old).type_of n) u ≡ Some ty → Leads system.now nodes.old (is_under m [] u ∷ work_of system.now.rules tasks.old) nodes.new (work_of system.now.rules tasks.new)) }
     ensures arcs { OnOk result (KeepsArcs nodes.old nodes.new) }
     ensures sound { OnOk result (AreSound system.now nodes.new tasks.new) }
 {
-    let old = nodes.types[n as usize];
-    nodes.types[n as usize] = ty;
+    let old = ty_of(nodes, n);
+    set_type(nodes, n, ty);
     push_rules(tasks, system, n, ty, old, old)?;
     Ok(())
 }
@@ -118,13 +119,13 @@ pub fn put_under(
     ty: u32,
 ) -> Result<bool, NoMemory>
     requires sound { AreSound system.now nodes.old tasks.old }
-    requires node { node < length nodes.old.types.items }
+    requires node { node < nodes.old.size }
     requires ty_in { ty < count_of system.now.types }
     ensures steps { IfOk result (StepsTo system.now nodes.old (is_under node [] ty ∷ work_of system.now.rules tasks.old) nodes.new tasks.new) }
     ensures arcs { OnOk result (KeepsArcs nodes.old nodes.new) }
 {
-    let n = live(&nodes.forwards, node);
-    let old = Ty(nodes.types[n as usize]);
+    let n = live(nodes, node);
+    let old = Ty(ty_of(nodes, n));
     let types = system.types();
     if types.at_or_below(old, Ty(ty)) {
         return Ok(true);
@@ -148,10 +149,10 @@ pub fn attach(
     to: u32,
 ) -> Result<bool, NoMemory>
     requires sound { AreSound system.now nodes.old tasks.old }
-    requires node { n < length nodes.old.types.items }
-    requires to_in { to < length nodes.old.types.items }
+    requires node { n < nodes.old.size }
+    requires to_in { to < nodes.old.size }
     requires feat_in { feat < length system.now.introducers }
-    requires stays { live_of nodes.old.forwards.items n ≡ n }
+    requires stays { (table_of nodes.old).live n ≡ n }
     ensures steps { IfOk result (StepsTo system.now nodes.old (is_same n (feat ∷ []) to [] ∷ work_of system.now.rules tasks.old) nodes.new tasks.new) }
     ensures arcs { OnOk result (KeepsArcs nodes.old nodes.new) }
 {
@@ -174,9 +175,9 @@ pub fn attach_cells(
     first: u32,
 ) -> Result<bool, NoMemory>
     requires sound { AreSound system.now nodes.old tasks.old }
-    requires node { n < length nodes.old.types.items }
+    requires node { n < nodes.old.size }
     requires first_in { first ≤ length nodes.old.cells.items }
-    requires stays { live_of nodes.old.forwards.items n ≡ n }
+    requires stays { (table_of nodes.old).live n ≡ n }
     ensures steps { IfOk result (StepsTo system.now nodes.old (arc_claims n (chain nodes.old.cells.items first) ++ work_of system.now.rules tasks.old) nodes.new tasks.new) }
     ensures arcs { OnOk result (KeepsArcs nodes.old nodes.new) }
 {
@@ -200,10 +201,10 @@ pub fn attach_own(
     of: u32,
 ) -> Result<bool, NoMemory>
     requires sound { AreSound system.now nodes.old tasks.old }
-    requires node { n < length nodes.old.types.items }
-    requires of_in { of < length nodes.old.types.items }
-    requires stays { live_of nodes.old.forwards.items n ≡ n }
-    ensures { IfOk result (StepsTo system.now nodes.old (arc_claims n (slice_index_or (own_of nodes.old.own) of []) ++ work_of system.now.rules tasks.old) nodes.new tasks.new) }
+    requires node { n < nodes.old.size }
+    requires of_in { of < nodes.old.size }
+    requires stays { (table_of nodes.old).live n ≡ n }
+    ensures { IfOk result (StepsTo system.now nodes.old (arc_claims n (own_row nodes.old of) ++ work_of system.now.rules tasks.old) nodes.new tasks.new) }
 {
     for i in 0..nodes.own.count(of) {
         let cell = nodes.own.cell(of, i);
@@ -226,11 +227,11 @@ pub fn attach_all(
     of: u32,
 ) -> Result<bool, NoMemory>
     requires sound { AreSound system.now nodes.old tasks.old }
-    requires node { n < length nodes.old.types.items }
+    requires node { n < nodes.old.size }
     requires first_in { first ≤ length nodes.old.cells.items }
-    requires of_in { of < length nodes.old.types.items }
-    requires stays { live_of nodes.old.forwards.items n ≡ n }
-    ensures { IfOk result (StepsTo system.now nodes.old (arc_claims n (chain nodes.old.cells.items first ++ slice_index_or (own_of nodes.old.own) of []) ++ work_of system.now.rules tasks.old) nodes.new tasks.new) }
+    requires of_in { of < nodes.old.size }
+    requires stays { (table_of nodes.old).live n ≡ n }
+    ensures { IfOk result (StepsTo system.now nodes.old (arc_claims n (chain nodes.old.cells.items first ++ own_row nodes.old of) ++ work_of system.now.rules tasks.old) nodes.new tasks.new) }
 {
     match attach_cells(nodes, tasks, system, n, first)? {
         true => {
@@ -241,7 +242,7 @@ pub fn attach_all(
     }
 }
 
-/// Merges b into a, whose type becomes the meet of both; b's arcs are to be a's. The answer is false where there is no meet,
+/// Merges b, which isn't the root, into a, whose type becomes the meet of both; b's arcs are to be a's. The answer is false where there is no meet,
 /// or another clash was met.
 pub fn merge(
     nodes: &mut Nodes,
@@ -251,20 +252,25 @@ pub fn merge(
     b: u32,
 ) -> Result<bool, NoMemory>
     requires sound { AreSound system.now nodes.old tasks.old }
-    requires order { a < b }
-    requires b_in { b < length nodes.old.types.items }
-    requires a_stays { live_of nodes.old.forwards.items a ≡ a }
-    requires b_stays { live_of nodes.old.forwards.items b ≡ b }
-    ensures { IfOk result (λ ok. (n m : ℕ) → live_of nodes.old.forwards.items n ≡ a → live_of nodes.old.forwards.items m ≡ b → StepsTo system.now nodes.old (is_same n [] m [] ∷ work_of system.now.rules tasks.old) nodes.new tasks.new ok) }
+    requires a_in { a < nodes.old.size }
+    requires b_in { b < nodes.old.size }
+    requires apart { a ≢ b }
+    requires no_root { b ≢ 0 }
+    requires a_stays { (table_of nodes.old).live a ≡ a }
+    requires b_stays { (table_of nodes.old).live b ≡ b }
+    ensures { IfOk result (λ ok. (n m : ℕ) → (table_of nodes.old).live n ≡ a → (table_of nodes.old).live m ≡ b → StepsTo system.now nodes.old (is_same n [] m [] ∷ work_of system.now.rules tasks.old) nodes.new tasks.new ok) }
 {
-    let old = nodes.types[a as usize];
-    let other = nodes.types[b as usize];
+    if nodes.merges == u32::MAX {
+        return Err(NoMemory);
+    }
+    let old = ty_of(nodes, a);
+    let other = ty_of(nodes, b);
     let types = system.types();
     types.laws();
     let Some(met) = types.meet(Ty(old), Ty(other)) else {
         return Ok(false);
     };
-    let first = nodes.firsts[b as usize];
+    let first = first_of(nodes, b);
     unite(nodes, a, b, met.0);
     push_rules(tasks, system, a, met.0, old, other)?;
     let ok = attach_all(nodes, tasks, system, a, first, b)?;
@@ -282,18 +288,18 @@ pub fn go(
 ) -> Result<Option<u32>, NoMemory>
     requires bare { IsBare (system_of system.now) }
     requires sound { AreSound system.now nodes.old tasks.old }
-    requires node { node < length nodes.old.types.items }
+    requires node { node < nodes.old.size }
     requires feat_in { feat < length system.now.introducers }
     ensures leads { IfOk result (λ o. MatchOption o ((c : NodeClaim) (p : Path) → Clashes system.now nodes.old (begin node (feat ∷ p) c ∷ work_of system.now.rules tasks.old)) (λ m. (c : NodeClaim) (p : Path) → Leads system.now nodes.old (begin node (feat ∷ p) c ∷ work_of system.now.rules tasks.old) nodes.new (begin m p c ∷ work_of system.now.rules tasks.new))) }
-    ensures within { IfOk result (λ o. MatchOption o (Unit {0}) (λ m. m < length nodes.new.types.items)) }
-    ensures more { OnOk result (length nodes.old.types.items ≤ length nodes.new.types.items) }
+    ensures within { IfOk result (λ o. MatchOption o (Unit {0}) (λ m. m < nodes.new.size)) }
+    ensures more { OnOk result (nodes.old.size ≤ nodes.new.size) }
     ensures sound { IfOk result (λ o. MatchOption o (Unit {0}) (λ m. AreSound system.now nodes.new tasks.new)) }
 {
-    let from = live(&nodes.forwards, node);
+    let from = live(nodes, node);
     if let Some(to) = arc_of(nodes, from, feat) {
         return Ok(Some(to));
     }
-    let depth = nodes.depths[from as usize];
+    let depth = depth_of(nodes, from);
     if depth >= system.path_limit() {
         return Ok(None);
     }

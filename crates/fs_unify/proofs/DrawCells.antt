@@ -4,15 +4,15 @@ use Rattle.std.specs.Option.{option_map}
 use Rattle.std.proofs.Math.Seq.{drop-cons}
 use Rattle.fs_model.proofs.StepLemmas.{same_or_other}
 use Rattle.fs_closing.specs.declared.nodes.Cell.{Cell}
-use Rattle.fs_closing.specs.Cells.{live_of, find_arc, no_cell, AreOnce}
+use Rattle.fs_closing.specs.Cells.{find_arc, no_cell, AreOnce}
 use Rattle.fs_closing.proofs.ChainLemmas.{find_arc-here, find_arc-past, find_left, find_right}
 
 -- a feature is drawn, or is left
-pub record DrawsCells (fs : List ℕ) (all left : List Cell) (arc : ℕ → Option ℕ) : Type 0 where
-  pub each : (f : ℕ) → ((find_arc left f ≡ None) × (arc f ≡ option_map (live_of fs) (find_arc all f))) ⊎ ((arc f ≡ None) × (find_arc left f ≡ find_arc all f))
+pub record DrawsCells (live : ℕ → ℕ) (all left : List Cell) (arc : ℕ → Option ℕ) : Type 0 where
+  pub each : (f : ℕ) → ((find_arc left f ≡ None) × (arc f ≡ option_map live (find_arc all f))) ⊎ ((arc f ≡ None) × (find_arc left f ≡ find_arc all f))
 
-pub draws_begin : (fs : List ℕ) (all : List Cell) (arc : ℕ → Option ℕ) → ((f : ℕ) → arc f ≡ None) → DrawsCells fs all all arc
-draws_begin fs all arc none = record { each = λ f. inr (none f, refl) }
+pub draws_begin : (live : ℕ → ℕ) (all : List Cell) (arc : ℕ → Option ℕ) → ((f : ℕ) → arc f ≡ None) → DrawsCells live all all arc
+draws_begin live all arc none = record { each = λ f. inr (none f, refl) }
 
 left_free : (xs ys : List Cell) (f : ℕ) → find_arc (xs ++ ys) f ≡ None → find_arc xs f ≡ None
 left_free xs ys f e = go (find_arc xs f) refl
@@ -50,47 +50,47 @@ right_free (x ∷ xs) ys f m once e = go (same_or_other x.feat f) (right_free xs
     go (inr d) rest = rest (sym (find_arc-past x xs f d) ∙ e)
 
 -- the second list is drawn, and the first one is left
-pub draws_rest : (fs : List ℕ) (xs ys : List Cell) (arc : ℕ → Option ℕ) → AreOnce (xs ++ ys) → ((f : ℕ) → arc f ≡ option_map (live_of fs) (find_arc ys f)) →
-    DrawsCells fs (xs ++ ys) xs arc
-draws_rest fs xs ys arc once drawn = record { each = λ f. go f (find_arc xs f) refl }
+pub draws_rest : (live : ℕ → ℕ) (xs ys : List Cell) (arc : ℕ → Option ℕ) → AreOnce (xs ++ ys) → ((f : ℕ) → arc f ≡ option_map live (find_arc ys f)) →
+    DrawsCells live (xs ++ ys) xs arc
+draws_rest live xs ys arc once drawn = record { each = λ f. go f (find_arc xs f) refl }
   where
     go : (f : ℕ) (o : Option ℕ) → find_arc xs f ≡ o →
-        ((find_arc xs f ≡ None) × (arc f ≡ option_map (live_of fs) (find_arc (xs ++ ys) f))) ⊎ ((arc f ≡ None) × (find_arc xs f ≡ find_arc (xs ++ ys) f))
-    go f None is = inl (is, drawn f ∙ ap (option_map (live_of fs)) (sym (find_right xs ys f is)))
+        ((find_arc xs f ≡ None) × (arc f ≡ option_map live (find_arc (xs ++ ys) f))) ⊎ ((arc f ≡ None) × (find_arc xs f ≡ find_arc (xs ++ ys) f))
+    go f None is = inl (is, drawn f ∙ ap (option_map live) (sym (find_right xs ys f is)))
     go f (Some m) is =
-        inr (drawn f ∙ ap (option_map (live_of fs)) (right_free xs ys f m once is), is ∙ sym (find_left xs ys f m is))
+        inr (drawn f ∙ ap (option_map live) (right_free xs ys f m once is), is ∙ sym (find_left xs ys f m is))
 
-pub draws_free : (fs : List ℕ) (all left rest : List Cell) (c : Cell) (arc : ℕ → Option ℕ) → left ≡ c ∷ rest → DrawsCells fs all left arc → arc c.feat ≡ None
-draws_free fs all left rest c arc is d = go (d.each c.feat)
+pub draws_free : (live : ℕ → ℕ) (all left rest : List Cell) (c : Cell) (arc : ℕ → Option ℕ) → left ≡ c ∷ rest → DrawsCells live all left arc → arc c.feat ≡ None
+draws_free live all left rest c arc is d = go (d.each c.feat)
   where
-    go : ((find_arc left c.feat ≡ None) × (arc c.feat ≡ option_map (live_of fs) (find_arc all c.feat))) ⊎ ((arc c.feat ≡ None) × (find_arc left c.feat ≡ find_arc all c.feat)) →
+    go : ((find_arc left c.feat ≡ None) × (arc c.feat ≡ option_map live (find_arc all c.feat))) ⊎ ((arc c.feat ≡ None) × (find_arc left c.feat ≡ find_arc all c.feat)) →
         arc c.feat ≡ None
     go (inl (e, _)) =
         absurd (let h : None ≡ Some c.to = sym e ∙ ap (λ l. find_arc l c.feat) is ∙ find_arc-here c rest c.feat refl in cc)
     go (inr (e, _)) = e
 
-pub draws_step : (fs : List ℕ) (all left rest : List Cell) (c : Cell) (to : ℕ) (arc arc' : ℕ → Option ℕ) → left ≡ c ∷ rest → AreOnce left → to ≡ live_of fs c.to →
-    arc' c.feat ≡ Some to → ((f : ℕ) → f ≢ c.feat → arc' f ≡ arc f) → DrawsCells fs all left arc → DrawsCells fs all rest arc'
-draws_step fs all left rest c to arc arc' is once is_to here others d = record { each = λ f. each f (same_or_other f c.feat) (d.each f) }
+pub draws_step : (live : ℕ → ℕ) (all left rest : List Cell) (c : Cell) (to : ℕ) (arc arc' : ℕ → Option ℕ) → left ≡ c ∷ rest → AreOnce left → to ≡ live c.to →
+    arc' c.feat ≡ Some to → ((f : ℕ) → f ≢ c.feat → arc' f ≡ arc f) → DrawsCells live all left arc → DrawsCells live all rest arc'
+draws_step live all left rest c to arc arc' is once is_to here others d = record { each = λ f. each f (same_or_other f c.feat) (d.each f) }
   where
     once' : (find_arc rest c.feat ≡ None) × AreOnce rest
     once' = subst AreOnce is once
 
     each : (f : ℕ) → (f ≡ c.feat) ⊎ (f ≢ c.feat) →
-        ((find_arc left f ≡ None) × (arc f ≡ option_map (live_of fs) (find_arc all f))) ⊎ ((arc f ≡ None) × (find_arc left f ≡ find_arc all f)) →
-        ((find_arc rest f ≡ None) × (arc' f ≡ option_map (live_of fs) (find_arc all f))) ⊎ ((arc' f ≡ None) × (find_arc rest f ≡ find_arc all f))
+        ((find_arc left f ≡ None) × (arc f ≡ option_map live (find_arc all f))) ⊎ ((arc f ≡ None) × (find_arc left f ≡ find_arc all f)) →
+        ((find_arc rest f ≡ None) × (arc' f ≡ option_map live (find_arc all f))) ⊎ ((arc' f ≡ None) × (find_arc rest f ≡ find_arc all f))
     each f (inl e) (inl (a, b)) =
         absurd (let h : None ≡ Some c.to = sym a ∙ ap (λ l. find_arc l f) is ∙ find_arc-here c rest f (sym e) in cc)
     each f (inl e) (inr (a, b)) =
         let found : find_arc all f ≡ Some c.to = sym b ∙ ap (λ l. find_arc l f) is ∙ find_arc-here c rest f (sym e) in
-        inl (ap (find_arc rest) e ∙ once'.0, ap arc' e ∙ here ∙ ap Some is_to ∙ sym (ap (option_map (live_of fs)) found))
+        inl (ap (find_arc rest) e ∙ once'.0, ap arc' e ∙ here ∙ ap Some is_to ∙ sym (ap (option_map live) found))
     each f (inr e) (inl (a, b)) = inl (sym (find_arc-past c rest f (λ q. e (sym q))) ∙ sym (ap (λ l. find_arc l f) is) ∙ a, others f e ∙ b)
     each f (inr e) (inr (a, b)) = inr (others f e ∙ a, sym (find_arc-past c rest f (λ q. e (sym q))) ∙ sym (ap (λ l. find_arc l f) is) ∙ b)
 
-pub draws_end : (fs : List ℕ) (all : List Cell) (arc : ℕ → Option ℕ) → DrawsCells fs all [] arc → (f : ℕ) → arc f ≡ option_map (live_of fs) (find_arc all f)
-draws_end fs all arc d f = go (d.each f)
+pub draws_end : (live : ℕ → ℕ) (all : List Cell) (arc : ℕ → Option ℕ) → DrawsCells live all [] arc → (f : ℕ) → arc f ≡ option_map live (find_arc all f)
+draws_end live all arc d f = go (d.each f)
   where
-    go : ((find_arc [] f ≡ None) × (arc f ≡ option_map (live_of fs) (find_arc all f))) ⊎ ((arc f ≡ None) × (find_arc [] f ≡ find_arc all f)) →
-        arc f ≡ option_map (live_of fs) (find_arc all f)
+    go : ((find_arc [] f ≡ None) × (arc f ≡ option_map live (find_arc all f))) ⊎ ((arc f ≡ None) × (find_arc [] f ≡ find_arc all f)) →
+        arc f ≡ option_map live (find_arc all f)
     go (inl (_, b)) = b
-    go (inr (a, b)) = a ∙ ap (option_map (live_of fs)) b
+    go (inr (a, b)) = a ∙ ap (option_map live) b

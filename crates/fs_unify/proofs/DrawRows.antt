@@ -1,20 +1,23 @@
 -- Rows of arcs, drawn one by one.
-use Rattle.std.proofs.Common.{ℕ, zero, suc, ◌≡◌, ◌≤◌, ◌<◌, ◌+◌, ◌-◌, ◌⊎◌, inl, inr, None, List, [], ◌∷◌, ◌++◌, length, map, take, drop, slice_index, refl, sym, ◌∙◌, ap, subst, arith, length-append}
+use Rattle.std.proofs.Common.{ℕ, zero, suc, ◌≡◌, ◌≤◌, ◌<◌, ◌+◌, ◌-◌, ◌⊎◌, inl, inr, None, List, [], ◌∷◌, ◌++◌, length, map, take, drop, slice_index, slice_index_or, refl, sym, ◌∙◌, ap, subst, arith, length-append}
 use Rattle.std.specs.List.{between, insert}
 use Rattle.std.proofs.lemmas.Bool.{cases_lt}
-use Rattle.std.proofs.lemmas.List.{length-map, length_push, get_or_push, get_or_append_left, drop_at, take-append-le, drop-append-le, length-drop}
+use Rattle.std.proofs.lemmas.List.{length-map, map-append, get_or_past, length_push, get_or_push, get_or_append_left, drop_at, take-append-le, drop-append-le, length-drop}
 use Rattle.type_hierarchy.specs.declared.types.Ty.{Ty}
 use Rattle.fs_model.specs.Table.{Table}
 use Rattle.fs_graph.specs.declared.graph.GraphArc.{GraphArc}
-use Rattle.fs_graph.specs.GraphMap.{arc_to, Rises}
+use Rattle.fs_graph.specs.GraphMap.{arc_to, type_at, Rises}
 use Rattle.fs_graph.specs.Inside.{AreRows, row, graph_map}
 use Rattle.fs_graph.specs.Orders.{ArePlan}
 use Rattle.fs_graph.specs.Visits.{feats_of, targets_of}
 use Rattle.fs_graph.proofs.DrawLemmas.{insert_rises, insert_bounded, insert_here, insert_other}
 use Rattle.fs_graph.proofs.RowLemmas.{row_at}
 use Rattle.fs_closing.specs.declared.nodes.Nodes.{Nodes}
-use Rattle.fs_closing.specs.NodeTable.{table_of, IsWhole}
-use Rattle.fs_unify.specs.Drawing.{PutsArc, DrawsRow, DrawsRows, IsPicture}
+use Rattle.fs_closing.specs.Marked.{type_by}
+use Rattle.fs_closing.specs.OwnRows.{types_of}
+use Rattle.fs_closing.specs.NodeTable.{table_of, own_type, IsWhole}
+use Rattle.fs_closing.proofs.ListLemmas.{at_push}
+use Rattle.fs_unify.specs.Drawing.{PutsArc, DrawsTypes, DrawsRow, DrawsRows, IsPicture}
 
 pub puts_arc : (xs ys : List GraphArc) (i : ℕ) (a : GraphArc) → ys ≡ insert xs i a → i ≤ length xs → Rises xs → arc_to xs a.feat.0 ≡ None →
     ((k : ℕ) → k < i → slice_index (feats_of xs) k < a.feat.0) → (i < length xs → a.feat.0 ≤ slice_index (feats_of xs) i) → PutsArc a.feat.0 a.to.0 xs ys
@@ -142,26 +145,53 @@ rows_more t n at r starts starts' arcs arcs' d one a_is s_is at_is = record {
         subst (λ i. DrawsRow t i (row starts' arcs' i)) (sym e) (subst (DrawsRow t n) (sym same) one)
 
 -- the rows of all nodes are a plan, which shows the table
-pub drawn_plan : (nodes : Nodes) (types : List Ty) (starts : List ℕ) (arcs : List GraphArc) → IsWhole nodes → 0 < length nodes.types.items →
-    map (λ t. t.0) types ≡ nodes.types.items → DrawsRows (table_of nodes) (length nodes.types.items) starts arcs →
+pub drawn_plan : (nodes : Nodes) (types : List Ty) (starts : List ℕ) (arcs : List GraphArc) → IsWhole nodes → 0 < nodes.size →
+    DrawsTypes (table_of nodes) nodes.size (map (λ t. t.0) types) → DrawsRows (table_of nodes) nodes.size starts arcs →
     ArePlan types starts arcs × IsPicture (table_of nodes) (graph_map types starts arcs)
-drawn_plan nodes types starts arcs whole filled is d = (
+drawn_plan nodes types starts arcs whole filled ty d = (
   record {
     filled = omega (arith, size, filled);
-    few = omega (arith, size, whole.small);
+    few = omega (arith, size, whole.stands.small);
     rows = subst (λ k. AreRows k starts (length arcs)) (sym size) d.rows;
     rises = λ n h. (d.each n (omega (arith, size))).rises;
     to_in = λ n k h l. let low = (d.each n (omega (arith, size))).to_in k l in omega (arith, size, low);
   },
   record {
-    size = ap length is;
-    types = λ n. ap (λ l. slice_index l n) is;
+    size = ty.size;
+    types = λ n. type_is n (cases_lt n nodes.size);
     arcs = λ n f h stays. ap (λ l. arc_to l f) (row_at types starts arcs n (omega (arith, size))) ∙ (d.each n h).here f stays;
   },
 )
   where
-    size : length types ≡ length nodes.types.items
-    size = sym (length-map types (λ t. t.0)) ∙ ap length is
+    size : length types ≡ nodes.size
+    size = sym (length-map types (λ t. t.0)) ∙ ty.size
+
+    type_is : (n : ℕ) → (n < nodes.size) ⊎ (nodes.size ≤ n) → type_at (graph_map types starts arcs) n ≡ (table_of nodes).type_of n
+    type_is n (inl h) = ty.each n h
+    type_is n (inr h) =
+        get_or_past (map (λ t. t.0) types) n 0 (omega (arith, ty.size))
+        ∙ sym (ap (type_by (own_type nodes n)) (whole.stands.unwritten n h) ∙ get_or_past (types_of nodes.own) n 0 (omega (arith, whole.types_even)))
+
+-- one type more
+pub types_more : (t : Table) (n : ℕ) (types types' : List Ty) (ty : Ty) → types' ≡ types ++ ty ∷ [] → ty.0 ≡ t.type_of n → DrawsTypes t n (map (λ t. t.0) types) →
+    DrawsTypes t (n + 1) (map (λ t. t.0) types')
+types_more t n types types' ty is here d = record { size = size; each = λ k h. each k (at_push (map (λ t. t.0) types) ty.0 0 k (omega (arith, d.size))) }
+  where
+    are : map (λ t. t.0) types' ≡ map (λ t. t.0) types ++ ty.0 ∷ []
+    are = ap (map (λ t. t.0)) is ∙ map-append (λ (t : Ty). t.0) types (ty ∷ [])
+
+    size : length (map (λ t. t.0) types') ≡ n + 1
+    size = ap length are ∙ length-append (map (λ t. t.0) types) (ty.0 ∷ []) ∙ ap (λ k. k + 1) d.size
+
+    each : (k : ℕ) →
+        ((k < length (map (λ t. t.0) types)) × (slice_index_or (map (λ t. t.0) types ++ ty.0 ∷ []) k 0 ≡ slice_index_or (map (λ t. t.0) types) k 0)) ⊎
+        ((k ≡ length (map (λ t. t.0) types)) × (slice_index_or (map (λ t. t.0) types ++ ty.0 ∷ []) k 0 ≡ ty.0)) →
+        slice_index_or (map (λ t. t.0) types') k 0 ≡ t.type_of k
+    each k (inl a) = ap (λ l. slice_index_or l k 0) are ∙ a.1 ∙ d.each k (omega (arith, a.0, d.size))
+    each k (inr a) = ap (λ l. slice_index_or l k 0) are ∙ a.1 ∙ here ∙ ap t.type_of (sym (a.0 ∙ d.size))
+
+pub types_none : (t : Table) (types : List Ty) → types ≡ [] → DrawsTypes t 0 (map (λ t. t.0) types)
+types_none t types is = record { size = ap (λ l. length (map (λ (t : Ty). t.0) l)) is; each = λ n h. absurd (omega arith) }
 
 pub draw_by : (nodes : Nodes) (types types' : List Ty) (starts starts' : List ℕ) (arcs arcs' : List GraphArc) → types' ≡ types → starts' ≡ starts → arcs' ≡ arcs →
     ArePlan types starts arcs × IsPicture (table_of nodes) (graph_map types starts arcs) → ArePlan types' starts' arcs' × IsPicture (table_of nodes) (graph_map types' starts' arcs')

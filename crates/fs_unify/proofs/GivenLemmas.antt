@@ -1,5 +1,5 @@
 -- The first node, facts at it, and the answer.
-use Rattle.std.proofs.Common.{ℕ, suc, ◌≡◌, ◌<◌, ◌+◌, Bool, true, false, Option, Some, None, List, [], ◌∷◌, ◌++◌, length, map, drop, slice_index_or, append-nil, refl, sym, ◌∙◌, ap, subst, arith}
+use Rattle.std.proofs.Common.{ℕ, suc, ◌≡◌, ◌≢◌, ◌<◌, ◌+◌, ◌⊎◌, inl, inr, Bool, true, false, Option, Some, None, List, [], ◌∷◌, ◌++◌, length, map, drop, slice_index_or, append-nil, refl, sym, ◌∙◌, ap, subst, arith}
 use Rattle.std.proofs.Math.Seq.{drop-cons}
 use Rattle.fs_model.specs.Claims.{Path, Claim, exists_at, same, below, System, IsOrder, IsBare, Has, here}
 use Rattle.fs_model.specs.Closure.{Closure, IsConsistent, given_claim, same_exists, below_exists, prefix}
@@ -7,18 +7,18 @@ use Rattle.fs_model.specs.Sources.{Reader, Source, Told, told_claim, told_part}
 use Rattle.fs_model.specs.Table.{Table, NodeClaim, from}
 use Rattle.fs_model.specs.Steps.{Starts}
 use Rattle.fs_model.proofs.Ends.{Closes-starts}
+use Rattle.fs_model.proofs.StepLemmas.{same_or_other}
 use Rattle.fs_closing.specs.declared.nodes.Nodes.{Nodes}
 use Rattle.fs_closing.specs.declared.tasks.Tasks.{Tasks}
-use Rattle.fs_closing.specs.NodeTable.{table_of, IsWhole, IsWithin}
-use Rattle.fs_closing.specs.NodeSteps.{AddsNode}
+use Rattle.fs_closing.specs.NodeTable.{table_of, at_of, own_type, own_row, depth_of, IsWhole, IsWithin, AreFlat}
+use Rattle.fs_closing.specs.NodeSteps.{AddsNode, AddsDepth}
 use Rattle.fs_closing.specs.Rules.{Grammar, system_of}
 use Rattle.fs_closing.specs.Work.{work_of}
 use Rattle.fs_unify.specs.Given.{facts_source, StandsFor, StandsForSome, Gathers, Decides, Pictured, Settles}
 use Rattle.fs_unify.specs.Drawing.{IsPictureIn, Shows, Answers}
 use Rattle.fs_unify.specs.declared.draw.Picture.{Picture}
 use Rattle.fs_graph.specs.Inside.{graph_map}
-use Rattle.fs_closing.specs.Cells.{live_of}
-use Rattle.fs_closing.proofs.UniteLemmas.{table_whole}
+use Rattle.fs_closing.proofs.MarkLemmas.{table_whole, root_lives}
 use Rattle.fs_unify.specs.Entering.{IsGraphIn}
 use Rattle.fs_unify.proofs.DrawLemmas.{picture_bounds, consistent_closed}
 use Rattle.std.specs.Prelude.{IfSome, IsTrue, ◌↔◌}
@@ -26,7 +26,6 @@ use Rattle.fs_graph.specs.GraphMap.{GraphMap}
 use Rattle.type_hierarchy.specs.Table.{count_of}
 use Rattle.fs_closing.specs.Keeps.{Deep, deep_of, Stands, Leads, Clashes, StepsTo}
 use Rattle.fs_closing.proofs.HasLemmas.{Has-map, Has-of_map}
-use Rattle.fs_closing.proofs.UniteLemmas.{live_le}
 pub use Rattle.fs_closing.proofs.OrderLemmas.{order_of_laws}
 
 -- one node of the top type
@@ -90,7 +89,7 @@ closed_stands g nodes tasks nodes' source st leads =
     leads [] source st.paths (padded (system_of g) (Told source) (deep_of nodes) (work_of g.rules tasks) st.paths st.stands)
 
 pub closed_filled : (g : Grammar) (nodes : Nodes) (tasks : Tasks) (nodes' : Nodes) → StandsForSome g nodes tasks → Leads g nodes (work_of g.rules tasks) nodes' [] →
-    0 < length nodes'.types.items
+    0 < nodes'.size
 closed_filled g nodes tasks nodes' some leads = (closed_stands g nodes tasks nodes' some.0 some.1 leads).1.closes.filled
 
 pub decides_none : (g : Grammar) (nodes : Nodes) (tasks : Tasks) (nodes' : Nodes) → IsOrder (system_of g) → Leads g nodes (work_of g.rules tasks) nodes' [] →
@@ -101,14 +100,14 @@ decides_none g nodes tasks nodes' order leads none source st ok =
 
 -- closed nodes, with their picture if there is one
 pub pictured : (g : Grammar) (nodes : Nodes) (tasks : Tasks) (nodes' : Nodes) (limit : ℕ) (p : Picture) (b : Bool) → IsOrder (system_of g) → limit ≡ g.path_limit →
-    Leads g nodes (work_of g.rules tasks) nodes' [] → IsWhole nodes' → IsWithin (count_of g.types) (length g.introducers) nodes' → 0 < length nodes'.types.items →
+    Leads g nodes (work_of g.rules tasks) nodes' [] → IsWhole nodes' → IsWithin (count_of g.types) (length g.introducers) nodes' → 0 < nodes'.size →
     Shows nodes' limit p b → Pictured g nodes tasks nodes' p b
 pictured g nodes tasks nodes' limit p false order is leads whole within filled none =
     decides_none g nodes tasks nodes' order leads (subst (λ l. Answers (deep_of nodes') l None) is none)
 pictured g nodes tasks nodes' limit p true order is leads whole within filled some =
     let shown = subst (λ l. IsPictureIn (table_of nodes') l p) is some in
-    let root : live_of nodes'.forwards.items 0 ≡ 0 = omega (arith, live_le nodes'.forwards.items whole.falls 0) in
-    let ok = table_whole nodes'.types.items nodes'.forwards.items nodes'.depths.items nodes'.firsts.items nodes'.cells.items nodes'.own whole in
+    let root = root_lives (at_of nodes') (own_row nodes') nodes'.cells.items nodes'.merges nodes'.size whole.stands in
+    let ok = table_whole (at_of nodes') (own_type nodes') (own_row nodes') nodes'.cells.items nodes'.merges nodes'.size whole.stands in
     let bounds = picture_bounds (table_of nodes') ok g.path_limit (graph_map p.types.items p.starts.items p.arcs.items) p.order.longest filled root shown.shows
     shown.order.longest shown.short in
     ((leads, whole, within, bounds, filled), shown)
@@ -153,7 +152,10 @@ claims_step claims i d h =
     ap (map (from 0)) (drop-cons claims i d h)
     ∙ ap (λ j. from 0 (slice_index_or claims i d) ∷ map (from 0) (drop j claims)) (let e : suc i ≡ i + 1 = omega arith in e)
 
-pub flat_one : (ds ds' : List ℕ) → ds' ≡ ds ++ 0 ∷ [] → ds ≡ [] → (n : ℕ) → n < 1 → ◌≡◌ {A = ℕ} (slice_index_or ds' n 0) 0
-flat_one ds ds' is none n h =
-    let zero_is : n ≡ 0 = omega arith in
-    ap (λ l. slice_index_or l n 0) (is ∙ ap (λ l. l ++ 0 ∷ []) none) ∙ ap (λ i. slice_index_or (0 ∷ []) i 0) zero_is
+-- a node of depth 0 is added where no depth is above 0
+pub flat_added : (nodes nodes' : Nodes) → AddsDepth 0 nodes nodes' → AreFlat nodes → AreFlat nodes'
+flat_added nodes nodes' adds flat n = go (same_or_other n nodes.size)
+  where
+    go : (n ≡ nodes.size) ⊎ (n ≢ nodes.size) → depth_of nodes' n ≡ 0
+    go (inl e) = ap (depth_of nodes') e ∙ adds.here
+    go (inr e) = adds.others n e ∙ flat n

@@ -1,5 +1,5 @@
 -- A graph that was drawn has the types and features of its nodes.
-use Rattle.std.proofs.Common.{ℕ, ◌≡◌, ◌<◌, ◌⊎◌, inl, inr, Option, Some, None, [], ◌∷◌, ◌++◌, length, slice_index_or, refl, sym, ◌∙◌, ap, subst, arith}
+use Rattle.std.proofs.Common.{ℕ, ◌≡◌, ◌<◌, ◌⊎◌, inl, inr, Option, Some, None, [], ◌∷◌, ◌++◌, length, refl, sym, ◌∙◌, ap, subst, arith}
 use Rattle.std.proofs.lemmas.List.{get_or_default}
 use Rattle.std.specs.Prelude.{IfSome}
 use Rattle.std.specs.Option.{option_map}
@@ -13,27 +13,26 @@ use Rattle.fs_graph.specs.GraphMap.{GraphMap, IsGraph, table_of as graph_table, 
 use Rattle.fs_closing.specs.declared.nodes.Nodes.{Nodes}
 use Rattle.fs_closing.specs.declared.nodes.Cell.{Cell}
 use Rattle.fs_closing.specs.Cells.{chain}
-use Rattle.fs_closing.specs.OwnRows.{own_of}
 use Rattle.fs_closing.proofs.HasLemmas.{Has-either}
-use Rattle.fs_closing.specs.NodeTable.{table_of, IsWhole, IsWithin}
+use Rattle.fs_closing.specs.NodeTable.{table_of, at_of, own_type, own_row, first_of, IsWhole, IsWithin}
 use Rattle.fs_closing.specs.Rules.{Grammar, system_of}
 use Rattle.fs_closing.proofs.ChainLemmas.{find_arc-has, chain-has}
-use Rattle.fs_closing.proofs.UniteLemmas.{table_whole}
+use Rattle.fs_closing.proofs.MarkLemmas.{table_whole}
 use Rattle.fs_unify.specs.Entering.{IsGraphIn}
 use Rattle.fs_unify.specs.Drawing.{IsPicture}
 use Rattle.fs_unify.specs.Placing.{IsAnswerIn}
 use Rattle.fs_unify.proofs.EnterLemmas.{rises_found}
 use Rattle.fs_unify.proofs.DrawLemmas.{picture_walk, well_formed}
 
-module _ (nodes : Nodes) (whole : IsWhole nodes) (filled : 0 < length nodes.types.items) (root : (table_of nodes).live 0 ≡ 0) (types feats : ℕ)
+module _ (nodes : Nodes) (whole : IsWhole nodes) (filled : 0 < nodes.size) (root : (table_of nodes).live 0 ≡ 0) (types feats : ℕ)
     (within : IsWithin types feats nodes) where
   abbrev t : Table
   t = table_of nodes
 
   ok : IsTable (table_of nodes)
-  ok = table_whole nodes.types.items nodes.forwards.items nodes.depths.items nodes.firsts.items nodes.cells.items nodes.own whole
+  ok = table_whole (at_of nodes) (own_type nodes) (own_row nodes) nodes.cells.items nodes.merges nodes.size whole.stands
 
-  feature_in : (c : Cell) (first n : ℕ) → Has c (chain nodes.cells.items first) ⊎ Has c (slice_index_or (own_of nodes.own) n []) → c.feat < feats
+  feature_in : (c : Cell) (first n : ℕ) → Has c (chain nodes.cells.items first) ⊎ Has c (own_row nodes n) → c.feat < feats
   feature_in c first n (inl h) = within.feat_in c (chain-has nodes.cells.items first c h)
   feature_in c first n (inr h) = within.own_feat n c h
 
@@ -45,8 +44,8 @@ module _ (nodes : Nodes) (whole : IsWhole nodes) (filled : 0 < length nodes.type
           let stops : None ≡ walk (table_of nodes) n (f ∷ []) = ap (λ o. elim o as (λ _. Option ℕ) [ None ↦ None | Some i ↦ walk (table_of nodes) i [] ]) (sym is) in
           absurd (let d : None ≡ Some m = stops ∙ e in cc)
       go (Some i) is =
-          let first = slice_index_or nodes.firsts.items ((table_of nodes).live n) 0 in
-          let own = slice_index_or (own_of nodes.own) ((table_of nodes).live n) [] in
+          let first = first_of nodes ((table_of nodes).live n) in
+          let own = own_row nodes ((table_of nodes).live n) in
           let r = find_arc-has (chain nodes.cells.items first ++ own) f i is in
           let low = feature_in r.0 first ((table_of nodes).live n) (Has-either r.0 (chain nodes.cells.items first) own r.1) in
           omega (arith, low, r.2)

@@ -9,11 +9,11 @@ use Rattle.fs_graph.specs.GraphMap.{IsGraph}
 use Rattle.fs_closing.specs.declared.nodes.Nodes.{Nodes}
 use Rattle.fs_closing.specs.declared.tasks.Tasks.{Tasks}
 use Rattle.fs_unify.specs.declared.parts.Placed.{Placed}
-use Rattle.fs_closing.specs.NodeTable.{table_of}
+use Rattle.fs_closing.specs.NodeTable.{table_of, AreFlat}
 use Rattle.fs_closing.specs.Joined.{IsJoined}
 use Rattle.fs_closing.specs.Rules.{Grammar, system_of}
 use Rattle.fs_closing.specs.Work.{work_of}
-use Rattle.fs_unify.specs.Entering.{AreFlat, EntersTable, IsOwed, Entered}
+use Rattle.fs_unify.specs.Entering.{EntersTable, IsOwed, Entered}
 use Rattle.fs_unify.specs.Placing.{placed, part_of, part_in, source_of, source_in, joints, HasEntered}
 use Rattle.fs_closing.proofs.HasLemmas.{Has-left, Has-right, Has-either, Has-one, Has-map, Has-at}
 use Rattle.fs_unify.proofs.PartModel.{extended, Entered-more, Entered-none, Owed-beside, root_of_part, closes_entered}
@@ -47,17 +47,17 @@ joined_at_end y xs work = record {
         go (inr i) = inl i
 
 pub entered_more : (g : Grammar) (all first first' : List Placed) (p : Placed) (offsets offsets' : List ℕ) (o : ℕ) (nodes : Nodes) (tasks : Tasks) (nodes' : Nodes) (tasks' : Tasks) →
-    first' ≡ first ++ p ∷ [] → offsets' ≡ offsets ++ o ∷ [] → o ≡ length nodes.types.items → Has p all → IsGraph p.graph.now →
+    first' ≡ first ++ p ∷ [] → offsets' ≡ offsets ++ o ∷ [] → o ≡ nodes.size → Has p all → IsGraph p.graph.now →
     EntersTable p.graph.now (table_of nodes) (table_of nodes') →
-    IsOwed (system_of g) (length nodes.types.items) p.graph.now (work_of g.rules tasks) (work_of g.rules tasks') →
-    (AreFlat nodes.depths.items → AreFlat nodes'.depths.items) → HasEntered g all first offsets nodes tasks → HasEntered g all first' offsets' nodes' tasks'
+    IsOwed (system_of g) nodes.size p.graph.now (work_of g.rules tasks) (work_of g.rules tasks') →
+    (AreFlat nodes → AreFlat nodes') → HasEntered g all first offsets nodes tasks → HasEntered g all first' offsets' nodes' tasks'
 entered_more g all first first' p offsets offsets' o nodes tasks nodes' tasks' is is_offsets is_o has graph enters owes flat old = record {
   even = ap length is_offsets ∙ length-append offsets (o ∷ []) ∙ ap (λ n. n + 1) old.even ∙ sym (ap length is ∙ length-append first (p ∷ []));
   inside = λ k h. inside k (Has-either k offsets (o ∷ []) (subst (Has k) is_offsets h));
   flat = flat old.flat;
-  paths = extended old.paths (length nodes.types.items) (path_of p.place.items) graph.least;
+  paths = extended old.paths nodes.size (path_of p.place.items) graph.least;
   entered = subst (λ l. Entered (system_of g) (source_in all) (map part_in first') (table_of nodes') (l ++ work_of g.rules tasks')
-      (extended old.paths (length nodes.types.items) (path_of p.place.items) graph.least)) (sym all_joints) entered;
+      (extended old.paths nodes.size (path_of p.place.items) graph.least)) (sym all_joints) entered;
 }
   where
     js : List NodeClaim
@@ -69,25 +69,25 @@ entered_more g all first first' p offsets offsets' o nodes tasks nodes' tasks' i
     even_parts : length offsets ≡ length (map part_in first)
     even_parts = old.even ∙ sym (length-map first part_in)
 
-    all_joints : joints (map part_in first') offsets' ≡ joints (map part_in first) offsets ++ is_same 0 (path_of p.place.items) (length nodes.types.items) [] ∷ []
+    all_joints : joints (map part_in first') offsets' ≡ joints (map part_in first) offsets ++ is_same 0 (path_of p.place.items) nodes.size [] ∷ []
     all_joints =
         ap (λ l. joints l offsets') parts_are ∙ ap (joints (map part_in first ++ part_in p ∷ [])) (is_offsets ∙ ap (λ n. offsets ++ n ∷ []) is_o)
-        ∙ joints_push (map part_in first) offsets (part_in p) (length nodes.types.items) even_parts
+        ∙ joints_push (map part_in first) offsets (part_in p) nodes.size even_parts
 
-    inside : (k : ℕ) → Has k offsets ⊎ Has k (o ∷ []) → k < length nodes'.types.items
+    inside : (k : ℕ) → Has k offsets ⊎ Has k (o ∷ []) → k < nodes'.size
     inside k (inl h) = omega (arith, old.inside k h, enters.size_is)
     inside k (inr h) = omega (arith, Has-one k o h, is_o, enters.size_is, graph.numbered.filled)
 
     entered : Entered (system_of g) (source_in all) (map part_in first') (table_of nodes')
-        ((joints (map part_in first) offsets ++ is_same 0 (path_of p.place.items) (length nodes.types.items) [] ∷ []) ++ work_of g.rules tasks')
-        (extended old.paths (length nodes.types.items) (path_of p.place.items) graph.least)
+        ((joints (map part_in first) offsets ++ is_same 0 (path_of p.place.items) nodes.size [] ∷ []) ++ work_of g.rules tasks')
+        (extended old.paths nodes.size (path_of p.place.items) graph.least)
     entered =
-        let e = is_same 0 (path_of p.place.items) (length nodes.types.items) [] in
+        let e = is_same 0 (path_of p.place.items) nodes.size [] in
         let more = joints (map part_in first) offsets ++ e ∷ [] in
         Entered-more (system_of g) (source_in all) (path_of p.place.items) p.graph.now graph (Has-map part_in p all has) (table_of nodes) (table_of nodes') enters
         (joints (map part_in first) offsets ++ work_of g.rules tasks) (more ++ work_of g.rules tasks) (more ++ work_of g.rules tasks')
         (joined_at_end e (joints (map part_in first) offsets) (work_of g.rules tasks))
-        (Owed-beside (system_of g) (length nodes.types.items) p.graph.now more (work_of g.rules tasks) (work_of g.rules tasks') owes)
+        (Owed-beside (system_of g) nodes.size p.graph.now more (work_of g.rules tasks) (work_of g.rules tasks') owes)
         old.paths (map part_in first) old.entered (map part_in first') parts_are
 
 -- the claim of the next part
@@ -120,7 +120,7 @@ item_has xs i d h is = subst (λ x. Has x xs) (sym is) (Has-at xs i d h)
 
 -- the root alone
 pub begun : (g : Grammar) (all : List Placed) (p : Placed) (offsets : List ℕ) (one : Nodes) (tasks : Tasks) → IsBare (system_of g) → Starts (system_of g) (table_of one) →
-    AreFlat one.depths.items → Has p all → IsGraph p.graph.now → offsets ≡ [] → work_of g.rules tasks ≡ [] → HasEntered g all [] offsets one tasks
+    AreFlat one → Has p all → IsGraph p.graph.now → offsets ≡ [] → work_of g.rules tasks ≡ [] → HasEntered g all [] offsets one tasks
 begun g all p offsets one tasks bare starts flat has graph none no_work = record {
   even = ap length none;
   inside = λ o h. let i = subst (Has o) none h in elim i [ ];
@@ -130,13 +130,6 @@ begun g all p offsets one tasks bare starts flat has graph none no_work = record
       (Entered-none (system_of g) (source_in all) (table_of one) bare starts
       (root_of_part (system_of g) (source_in all) (path_of p.place.items) p.graph.now graph (Has-map part_in p all has)));
 }
-
-pub flat_by : (ds ds' : List ℕ) → ds' ≡ ds ++ 0 ∷ [] → ds ≡ [] → AreFlat ds'
-flat_by ds ds' is none n = ap (λ l. slice_index_or l n 0) (is ∙ ap (λ l. l ++ 0 ∷ []) none) ∙ go n
-  where
-    go : (n : ℕ) → ◌≡◌ {A = ℕ} (slice_index_or (0 ∷ []) n 0) 0
-    go zero = refl
-    go (suc n) = refl
 
 -- nodes that all parts entered stand for them
 pub entered_stands : (g : Grammar) (all : List Placed) (offsets : List ℕ) (nodes : Nodes) (tasks : Tasks) (e : HasEntered g all all offsets nodes tasks) →

@@ -1,5 +1,5 @@
 -- Graphs of closed nodes.
-use Rattle.std.specs.Prelude.{ℕ, ◌≡◌, ◌≢◌, ◌<◌, ◌≤◌, Bool, true, false, Option, Some, None, option_map, List, [], length, slice_index}
+use Rattle.std.specs.Prelude.{ℕ, ◌≡◌, ◌≢◌, ◌<◌, ◌≤◌, Bool, true, false, Option, Some, None, option_map, List, [], length, slice_index, slice_index_or}
 use Rattle.fs_model.specs.Claims.{Path, System, IsOrder}
 use Rattle.fs_model.specs.Sources.{Reader, Source, Told, IsUnified}
 use Rattle.fs_model.specs.Table.{Table, walk}
@@ -19,6 +19,11 @@ pub record PutsArc (feat to : ℕ) (old new : List GraphArc) : Type 0 where
   pub here : arc_to new feat ≡ Some to
   pub others : (f : ℕ) → f ≢ feat → arc_to new f ≡ arc_to old f
   pub to_in : (m : ℕ) → to < m → ((k : ℕ) → k < length old → slice_index (targets_of old) k < m) → (k : ℕ) → k < length new → slice_index (targets_of new) k < m
+
+-- the types of a table's first nodes
+pub record DrawsTypes (t : Table) (count : ℕ) (types : List ℕ) : Type 0 where
+  pub size : length types ≡ count
+  pub each : (n : ℕ) → n < count → slice_index_or types n 0 ≡ t.type_of n
 
 -- the arcs of a node that wasn't merged, by rising feature, each to the node that stands for its end
 pub record DrawsRow (t : Table) (n : ℕ) (arcs : List GraphArc) : Type 0 where

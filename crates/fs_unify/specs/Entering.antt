@@ -1,5 +1,5 @@
 -- Graphs that enter a table.
-use Rattle.std.specs.Prelude.{ℕ, ◌≡◌, ◌<◌, ◌+◌, ◌⊎◌, true, Some, List, [], length, map, slice_index_or, flat_map}
+use Rattle.std.specs.Prelude.{ℕ, ◌≡◌, ◌<◌, ◌+◌, ◌⊎◌, true, Some, List, [], length, map, flat_map}
 use Rattle.fs_model.specs.Claims.{Path, Claim, at, System, Has}
 use Rattle.fs_model.specs.Sources.{Reader, Part, Source, Told, Tells, IsGraphOf}
 use Rattle.fs_model.specs.Steps.{InTable}
@@ -9,10 +9,6 @@ use Rattle.fs_closing.specs.Rules.{Rule}
 use Rattle.fs_closing.specs.Work.{entry_claims}
 use Rattle.fs_graph.specs.declared.graph.GraphArc.{GraphArc}
 use Rattle.fs_graph.specs.GraphMap.{GraphMap, type_at, arcs_at, table_of}
-
--- no depth is above 0
-abbrev pub AreFlat : List ℕ → Type 0
-AreFlat depths = (n : ℕ) → slice_index_or depths n 0 ≡ 0
 
 -- the introducers of a node's arcs
 abbrev pub introducer_claims : System → ℕ → List GraphArc → List NodeClaim

@@ -34,7 +34,7 @@ Gathers g source nodes tasks false = IsConsistent (system_of g) (Told source) �
 abbrev pub Decides : Grammar → Nodes → Tasks → Nodes → Bool → Type 0
 Decides g nodes tasks nodes' true =
     Leads g nodes (work_of g.rules tasks) nodes' [] × IsWhole nodes' × IsWithin (count_of g.types) (length g.introducers) nodes'
-    × BoundsPaths (table_of nodes') g.path_limit × (0 < length nodes'.types.items)
+    × BoundsPaths (table_of nodes') g.path_limit × (0 < nodes'.size)
 Decides g nodes tasks nodes' false =
     (source : Source) → StandsFor g source nodes tasks → IsConsistent (system_of g) (Told source) → ⊥
 

@@ -9,12 +9,12 @@ use Rattle.fs_graph.specs.GraphMap.{GraphMap, reader_of}
 use Rattle.fs_closing.specs.declared.nodes.Nodes.{Nodes}
 use Rattle.fs_closing.specs.declared.tasks.Tasks.{Tasks}
 use Rattle.fs_unify.specs.declared.parts.Placed.{Placed}
-use Rattle.fs_closing.specs.NodeTable.{table_of}
+use Rattle.fs_closing.specs.NodeTable.{table_of, AreFlat}
 use Rattle.fs_closing.specs.Rules.{Grammar, system_of}
 use Rattle.fs_closing.specs.Work.{work_of}
 use Rattle.fs_unify.specs.declared.parts.Standing.{Standing}
 use Rattle.fs_unify.specs.declared.parts.Standing.TheVariants.{Open, Closed, Cut}
-use Rattle.fs_unify.specs.Entering.{AreFlat, Entered, IsGraphIn, IsWellFormed}
+use Rattle.fs_unify.specs.Entering.{Entered, IsGraphIn, IsWellFormed}
 use Rattle.fs_unify.specs.Owing.{Owing, owes_all, owes_nothing, owes_rules, OwesOnly}
 
 -- a graph at a path, and what it is said to owe
@@ -65,7 +65,7 @@ pub record IsAnswerIn (g : Grammar) (graph : GraphMap) : Type 0 where
 -- the first parts have entered nodes and tasks, from these numbers on
 pub record HasEntered (g : Grammar) (all first : List Placed) (offsets : List ℕ) (nodes : Nodes) (tasks : Tasks) : Type 0 where
   pub even : length offsets ≡ length first
-  pub inside : (o : ℕ) → Has o offsets → o < length nodes.types.items
-  pub flat : AreFlat nodes.depths.items
+  pub inside : (o : ℕ) → Has o offsets → o < nodes.size
+  pub flat : AreFlat nodes
   pub paths : ℕ → Path
   pub entered : Entered (system_of g) (source_in all) (map part_in first) (table_of nodes) (joints (map part_in first) offsets ++ work_of g.rules tasks) paths

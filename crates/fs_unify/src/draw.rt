@@ -1,17 +1,16 @@
 //! The graph of closed nodes.
 
-ghost use Rattle.std.specs.Prelude.{◌≡◌, ℕ, ◌<◌, ◌≤◌, ◌∷◌, [], length, map, None, Some, IfOk, OnOk, option_map, slice_index, slice_index_or};
+ghost use Rattle.std.specs.Prelude.{◌≡◌, ℕ, ◌<◌, ◌≤◌, ◌∷◌, [], length, map, None, Some, IfOk, OnOk, option_map, slice_index};
 ghost use Rattle.fs_graph.specs.GraphMap.{arc_to, Rises, reader_of};
 ghost use Rattle.fs_graph.specs.Visits.{feats_of, targets_of};
 ghost use Rattle.fs_closing.specs.Cells.{find_arc};
-ghost use Rattle.fs_closing.specs.OwnRows.{own_of};
-ghost use Rattle.fs_closing.specs.NodeTable.{table_of, IsWhole, IsWithin};
+ghost use Rattle.fs_closing.specs.NodeTable.{table_of, own_row, IsWhole, IsWithin};
 ghost use Rattle.fs_closing.specs.Keeps.{deep_of};
 ghost use Rattle.fs_unify.specs.Entering.{IsGraphIn};
-ghost use Rattle.fs_unify.specs.Drawing.{PutsArc, DrawsRow, DrawsRows, IsPictureIn, Shows, Answers};
+ghost use Rattle.fs_unify.specs.Drawing.{PutsArc, DrawsTypes, DrawsRow, DrawsRows, IsPictureIn, Shows, Answers};
 
 use crate::NoMemory;
-use fs_closing::nodes::{Nodes, live};
+use fs_closing::nodes::{Nodes, first_of, live, ty_of};
 use fs_graph::{Clash, Graph, GraphArc, Node, Order, graph_of, order_in};
 use fs_paths::Feat;
 use std::alloc::Global;
@@ -48,15 +47,15 @@ fn put_arc(row: &mut Vec<GraphArc>, feat: Feat, to: Node) -> Result<(), NoMemory
 // An empty row gets the arcs that a node has from its graph.
 fn draw_own(row: &mut Vec<GraphArc>, nodes: &Nodes, n: u32) -> Result<(), NoMemory>
     requires whole { IsWhole nodes.now }
-    requires node { n < length nodes.now.types.items }
+    requires node { n < nodes.now.size }
     requires empty { row.old.items ≡ [] }
     ensures rises { OnOk result (Rises row.new.items) }
-    ensures here { OnOk result ((f : ℕ) → arc_to row.new.items f ≡ option_map (table_of nodes.now).live (find_arc (slice_index_or (own_of nodes.now.own) n []) f)) }
-    ensures to_in { OnOk result ((k : ℕ) → k < length row.new.items → slice_index (targets_of row.new.items) k < length nodes.now.types.items) }
+    ensures here { OnOk result ((f : ℕ) → arc_to row.new.items f ≡ option_map (table_of nodes.now).live (find_arc (own_row nodes.now n) f)) }
+    ensures to_in { OnOk result ((k : ℕ) → k < length row.new.items → slice_index (targets_of row.new.items) k < nodes.now.size) }
 {
     for i in 0..nodes.own.count(n) {
         let cell = nodes.own.cell(n, i);
-        let to = live(&nodes.forwards, cell.to);
+        let to = live(nodes, cell.to);
         put_arc(row, Feat(cell.feat), Node(to))?;
     }
     Ok(())
@@ -65,18 +64,18 @@ fn draw_own(row: &mut Vec<GraphArc>, nodes: &Nodes, n: u32) -> Result<(), NoMemo
 // A row with the arcs that a node has from its graph gets those that were added.
 fn draw_cells(row: &mut Vec<GraphArc>, nodes: &Nodes, n: u32) -> Result<(), NoMemory>
     requires whole { IsWhole nodes.now }
-    requires node { n < length nodes.now.types.items }
+    requires node { n < nodes.now.size }
     requires rises { Rises row.old.items }
-    requires own { (f : ℕ) → arc_to row.old.items f ≡ option_map (table_of nodes.now).live (find_arc (slice_index_or (own_of nodes.now.own) n []) f) }
-    requires to_in { (k : ℕ) → k < length row.old.items → slice_index (targets_of row.old.items) k < length nodes.now.types.items }
+    requires own { (f : ℕ) → arc_to row.old.items f ≡ option_map (table_of nodes.now).live (find_arc (own_row nodes.now n) f) }
+    requires to_in { (k : ℕ) → k < length row.old.items → slice_index (targets_of row.old.items) k < nodes.now.size }
     ensures rises { OnOk result (Rises row.new.items) }
     ensures here { OnOk result ((f : ℕ) → arc_to row.new.items f ≡ option_map (table_of nodes.now).live ((table_of nodes.now).arc n f)) }
-    ensures to_in { OnOk result ((k : ℕ) → k < length row.new.items → slice_index (targets_of row.new.items) k < length nodes.now.types.items) }
+    ensures to_in { OnOk result ((k : ℕ) → k < length row.new.items → slice_index (targets_of row.new.items) k < nodes.now.size) }
 {
-    let mut place = nodes.firsts[n as usize];
+    let mut place = first_of(nodes, n);
     while place != 0 {
         let cell = nodes.cells[place as usize - 1];
-        let to = live(&nodes.forwards, cell.to);
+        let to = live(nodes, cell.to);
         put_arc(row, Feat(cell.feat), Node(to))?;
         place = cell.next;
     }
@@ -86,11 +85,11 @@ fn draw_cells(row: &mut Vec<GraphArc>, nodes: &Nodes, n: u32) -> Result<(), NoMe
 // An empty row gets the arcs of a node.
 fn draw_arcs(row: &mut Vec<GraphArc>, nodes: &Nodes, n: u32) -> Result<(), NoMemory>
     requires whole { IsWhole nodes.now }
-    requires node { n < length nodes.now.types.items }
+    requires node { n < nodes.now.size }
     requires empty { row.old.items ≡ [] }
     ensures rises { OnOk result (Rises row.new.items) }
     ensures here { OnOk result ((f : ℕ) → arc_to row.new.items f ≡ option_map (table_of nodes.now).live ((table_of nodes.now).arc n f)) }
-    ensures to_in { OnOk result ((k : ℕ) → k < length row.new.items → slice_index (targets_of row.new.items) k < length nodes.now.types.items) }
+    ensures to_in { OnOk result ((k : ℕ) → k < length row.new.items → slice_index (targets_of row.new.items) k < nodes.now.size) }
 {
     draw_own(row, nodes, n)?;
     draw_cells(row, nodes, n)?;
@@ -100,11 +99,11 @@ fn draw_arcs(row: &mut Vec<GraphArc>, nodes: &Nodes, n: u32) -> Result<(), NoMem
 // A row becomes that of a node: its arcs, and none where it was merged.
 fn draw_row(row: &mut Vec<GraphArc>, nodes: &Nodes, n: u32) -> Result<(), NoMemory>
     requires whole { IsWhole nodes.now }
-    requires node { n < length nodes.now.types.items }
+    requires node { n < nodes.now.size }
     ensures { OnOk result (DrawsRow (table_of nodes.now) n row.new.items) }
 {
     row.clear();
-    if nodes.forwards[n as usize] == n {
+    if live(nodes, n) == n {
         draw_arcs(row, nodes, n)?;
     }
     Ok(())
@@ -127,9 +126,9 @@ fn draw_rows(
     requires whole { IsWhole nodes.now }
     requires starts { starts.old.items ≡ 0 ∷ [] }
     requires arcs { arcs.old.items ≡ [] }
-    ensures { OnOk result (DrawsRows (table_of nodes.now) (length nodes.now.types.items) starts.new.items arcs.new.items) }
+    ensures { OnOk result (DrawsRows (table_of nodes.now) nodes.now.size starts.new.items arcs.new.items) }
 {
-    for n in 0..nodes.types.len() as u32 {
+    for n in 0..nodes.size {
         draw_row(row, nodes, n)?;
         arcs.extend_from_slice(row)?;
         starts.push(place(arcs)?)?;
@@ -139,11 +138,12 @@ fn draw_rows(
 
 // The types of all nodes.
 fn draw_types(types: &mut Vec<Ty>, nodes: &Nodes) -> Result<(), NoMemory>
-    requires { types.old.items ≡ [] }
-    ensures { OnOk result (map (λ t. t.0) types.new.items ≡ nodes.now.types.items) }
+    requires whole { IsWhole nodes.now }
+    requires empty { types.old.items ≡ [] }
+    ensures { OnOk result (DrawsTypes (table_of nodes.now) nodes.now.size (map (λ t. t.0) types.new.items)) }
 {
-    for ty in &nodes.types {
-        types.push(Ty(*ty))?;
+    for n in 0..nodes.size {
+        types.push(Ty(ty_of(nodes, n)))?;
     }
     Ok(())
 }
@@ -175,7 +175,7 @@ impl Picture {
 /// longer than the limit.
 pub fn draw(picture: &mut Picture, nodes: &Nodes, limit: u32) -> Result<bool, NoMemory>
     requires whole { IsWhole nodes.now }
-    requires filled { 0 < length nodes.now.types.items }
+    requires filled { 0 < nodes.now.size }
     ensures { IfOk result (Shows nodes.now limit picture.new) }
 {
     picture.types.clear();
@@ -214,7 +214,7 @@ pub fn graph_from(
     picture: &Picture,
 ) -> Result<Graph, NoMemory>
     requires whole { IsWhole nodes.now }
-    requires filled { 0 < length nodes.now.types.items }
+    requires filled { 0 < nodes.now.size }
     requires picture { IsPictureIn (table_of nodes.now) limit picture.now }
     ensures answers { IfOk result (λ g. Answers (deep_of nodes.now) limit (Some (reader_of g))) }
     ensures inside { IfOk result (λ g. (types feats : ℕ) → IsWithin types feats nodes.now → IsGraphIn types feats g) }

@@ -3,8 +3,8 @@
 ghost use Rattle.std.specs.Prelude.{◌≡◌, ℕ, ◌+◌, ◌<◌, ◌≤◌, ◌^◌, List, length, IfOk, OnOk};
 ghost use Rattle.fs_model.specs.Claims.{Has, IsBare};
 ghost use Rattle.fs_graph.specs.declared.graph.GraphArc.{GraphArc};
-ghost use Rattle.fs_closing.specs.NodeTable.{table_of};
-ghost use Rattle.fs_unify.specs.Entering.{AreFlat, IsGraphIn, EntersTable, Owes, IsOwed, introducer_claims, rules_claims};
+ghost use Rattle.fs_closing.specs.NodeTable.{table_of, AreFlat};
+ghost use Rattle.fs_unify.specs.Entering.{IsGraphIn, EntersTable, Owes, IsOwed, introducer_claims, rules_claims};
 ghost use Rattle.fs_unify.specs.Owing.{OwesRules, OwesOnly};
 ghost use Rattle.fs_unify.specs.Placing.{owing_of};
 ghost use Rattle.type_hierarchy.specs.Table.{count_of};
@@ -128,10 +128,10 @@ pub fn enter(
     requires sound { AreSound system.now nodes.old tasks.old }
     requires graph { IsGraphIn (count_of system.now.types) (length system.now.introducers) graph.now }
     requires owes { OwesOnly system.now graph.now (owing_of standing) }
-    ensures place { IfOk result (λ o. o ≡ length nodes.old.types.items) }
+    ensures place { IfOk result (λ o. o ≡ nodes.old.size) }
     ensures enters { OnOk result (EntersTable graph.now (table_of nodes.old) (table_of nodes.new)) }
-    ensures owed { OnOk result (IsOwed (system_of system.now) (length nodes.old.types.items) graph.now (work_of system.now.rules tasks.old) (work_of system.now.rules tasks.new)) }
-    ensures flat { OnOk result (AreFlat nodes.old.depths.items → AreFlat nodes.new.depths.items) }
+    ensures owed { OnOk result (IsOwed (system_of system.now) nodes.old.size graph.now (work_of system.now.rules tasks.old) (work_of system.now.rules tasks.new)) }
+    ensures flat { OnOk result (AreFlat nodes.old → AreFlat nodes.new) }
     ensures sound { OnOk result (AreSound system.now nodes.new tasks.new) }
 {
     let offset = add_graph(nodes, graph)?;

@@ -26,8 +26,17 @@ impl Scratch {
     pub fn new(alloc: Global) -> Scratch
         ensures { room_of result ≡ 0 }
     {
+        Scratch::aged(alloc, 1)
+    }
+
+    /// The same, at a generation, which each call on graphs or facts counts up: at the first one for 0. The answers are those of
+    /// every other scratch. After the greatest generation the first one comes again, which a new scratch would meet after
+    /// some four billion calls.
+    pub fn aged(alloc: Global, generation: u32) -> Scratch
+        ensures { room_of result ≡ 0 }
+    {
         Scratch {
-            nodes: Nodes::new(alloc),
+            nodes: Nodes::aged(alloc, generation),
             tasks: Tasks::new(alloc),
             offsets: Vec::new(alloc),
             picture: Picture::new(alloc),

@@ -8,7 +8,7 @@ ghost use Rattle.fs_model.specs.Table.{from};
 ghost use Rattle.fs_paths.specs.Facts.{claims_of};
 ghost use Rattle.fs_graph.specs.GraphMap.{reader_of};
 ghost use Rattle.fs_closing.specs.Rules.{system_of, IsClaimIn};
-ghost use Rattle.fs_closing.specs.NodeTable.{IsWhole, IsWithin};
+ghost use Rattle.fs_closing.specs.NodeTable.{IsWhole, IsWithin, AreFlat};
 ghost use Rattle.fs_closing.specs.Work.{work_of, AreReady};
 ghost use Rattle.fs_closing.specs.Keeps.{AreSound, StepsTo};
 ghost use Rattle.fs_unify.specs.Entering.{IsGraphIn};
@@ -36,7 +36,7 @@ fn apply_all(
 ) -> Result<bool, NoMemory>
     requires bare { IsBare (system_of system.now) }
     requires sound { AreSound system.now nodes.old tasks.old }
-    requires filled { 0 < length nodes.old.types.items }
+    requires filled { 0 < nodes.old.size }
     requires facts { (c : Claim) → Has c (claims_of facts.now) → IsClaimIn (count_of system.now.types) (length system.now.introducers) c }
     ensures { IfOk result (StepsTo system.now nodes.old (map (from 0) (claims_of facts.now) ++ work_of system.now.rules tasks.old) nodes.new tasks.new) }
 {
@@ -58,8 +58,8 @@ fn gather_facts(
 ) -> Result<bool, NoMemory>
     requires bare { IsBare (system_of system.now) }
     requires whole { IsWhole nodes.old }
-    requires no_nodes { nodes.old.types.items ≡ [] }
-    requires no_depths { nodes.old.depths.items ≡ [] }
+    requires no_nodes { nodes.old.size ≡ 0 }
+    requires flat { AreFlat nodes.old }
     requires within { (types feats : ℕ) → IsWithin types feats nodes.old }
     requires no_work { work_of system.now.rules tasks.old ≡ [] }
     requires ready { (size types rules : ℕ) → AreReady size types rules tasks.old }
@@ -132,8 +132,8 @@ fn structure(
     requires order { IsOrder (system_of system.now) }
     requires bare { IsBare (system_of system.now) }
     requires whole { IsWhole nodes.old }
-    requires no_nodes { nodes.old.types.items ≡ [] }
-    requires no_depths { nodes.old.depths.items ≡ [] }
+    requires no_nodes { nodes.old.size ≡ 0 }
+    requires flat { AreFlat nodes.old }
     requires within { (types feats : ℕ) → IsWithin types feats nodes.old }
     requires no_work { work_of system.now.rules tasks.old ≡ [] }
     requires ready { (size types rules : ℕ) → AreReady size types rules tasks.old }

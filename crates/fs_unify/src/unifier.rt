@@ -7,7 +7,7 @@ ghost use Rattle.fs_model.specs.Sources.{Told, IsUnified};
 ghost use Rattle.fs_graph.specs.GraphMap.{reader_of};
 ghost use Rattle.fs_unify.specs.declared.parts.Placed.{Placed};
 ghost use Rattle.fs_closing.specs.Rules.{system_of};
-ghost use Rattle.fs_closing.specs.NodeTable.{IsWhole, IsWithin};
+ghost use Rattle.fs_closing.specs.NodeTable.{IsWhole, IsWithin, AreFlat};
 ghost use Rattle.fs_closing.specs.Work.{work_of, AreReady};
 ghost use Rattle.fs_closing.specs.Keeps.{AreSound, StepsTo};
 ghost use Rattle.fs_unify.specs.Given.{Gathers};
@@ -60,10 +60,10 @@ fn connect(
 ) -> Result<bool, NoMemory>
     requires bare { IsBare (system_of system.now) }
     requires sound { AreSound system.now nodes.old tasks.old }
-    requires filled { 0 < length nodes.old.types.items }
+    requires filled { 0 < nodes.old.size }
     requires parts { (p : Placed) → Has p parts.now → IsPlacedIn system.now (placed p) }
     requires even { length offsets.now ≡ length parts.now }
-    requires offsets { (o : ℕ) → Has o offsets.now → o < length nodes.old.types.items }
+    requires offsets { (o : ℕ) → Has o offsets.now → o < nodes.old.size }
     ensures { IfOk result (StepsTo system.now nodes.old (joints (map part_in parts.now) offsets.now ++ work_of system.now.rules tasks.old) nodes.new tasks.new) }
 {
     for i in 0..parts.len() {
@@ -85,8 +85,8 @@ fn gather(
 ) -> Result<bool, NoMemory>
     requires bare { IsBare (system_of system.now) }
     requires whole { IsWhole nodes.old }
-    requires no_nodes { nodes.old.types.items ≡ [] }
-    requires no_depths { nodes.old.depths.items ≡ [] }
+    requires no_nodes { nodes.old.size ≡ 0 }
+    requires flat { AreFlat nodes.old }
     requires within { (types feats : ℕ) → IsWithin types feats nodes.old }
     requires no_work { work_of system.now.rules tasks.old ≡ [] }
     requires ready { (size types rules : ℕ) → AreReady size types rules tasks.old }
@@ -117,8 +117,8 @@ fn unified(
     requires order { IsOrder (system_of system.now) }
     requires bare { IsBare (system_of system.now) }
     requires whole { IsWhole nodes.old }
-    requires no_nodes { nodes.old.types.items ≡ [] }
-    requires no_depths { nodes.old.depths.items ≡ [] }
+    requires no_nodes { nodes.old.size ≡ 0 }
+    requires flat { AreFlat nodes.old }
     requires within { (types feats : ℕ) → IsWithin types feats nodes.old }
     requires no_work { work_of system.now.rules tasks.old ≡ [] }
     requires ready { (size types rules : ℕ) → AreReady size types rules tasks.old }
@@ -147,8 +147,8 @@ fn consistent(
     requires order { IsOrder (system_of system.now) }
     requires bare { IsBare (system_of system.now) }
     requires whole { IsWhole nodes.old }
-    requires no_nodes { nodes.old.types.items ≡ [] }
-    requires no_depths { nodes.old.depths.items ≡ [] }
+    requires no_nodes { nodes.old.size ≡ 0 }
+    requires flat { AreFlat nodes.old }
     requires within { (types feats : ℕ) → IsWithin types feats nodes.old }
     requires no_work { work_of system.now.rules tasks.old ≡ [] }
     requires ready { (size types rules : ℕ) → AreReady size types rules tasks.old }

@@ -45,7 +45,8 @@ fn named<'a>(made: &'a [Graph], drawn: &'a [Graph], word: &str) -> Option<&'a Gr
 }
 
 // `structure LINES` makes a structure of facts, `unify A PATH B` unifies two; `graph TYPES / ARCS` draws one. `same A B`,
-// `subsumes A B` and `text`, `nodes`, `at` and `arcs` ask them. `room COUNT` makes room.
+// `subsumes A B` and `text`, `nodes`, `at` and `arcs` ask them. `room COUNT` makes room. `aged GENERATION` makes the scratch of the
+// steps from there on.
 fn answer(
     alloc: Global,
     system: &TypeSystem,
@@ -63,6 +64,10 @@ fn answer(
         "unify" => unification(alloc, &mut rows.scratch, system, &mut rows.made, rest),
         "graph" => draw(alloc, system.types(), &mut rows.drawn, rest),
         "room" => room(alloc, number(rest)),
+        "aged" => {
+            rows.scratch = Scratch::aged(alloc, number(rest));
+            String::from_str(alloc, "made")
+        }
         _ => {
             let scratch = &mut rows.scratch;
             told(

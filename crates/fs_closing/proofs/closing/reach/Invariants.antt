@@ -1,4 +1,4 @@
-use Rattle.std.proofs.Common.{◌<◌, ◌≤◌, ◌∷◌, length, drop}
+use Rattle.std.proofs.Common.{◌<◌, ◌≤◌, ◌∷◌, drop}
 use Rattle.fs_model.specs.Table.{NodeClaim}
 use Rattle.fs_paths.specs.Facts.{path_of}
 use Rattle.fs_closing.specs.Work.{work_of}
@@ -11,6 +11,6 @@ invariant-loop-feat l =
       leads : (c : NodeClaim) → Leads l.fn.system l.fn.nodes (begin l.fn.node (path_of l.fn.path) c ∷ work_of l.fn.system.rules l.fn.tasks)
           l.nodes (begin l.at (drop l.feat-index (path_of l.path)) c ∷ work_of l.system.rules l.tasks);
       sound : AreSound l.system l.nodes l.tasks;
-      node : l.at < length l.nodes.types.items;
-      more : length l.fn.nodes.types.items ≤ length l.nodes.types.items;
+      node : l.at < l.nodes.size;
+      more : l.fn.nodes.size ≤ l.nodes.size;
     }

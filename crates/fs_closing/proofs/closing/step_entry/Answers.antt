@@ -1,11 +1,14 @@
-use Rattle.std.proofs.Common.{◌<◌, ◌+◌, ◌∷◌, [], length, sym, ◌∙◌, ap, arith}
+use Rattle.std.proofs.Common.{◌<◌, ◌≤◌, ◌+◌, ◌∷◌, ◌++◌, [], length, slice_index_or, sym, ◌∙◌, ap, subst, arith}
+use Rattle.std.proofs.lemmas.List.{length-map}
 use Rattle.fs_model.specs.Claims.{Claim, exists_at}
 use Rattle.fs_model.specs.Table.{from}
 use Rattle.fs_paths.specs.Facts.{claim_of}
 use Rattle.fs_closing.specs.declared.tasks.Entry.{Entry}
+use Rattle.fs_closing.specs.Rules.{system_of, no_rule}
 use Rattle.fs_closing.specs.Work.{entry_claims, work_of}
+use Rattle.fs_closing.specs.Keeps.{Turns, deep_of}
 use Rattle.fs_closing.proofs.ClosingLemmas.{fact_at, fact_has}
-use Rattle.fs_closing.proofs.StepLemmas.{entry_step, entry_same, steps_order}
+use Rattle.fs_closing.proofs.StepLemmas.{Turns-none, entry_step, entry_ends, entry_same, steps_order}
 use Rattle.fs_closing.proofs.ToldLemmas.{entry_told}
 use Rattle.fs_closing.proofs.closing.step_entry.Goals as goal
 
@@ -14,6 +17,18 @@ apply-requires-clause-fact c =
     let within : c.args.entry.from < length c.facts-facts.result.now = omega (arith, c.if-entry-facts.false) in
     c.facts-facts.ensures.within (claim_of c.index-facts-entry.result)
     (fact_has c.facts-facts.result.now c.args.entry.from c.index-facts-entry.result within c.index-facts-entry.is)
+
+pub returns-then-entry-facts : goal.returns-then-entry-facts
+returns-then-entry-facts c =
+    let g = c.args.system.now in
+    let work = work_of g.rules c.args.tasks.now in
+    let past : length (slice_index_or g.rules c.args.entry.rule no_rule).claims ≤ c.args.entry.from =
+    omega (arith, ap length c.facts-facts.ensures.value, length-map c.facts-facts.result.now claim_of, c.if-entry-facts.true) in
+    let none = entry_ends g.rules c.args.entry.node c.args.entry.rule c.args.entry.from past in (
+      subst (λ l. Turns (system_of g) (deep_of c.args.nodes.now) (l ++ work) (deep_of c.args.nodes.now) work) (sym none)
+          (Turns-none (system_of g) (deep_of c.args.nodes.now) work),
+      c.requires.sound,
+    )
 
 pub returns : goal.returns
 returns c =

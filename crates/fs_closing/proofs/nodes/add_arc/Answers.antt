@@ -1,33 +1,62 @@
-use Rattle.std.proofs.Common.{◌≡◌, ◌<◌, ◌+◌, ◌^◌, length, slice_index_or, refl, ◌∙◌, arith}
-use Rattle.std.proofs.lemmas.List.{get_or_default}
-use Rattle.fs_closing.proofs.HasLemmas.{each_push}
+use Rattle.std.proofs.Common.{◌≡◌, ◌<◌, ◌+◌, ◌^◌, length, refl, sym, ap, subst, arith}
+use Rattle.fs_closing.specs.Marked.{written_at, type_by, depth_by}
+use Rattle.fs_closing.specs.NodeTable.{at_of, own_type, own_row, AreWhole, AreWithin}
 use Rattle.fs_closing.proofs.ChainLemmas.{chain-push_old}
-use Rattle.fs_closing.proofs.NodeLemmas.{whole_linked}
+use Rattle.fs_closing.proofs.MarkLemmas.{read_same, live_linked, table_linked, whole_linked, within_linked}
 use Rattle.fs_closing.proofs.nodes.add_arc.Goals as goal
+
+pub returns-clause-links : goal.returns-clause-links
+returns-clause-links c =
+    let nodes = c.args.nodes.now in
+    let stood = c.stands-old.ensures in
+    let place : c.len-place.result + 1 ≡ length c.args.nodes.now.cells.items + 1 = omega (arith, c.len-place.ensures, nodes.cells.ok) in
+    rw c.in_ok-push.ensures.items
+    (table_linked (at_of nodes) (written_at c.write.new.self) (own_type nodes) (own_row nodes) nodes.cells.items nodes.merges nodes.size c.requires.whole.stands
+    c.args.n c.args.feat c.args.to c.stands-old.result.first _ c.requires.node c.requires.to c.write.ensures.here c.write.ensures.others
+    (ap (λ w. w.first) stood) (ap (λ w. w.forward) stood) (ap (λ w. w.ty) stood) place c.requires.no_arc)
 
 pub returns-clause-whole : goal.returns-clause-whole
 returns-clause-whole c =
-    let place : c.len-place.result ≡ length c.args.nodes.now.cells.items = omega (arith, c.len-place.ensures, c.args.nodes.now.cells.ok) in
-    let room : length c.args.nodes.now.cells.items + 1 < 2 ^ 32 = omega (arith, place, c.if-place.false) in
-    let n_in : c.args.n < length c.args.nodes.now.firsts.items = omega (arith, c.requires.node, c.requires.whole.firsts_even) in
-    let next : c.index-next.result.now ≡ slice_index_or c.args.nodes.now.firsts.items c.args.n 0 =
-    c.index-next.ensures ∙ get_or_default c.args.nodes.now.firsts.items c.args.n _ 0 n_in in
-    rw (place, c.in_ok-push.ensures.items, next)
-    (whole_linked _ _ _ _ _ _ c.requires.whole c.args.n c.args.feat c.args.to c.requires.node c.requires.to c.requires.no_arc room)
-
-pub returns-clause-arcs : goal.returns-clause-arcs
-returns-clause-arcs c = record {
-  types = refl;
-  forwards = refl;
-  depths = refl;
-  own = refl;
-  more = omega (arith, c.in_ok-push.ensures.len, c.args.nodes.now.cells.ok, c.push.new.self.ok);
-  chains = λ place h. rw c.in_ok-push.ensures.items (chain-push_old c.args.nodes.now.cells.items _ place h);
-}
+    let nodes = c.args.nodes.now in
+    let stood = c.stands-old.ensures in
+    let place : c.len-place.result + 1 ≡ length c.args.nodes.now.cells.items + 1 = omega (arith, c.len-place.ensures, nodes.cells.ok) in
+    let room : length c.args.nodes.now.cells.items + 1 < 2 ^ 32 = omega (arith, c.len-place.ensures, nodes.cells.ok, c.if-place.false) in
+    record {
+      stands = subst (λ l. AreWhole (written_at c.write.new.self) (own_row nodes) l nodes.merges nodes.size) (sym c.in_ok-push.ensures.items)
+          (whole_linked (at_of nodes) (written_at c.write.new.self) (own_type nodes) (own_row nodes) nodes.cells.items nodes.merges nodes.size c.requires.whole.stands
+          c.args.n c.args.feat c.args.to c.stands-old.result.first _ c.requires.node c.requires.to c.write.ensures.here c.write.ensures.others
+          (ap (λ w. w.first) stood) (ap (λ w. w.forward) stood) (ap (λ w. w.ty) stood) place c.requires.no_arc room);
+      enough = omega (arith, c.requires.whole.enough, c.write.ensures.size);
+      own_even = c.requires.whole.own_even;
+      types_even = c.requires.whole.types_even;
+      own_rows = c.requires.whole.own_rows;
+    }
 
 pub returns-clause-within : goal.returns-clause-within
-returns-clause-within c = λ types feats h old. record {
-  type_in = old.type_in;
-  feat_in = each_push (λ x. x.feat < feats) _ _ _ c.in_ok-push.ensures.items old.feat_in h;
-  own_feat = old.own_feat;
-}
+returns-clause-within c = λ types feats low old.
+    let nodes = c.args.nodes.now in
+    let stood = c.stands-old.ensures in
+    let place : c.len-place.result + 1 ≡ length c.args.nodes.now.cells.items + 1 = omega (arith, c.len-place.ensures, nodes.cells.ok) in
+    subst (λ l. AreWithin types feats (λ k. type_by (own_type nodes k) (written_at c.write.new.self k)) (own_row nodes) l nodes.size) (sym c.in_ok-push.ensures.items)
+    (within_linked (at_of nodes) (written_at c.write.new.self) (own_type nodes) (own_row nodes) nodes.cells.items nodes.merges nodes.size c.requires.whole.stands
+    c.args.n c.args.feat c.args.to c.stands-old.result.first _ c.requires.node c.requires.to c.write.ensures.here c.write.ensures.others
+    (ap (λ w. w.first) stood) (ap (λ w. w.forward) stood) (ap (λ w. w.ty) stood) place c.requires.no_arc types feats low old)
+
+pub returns-clause-keeps : goal.returns-clause-keeps
+returns-clause-keeps c =
+    let nodes = c.args.nodes.now in
+    let stood = c.stands-old.ensures in
+    let place : c.len-place.result + 1 ≡ length c.args.nodes.now.cells.items + 1 = omega (arith, c.len-place.ensures, nodes.cells.ok) in
+    record {
+      arcs = record {
+        size = refl;
+        live = live_linked (at_of nodes) (written_at c.write.new.self) (own_type nodes) (own_row nodes) nodes.cells.items nodes.merges nodes.size c.requires.whole.stands
+            c.args.n c.args.feat c.args.to c.stands-old.result.first _ c.requires.node c.requires.to c.write.ensures.here c.write.ensures.others
+            (ap (λ w. w.first) stood) (ap (λ w. w.forward) stood) (ap (λ w. w.ty) stood) place c.requires.no_arc;
+        own = λ k. refl;
+        more = omega (arith, c.in_ok-push.ensures.len, c.args.nodes.now.cells.ok, c.push.new.self.ok);
+        chains = λ place h. rw c.in_ok-push.ensures.items (chain-push_old c.args.nodes.now.cells.items _ place h);
+      };
+      depths = read_same (at_of nodes) (written_at c.write.new.self) c.args.n _ c.write.ensures.here c.write.ensures.others (λ _. depth_by)
+          (ap (λ w. w.depth) stood);
+    }

@@ -1,23 +1,50 @@
-use Rattle.std.proofs.Common.{◌≡◌, ◌<◌, ◌+◌, ◌^◌, ℕ, [], ◌∷◌, ◌++◌, length, ◌∙◌, ap, arith}
-use Rattle.fs_closing.proofs.NodeLemmas.{table_added, whole_added, within_added}
+use Rattle.std.proofs.Common.{◌<◌, ◌+◌, ◌^◌, slice_index_or, [], refl, ◌∙◌, ap, arith}
+use Rattle.fs_closing.specs.Marked.{written_at, depth_by}
+use Rattle.fs_closing.specs.OwnRows.{own_of, types_of}
+use Rattle.fs_closing.specs.NodeTable.{at_of, own_type, own_row}
+use Rattle.fs_closing.proofs.ListLemmas.{push_default, types_pushed}
+use Rattle.fs_closing.proofs.WiderLemmas.{table_added, whole_added, within_added}
 use Rattle.fs_closing.proofs.nodes.add_node.Goals as goal
+
+pub write-requires : goal.write-requires
+write-requires c = let more = c.in_ok-widen.ensures.room in omega (arith, more)
 
 pub returns-clause-adds : goal.returns-clause-adds
 returns-clause-adds c =
-    let place : c.len-place.result ≡ length c.args.nodes.now.forwards.items =
-    omega (arith, c.len-place.ensures, c.args.nodes.now.types.ok, c.requires.forwards_even) in
-    let forwards = c.in_ok-push-2.ensures.items ∙ ap (λ (x : ℕ). c.args.nodes.now.forwards.items ++ x ∷ []) place in
-    rw (c.in_ok-push.ensures.items, forwards, c.in_ok-push-4.ensures.items, c.in_ok-push_none.ensures.rows) (table_added _ _ _ _ _ _ c.requires c.args.ty)
+    let nodes = c.args.nodes.now in
+    table_added (at_of nodes) (written_at c.write.new.self) (own_type nodes) (λ k. slice_index_or (types_of c.push_none.new.self) k 0) (own_row nodes)
+    (λ k. slice_index_or (own_of c.push_none.new.self) k []) nodes.cells.items nodes.merges nodes.size c.requires.stands _ c.write.ensures.here
+    (λ k e. c.write.ensures.others k e ∙ c.in_ok-widen.ensures.kept k)
+    (λ k. ap (λ l. slice_index_or l k []) c.in_ok-push_none.ensures.rows ∙ push_default (own_of nodes.own) [] k)
+    (λ k. ap (λ l. slice_index_or l k 0) c.in_ok-push_none.ensures.types ∙ push_default (types_of nodes.own) 0 k) refl refl
 
 pub returns-clause-whole : goal.returns-clause-whole
 returns-clause-whole c =
-    let place : c.len-place.result ≡ length c.args.nodes.now.forwards.items =
-    omega (arith, c.len-place.ensures, c.args.nodes.now.types.ok, c.requires.forwards_even) in
-    let forwards = c.in_ok-push-2.ensures.items ∙ ap (λ (x : ℕ). c.args.nodes.now.forwards.items ++ x ∷ []) place in
-    let room : length c.args.nodes.now.types.items + 1 < 2 ^ 32 = omega (arith, c.len-place.ensures, c.args.nodes.now.types.ok, c.if-place.false) in
-    rw (c.in_ok-push.ensures.items, forwards, c.in_ok-push-3.ensures.items, c.in_ok-push-4.ensures.items)
-    (whole_added _ _ _ _ _ _ c.requires c.args.ty c.args.depth _ c.in_ok-push_none.ensures.rows c.in_ok-push_none.ensures.size c.in_ok-push_none.ensures.whole room)
+    let nodes = c.args.nodes.now in
+    let room : c.args.nodes.now.size + 1 < 2 ^ 32 = omega (arith, c.requires.stands.small, c.if-n.false) in
+    record {
+      stands = whole_added (at_of nodes) (written_at c.write.new.self) (own_type nodes) (λ k. slice_index_or (types_of c.push_none.new.self) k 0) (own_row nodes)
+          (λ k. slice_index_or (own_of c.push_none.new.self) k []) nodes.cells.items nodes.merges nodes.size c.requires.stands _ c.write.ensures.here
+          (λ k e. c.write.ensures.others k e ∙ c.in_ok-widen.ensures.kept k)
+          (λ k. ap (λ l. slice_index_or l k []) c.in_ok-push_none.ensures.rows ∙ push_default (own_of nodes.own) [] k)
+          (λ k. ap (λ l. slice_index_or l k 0) c.in_ok-push_none.ensures.types ∙ push_default (types_of nodes.own) 0 k) refl refl room;
+      enough = omega (arith, c.in_ok-widen.ensures.room, c.write.ensures.size);
+      own_even = omega (arith, c.in_ok-push_none.ensures.size, c.requires.own_even);
+      types_even = types_pushed (types_of nodes.own) (types_of c.push_none.new.self) nodes.size c.in_ok-push_none.ensures.types c.requires.types_even;
+      own_rows = c.in_ok-push_none.ensures.whole;
+    }
 
 pub returns-clause-within : goal.returns-clause-within
-returns-clause-within c = λ types feats h old.
-    rw (c.in_ok-push.ensures.items, c.in_ok-push_none.ensures.rows) (within_added _ _ _ _ _ _ c.requires c.args.ty types feats h old)
+returns-clause-within c = λ types feats low old.
+    let nodes = c.args.nodes.now in
+    within_added (at_of nodes) (written_at c.write.new.self) (own_type nodes) (λ k. slice_index_or (types_of c.push_none.new.self) k 0) (own_row nodes)
+    (λ k. slice_index_or (own_of c.push_none.new.self) k []) nodes.cells.items nodes.merges nodes.size c.requires.stands _ c.write.ensures.here
+    (λ k e. c.write.ensures.others k e ∙ c.in_ok-widen.ensures.kept k)
+    (λ k. ap (λ l. slice_index_or l k []) c.in_ok-push_none.ensures.rows ∙ push_default (own_of nodes.own) [] k)
+    (λ k. ap (λ l. slice_index_or l k 0) c.in_ok-push_none.ensures.types ∙ push_default (types_of nodes.own) 0 k) refl refl types feats low old
+
+pub returns-clause-depths : goal.returns-clause-depths
+returns-clause-depths c = record {
+  others = λ k e. ap depth_by (c.write.ensures.others k e ∙ c.in_ok-widen.ensures.kept k);
+  here = ap depth_by c.write.ensures.here;
+}

@@ -1,9 +1,14 @@
-use Rattle.std.proofs.Common.{◌≡◌, ◌<◌, length}
-use Rattle.fs_closing.specs.Cells.{live_of}
+use Rattle.std.proofs.Common.{◌≡◌, ◌<◌}
+use Rattle.fs_closing.specs.Marked.{chase, next_by}
+use Rattle.fs_closing.specs.NodeTable.{at_of, table_of}
 use Rattle.fs_closing.proofs.nodes.live.Given as goal
 
-abbrev pub invariant-loop-at : goal.invariant-loop-at
-invariant-loop-at l = record { same_end : live_of l.forwards l.at ≡ live_of l.fn.forwards l.fn.n; within : l.at < length l.forwards }
+abbrev pub invariant-loop-left : goal.invariant-loop-left
+invariant-loop-left l =
+    record {
+      same : chase (λ n. next_by n (at_of l.nodes n)) l.left l.at ≡ (table_of l.fn.nodes).live l.fn.n;
+      within : l.at < l.nodes.size;
+    }
 
-abbrev pub decreases-loop-at : goal.decreases-loop-at
-decreases-loop-at l = l.at
+abbrev pub decreases-loop-left : goal.decreases-loop-left
+decreases-loop-left l = l.left

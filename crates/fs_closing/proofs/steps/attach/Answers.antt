@@ -1,10 +1,10 @@
-use Rattle.std.proofs.Common.{◌≡◌, None, [], ◌∷◌, length, slice_index_or, sym, ◌∙◌, ap, subst, arith}
+use Rattle.std.proofs.Common.{◌≡◌, None, [], ◌∷◌, sym, subst}
 use Rattle.fs_model.specs.Table.{is_same, is_under}
 use Rattle.fs_closing.specs.NodeTable.{table_of}
 use Rattle.fs_closing.specs.Rules.{system_of}
 use Rattle.fs_closing.specs.Work.{work_of}
 use Rattle.fs_closing.specs.Keeps.{Leads, deep_of}
-use Rattle.fs_closing.proofs.StepLemmas.{attach_found, attach_linked, steps_after}
+use Rattle.fs_closing.proofs.StepLemmas.{attach_found, attach_linked, steps_after, keeps_after, keeps_none}
 use Rattle.fs_closing.proofs.steps.attach.Goals as goal
 
 pub returns-in-Some-clause-steps : goal.returns-in-Some-clause-steps
@@ -24,7 +24,7 @@ returns-clause-steps c =
     let work = work_of g.rules c.args.tasks.now in
     let none : None ≡ (table_of c.args.nodes.now).arc c.args.n c.args.feat = cc (c.in_default.is, c.in_default.ensures.value) in
     let leads = attach_linked (system_of g) (deep_of c.args.nodes.now) (deep_of c.add_arc.new.nodes) c.args.n c.args.feat c.args.to
-    work c.requires.stays none c.in_ok-add_arc.ensures.links (λ k. ap (λ l. slice_index_or l k 0) c.in_ok-add_arc.ensures.arcs.depths) in
+    work c.requires.stays none c.in_ok-add_arc.ensures.links c.in_ok-add_arc.ensures.keeps.depths in
     steps_after g c.args.nodes.now c.add_arc.new.nodes c.put_under.new.nodes (is_same c.args.n (c.args.feat ∷ []) c.args.to [] ∷ work)
     (is_under c.args.n [] c.introducer-introducer.result ∷ work) c.put_under.new.tasks c.in_ok-ok.ok
     (subst (λ i. Leads g c.args.nodes.now (is_same c.args.n (c.args.feat ∷ []) c.args.to [] ∷ work) c.add_arc.new.nodes (is_under c.args.n [] i ∷ work))
@@ -32,12 +32,7 @@ returns-clause-steps c =
 
 pub returns-clause-arcs : goal.returns-clause-arcs
 returns-clause-arcs c =
-    let one = c.in_ok-add_arc.ensures.arcs in
-    let two = c.in_ok-ok.ensures.arcs in
-    record {
-      size = two.size ∙ ap length one.types;
-      forwards = two.forwards ∙ one.forwards;
-      own = two.own ∙ one.own;
-      more = omega (arith, one.more, two.more);
-      chains = λ place h. two.chains place (omega (arith, h, one.more)) ∙ one.chains place h;
-    }
+    keeps_after c.args.nodes.now c.add_arc.new.nodes c.put_under.new.nodes c.in_ok-add_arc.ensures.keeps.arcs c.in_ok-ok.ensures.arcs
+
+pub returns-in-Some-clause-arcs : goal.returns-in-Some-clause-arcs
+returns-in-Some-clause-arcs c = keeps_none c.args.nodes.now

@@ -1,6 +1,6 @@
-use Rattle.std.proofs.Common.{[], ◌++◌, slice_index_or, sym, ◌∙◌, ap, subst, arith}
-use Rattle.fs_closing.specs.Cells.{live_of, chain}
-use Rattle.fs_closing.specs.OwnRows.{own_of}
+use Rattle.std.proofs.Common.{◌++◌, sym, ◌∙◌, subst, arith}
+use Rattle.fs_closing.specs.Cells.{chain}
+use Rattle.fs_closing.specs.NodeTable.{own_row}
 use Rattle.fs_closing.specs.Work.{work_of}
 use Rattle.fs_closing.specs.Keeps.{StepsTo, Leads, Clashes, arc_claims}
 use Rattle.fs_closing.proofs.StepLemmas.{claims_append, rest_after, rest_clashes, steps_after}
@@ -13,7 +13,7 @@ pub attach_own-requires-clause-node : goal.attach_own-requires-clause-node
 attach_own-requires-clause-node c = omega (arith, c.in_ok-attach_cells.ensures.arcs.size, c.requires.node)
 
 pub attach_own-requires-clause-stays : goal.attach_own-requires-clause-stays
-attach_own-requires-clause-stays c = ap (λ l. live_of l c.args.n) c.in_ok-attach_cells.ensures.arcs.forwards ∙ c.requires.stays
+attach_own-requires-clause-stays c = c.in_ok-attach_cells.ensures.arcs.live c.args.n ∙ c.requires.stays
 
 pub attach_own-requires-clause-sound : goal.attach_own-requires-clause-sound
 attach_own-requires-clause-sound c =
@@ -28,15 +28,15 @@ returns-in_ok-ok-in-true c =
     let nodes = c.args.nodes.now in
     let n = c.args.n in
     let added = chain nodes.cells.items c.args.first in
-    let own = slice_index_or (own_of nodes.own) c.args.of [] in
+    let own = own_row nodes c.args.of in
     let work = work_of g.rules c.args.tasks.now in
     let one = (subst (StepsTo g nodes (arc_claims n added ++ work) c.attach_cells.new.nodes c.attach_cells.new.tasks) c.in-true.is c.in_ok-attach_cells.ensures.steps).0 in
     let both = rest_after g nodes c.attach_cells.new.nodes (arc_claims n added) (arc_claims n own) work (work_of g.rules c.attach_cells.new.tasks) one in
     let start = subst (λ l. Leads g nodes (l ++ work) c.attach_cells.new.nodes (arc_claims n own ++ work_of g.rules c.attach_cells.new.tasks)) (sym (claims_append n added own)) both in
     steps_after g nodes c.attach_cells.new.nodes c.attach_own.new.nodes (arc_claims n (added ++ own) ++ work) (arc_claims n own ++ work_of g.rules c.attach_cells.new.tasks)
     c.attach_own.new.tasks c.in_ok-ok-in-true.ok start
-    (subst (λ o. StepsTo g c.attach_cells.new.nodes (arc_claims n (slice_index_or (own_of o) c.args.of []) ++ work_of g.rules c.attach_cells.new.tasks)
-    c.attach_own.new.nodes c.attach_own.new.tasks c.in_ok-ok-in-true.ok) c.in_ok-attach_cells.ensures.arcs.own c.in_ok-ok-in-true.ensures)
+    (subst (λ l. StepsTo g c.attach_cells.new.nodes (arc_claims n l ++ work_of g.rules c.attach_cells.new.tasks)
+    c.attach_own.new.nodes c.attach_own.new.tasks c.in_ok-ok-in-true.ok) (c.in_ok-attach_cells.ensures.arcs.own c.args.of) c.in_ok-ok-in-true.ensures)
 
 pub returns-in-false : goal.returns-in-false
 returns-in-false c =
@@ -44,7 +44,7 @@ returns-in-false c =
     let nodes = c.args.nodes.now in
     let n = c.args.n in
     let added = chain nodes.cells.items c.args.first in
-    let own = slice_index_or (own_of nodes.own) c.args.of [] in
+    let own = own_row nodes c.args.of in
     let work = work_of g.rules c.args.tasks.now in
     let one = subst (StepsTo g nodes (arc_claims n added ++ work) c.attach_cells.new.nodes c.attach_cells.new.tasks) c.in-false.is c.in_ok-attach_cells.ensures.steps in
     subst (λ l. Clashes g nodes (l ++ work)) (sym (claims_append n added own)) (rest_clashes g nodes (arc_claims n added) (arc_claims n own) work one)

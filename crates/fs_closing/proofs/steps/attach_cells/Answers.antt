@@ -1,7 +1,7 @@
 use Rattle.std.proofs.Common.{◌≡◌, ◌≤◌, ◌-◌, [], ◌∷◌, ◌++◌, length, slice_index_or, sym, ◌∙◌, ap, subst, arith}
 use Rattle.std.proofs.lemmas.List.{get_or_default}
 use Rattle.fs_model.specs.Table.{is_same}
-use Rattle.fs_closing.specs.Cells.{live_of, chain, no_cell}
+use Rattle.fs_closing.specs.Cells.{chain, no_cell}
 use Rattle.fs_closing.specs.Rules.{system_of}
 use Rattle.fs_closing.specs.Work.{work_of}
 use Rattle.fs_closing.specs.Keeps.{Turns, StepsTo, deep_of, arc_claims}
@@ -27,8 +27,8 @@ attach-requires-clause-to_in c =
     let is : c.index-cell.result.now ≡ slice_index_or c.loop-place.nodes.cells.items (c.loop-place.place - 1) no_cell =
     c.index-cell.ensures ∙ get_or_default cells (c.loop-place.place - 1) _ no_cell (omega arith) in
     let at = chain_at cells c.loop-place.place c.index-cell.result.now c.loop-place-test.true c.loop-place.invariant.place_in
-    c.loop-place.invariant.sound.whole.places is in
-    c.loop-place.invariant.sound.whole.to_in c.index-cell.result.now at.2
+    c.loop-place.invariant.sound.whole.stands.places is in
+    c.loop-place.invariant.sound.whole.stands.to_in c.index-cell.result.now at.2
 
 pub attach-requires-clause-feat_in : goal.attach-requires-clause-feat_in
 attach-requires-clause-feat_in c =
@@ -36,7 +36,7 @@ attach-requires-clause-feat_in c =
     let is : c.index-cell.result.now ≡ slice_index_or c.loop-place.nodes.cells.items (c.loop-place.place - 1) no_cell =
     c.index-cell.ensures ∙ get_or_default cells (c.loop-place.place - 1) _ no_cell (omega arith) in
     let at = chain_at cells c.loop-place.place c.index-cell.result.now c.loop-place-test.true c.loop-place.invariant.place_in
-    c.loop-place.invariant.sound.whole.places is in
+    c.loop-place.invariant.sound.whole.stands.places is in
     c.loop-place.invariant.sound.within.feat_in c.index-cell.result.now at.2
 
 pub loop-place-preserved : goal.loop-place-preserved
@@ -47,7 +47,7 @@ loop-place-preserved c =
     let is : c.index-cell.result.now ≡ slice_index_or c.loop-place.nodes.cells.items (c.loop-place.place - 1) no_cell =
     c.index-cell.ensures ∙ get_or_default cells (c.loop-place.place - 1) _ no_cell (omega arith) in
     let at = chain_at cells c.loop-place.place c.index-cell.result.now c.loop-place-test.true c.loop-place.invariant.place_in
-    c.loop-place.invariant.sound.whole.places is in
+    c.loop-place.invariant.sound.whole.stands.places is in
     let start = arc_claims n (chain c.args.nodes.now.cells.items c.args.first) ++ work_of c.args.system.now.rules c.args.tasks.now in
     let before = subst (λ l. Turns s (deep_of c.args.nodes.now) start (deep_of c.loop-place.nodes) (arc_claims n l ++ work_of c.args.system.now.rules c.loop-place.tasks))
     at.0 c.loop-place.invariant.leads in
@@ -65,7 +65,7 @@ loop-place-preserved c =
       node = omega (arith, arcs.size, c.loop-place.invariant.node);
       place_in = omega (arith, next_in, arcs.more);
       kept = keeps_after c.args.nodes.now c.loop-place.nodes c.attach.new.nodes c.loop-place.invariant.kept arcs;
-      stays = ap (λ l. live_of l n) arcs.forwards ∙ c.loop-place.invariant.stays;
+      stays = arcs.live n ∙ c.loop-place.invariant.stays;
     }
 
 pub loop-place-smaller : goal.loop-place-smaller
@@ -74,7 +74,7 @@ loop-place-smaller c =
     let is : c.index-cell.result.now ≡ slice_index_or c.loop-place.nodes.cells.items (c.loop-place.place - 1) no_cell =
     c.index-cell.ensures ∙ get_or_default cells (c.loop-place.place - 1) _ no_cell (omega arith) in
     let at = chain_at cells c.loop-place.place c.index-cell.result.now c.loop-place-test.true c.loop-place.invariant.place_in
-    c.loop-place.invariant.sound.whole.places is in
+    c.loop-place.invariant.sound.whole.stands.places is in
     at.1
 
 pub returns-in-false-clause-arcs : goal.returns-in-false-clause-arcs
@@ -89,7 +89,7 @@ returns-in-false-clause-steps c =
     let is : c.index-cell.result.now ≡ slice_index_or c.loop-place.nodes.cells.items (c.loop-place.place - 1) no_cell =
     c.index-cell.ensures ∙ get_or_default cells (c.loop-place.place - 1) _ no_cell (omega arith) in
     let at = chain_at cells c.loop-place.place c.index-cell.result.now c.loop-place-test.true c.loop-place.invariant.place_in
-    c.loop-place.invariant.sound.whole.places is in
+    c.loop-place.invariant.sound.whole.stands.places is in
     let start = arc_claims n (chain c.args.nodes.now.cells.items c.args.first) ++ work_of c.args.system.now.rules c.args.tasks.now in
     let before = subst (λ l. Turns s (deep_of c.args.nodes.now) start (deep_of c.loop-place.nodes) (arc_claims n l ++ work_of c.args.system.now.rules c.loop-place.tasks))
     at.0 c.loop-place.invariant.leads in

@@ -1,5 +1,6 @@
 use Rattle.std.proofs.Common.{◌≡◌, ◌<◌, ◌≤◌, ◌++◌, length}
-use Rattle.fs_closing.specs.Cells.{live_of, chain}
+use Rattle.fs_closing.specs.Cells.{chain}
+use Rattle.fs_closing.specs.NodeTable.{table_of}
 use Rattle.fs_closing.specs.NodeSteps.{KeepsArcs}
 use Rattle.fs_closing.specs.Work.{work_of}
 use Rattle.fs_closing.specs.Keeps.{AreSound, Leads, arc_claims}
@@ -11,10 +12,10 @@ invariant-loop-place l =
       leads : Leads l.fn.system l.fn.nodes (arc_claims l.fn.n (chain l.fn.nodes.cells.items l.fn.first) ++ work_of l.fn.system.rules l.fn.tasks)
           l.nodes (arc_claims l.n (chain l.nodes.cells.items l.place) ++ work_of l.system.rules l.tasks);
       sound : AreSound l.system l.nodes l.tasks;
-      node : l.n < length l.nodes.types.items;
+      node : l.n < l.nodes.size;
       place_in : l.place ≤ length l.nodes.cells.items;
       kept : KeepsArcs l.fn.nodes l.nodes;
-      stays : live_of l.nodes.forwards.items l.n ≡ l.n;
+      stays : (table_of l.nodes).live l.n ≡ l.n;
     }
 
 abbrev pub decreases-loop-place : goal.decreases-loop-place

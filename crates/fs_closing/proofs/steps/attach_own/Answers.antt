@@ -1,8 +1,8 @@
 use Rattle.std.proofs.Common.{◌≤◌, ◌<◌, ◌+◌, [], ◌∷◌, ◌++◌, length, drop, slice_index_or, refl, sym, ◌∙◌, ap, subst, arith}
 use Rattle.fs_model.specs.Claims.{Has}
 use Rattle.fs_model.specs.Table.{is_same}
-use Rattle.fs_closing.specs.Cells.{live_of, no_cell}
-use Rattle.fs_closing.specs.OwnRows.{own_of}
+use Rattle.fs_closing.specs.Cells.{no_cell}
+use Rattle.fs_closing.specs.NodeTable.{own_row}
 use Rattle.fs_closing.specs.Rules.{system_of}
 use Rattle.fs_closing.specs.Work.{work_of}
 use Rattle.fs_closing.specs.Keeps.{Turns, StepsTo, deep_of, arc_claims}
@@ -18,35 +18,33 @@ cell-cell-requires-clause-node c = omega (arith, c.loop-i.invariant.of_in, c.loo
 
 pub cell-cell-requires-clause-place : goal.cell-cell-requires-clause-place
 cell-cell-requires-clause-place c =
-    let i_in : c.loop-i.i < length (slice_index_or (own_of c.args.nodes.now.own) c.args.of []) = omega (arith, c.loop-i-test.true, c.count-i-end.ensures) in
-    subst (λ o. c.loop-i.i < length (slice_index_or (own_of o) c.args.of [])) (sym c.loop-i.invariant.own) i_in
+    let i_in : c.loop-i.i < length (own_row c.args.nodes.now c.args.of) = omega (arith, c.loop-i-test.true, c.count-i-end.ensures) in
+    subst (λ l. c.loop-i.i < length l) (sym c.loop-i.invariant.own) i_in
 
 pub cell-cell-requires-clause-small : goal.cell-cell-requires-clause-small
 cell-cell-requires-clause-small c = λ x h.
-    omega (arith, c.loop-i.invariant.sound.whole.own_in c.args.of x h, c.loop-i.invariant.sound.whole.small)
+    omega (arith, c.loop-i.invariant.sound.whole.stands.own_in c.args.of x h, c.loop-i.invariant.sound.whole.stands.small)
 
 pub attach-requires-clause-to_in : goal.attach-requires-clause-to_in
 attach-requires-clause-to_in c =
-    let own = c.loop-i.nodes.own in
-    let i_in : c.loop-i.i < length (slice_index_or (own_of c.args.nodes.now.own) c.args.of []) = omega (arith, c.loop-i-test.true, c.count-i-end.ensures) in
-    let here = subst (λ o. c.loop-i.i < length (slice_index_or (own_of o) c.args.of [])) (sym c.loop-i.invariant.own) i_in in
-    let at = subst (λ x. Has x (slice_index_or (own_of own) c.args.of [])) (sym (c.cell-cell.ensures no_cell))
-    (Has-at (slice_index_or (own_of own) c.args.of []) c.loop-i.i no_cell here) in
-    c.loop-i.invariant.sound.whole.own_in c.args.of c.cell-cell.result at
+    let i_in : c.loop-i.i < length (own_row c.args.nodes.now c.args.of) = omega (arith, c.loop-i-test.true, c.count-i-end.ensures) in
+    let here = subst (λ l. c.loop-i.i < length l) (sym c.loop-i.invariant.own) i_in in
+    let at = subst (λ x. Has x (own_row c.loop-i.nodes c.args.of)) (sym (c.cell-cell.ensures no_cell))
+    (Has-at (own_row c.loop-i.nodes c.args.of) c.loop-i.i no_cell here) in
+    c.loop-i.invariant.sound.whole.stands.own_in c.args.of c.cell-cell.result at
 
 pub attach-requires-clause-feat_in : goal.attach-requires-clause-feat_in
 attach-requires-clause-feat_in c =
-    let own = c.loop-i.nodes.own in
-    let i_in : c.loop-i.i < length (slice_index_or (own_of c.args.nodes.now.own) c.args.of []) = omega (arith, c.loop-i-test.true, c.count-i-end.ensures) in
-    let here = subst (λ o. c.loop-i.i < length (slice_index_or (own_of o) c.args.of [])) (sym c.loop-i.invariant.own) i_in in
-    let at = subst (λ x. Has x (slice_index_or (own_of own) c.args.of [])) (sym (c.cell-cell.ensures no_cell))
-    (Has-at (slice_index_or (own_of own) c.args.of []) c.loop-i.i no_cell here) in
+    let i_in : c.loop-i.i < length (own_row c.args.nodes.now c.args.of) = omega (arith, c.loop-i-test.true, c.count-i-end.ensures) in
+    let here = subst (λ l. c.loop-i.i < length l) (sym c.loop-i.invariant.own) i_in in
+    let at = subst (λ x. Has x (own_row c.loop-i.nodes c.args.of)) (sym (c.cell-cell.ensures no_cell))
+    (Has-at (own_row c.loop-i.nodes c.args.of) c.loop-i.i no_cell here) in
     c.loop-i.invariant.sound.within.own_feat c.args.of c.cell-cell.result at
 
 pub loop-i-init : goal.loop-i-init
 loop-i-init c =
     let s = system_of c.args.system.now in
-    let row = slice_index_or (own_of c.args.nodes.now.own) c.args.of [] in
+    let row = own_row c.args.nodes.now c.args.of in
     let work = work_of c.args.system.now.rules c.args.tasks.now in
     record {
       leads = subst (λ l. Turns s (deep_of c.args.nodes.now) (arc_claims c.args.n row ++ work) (deep_of c.args.nodes.now) (l ++ work)) (sym (claims_all c.args.n row))
@@ -62,10 +60,10 @@ pub loop-i-preserved : goal.loop-i-preserved
 loop-i-preserved c =
     let s = system_of c.args.system.now in
     let n = c.args.n in
-    let row = slice_index_or (own_of c.args.nodes.now.own) c.args.of [] in
-    let i_in : c.loop-i.i < length (slice_index_or (own_of c.args.nodes.now.own) c.args.of []) = omega (arith, c.loop-i-test.true, c.count-i-end.ensures) in
+    let row = own_row c.args.nodes.now c.args.of in
+    let i_in : c.loop-i.i < length (own_row c.args.nodes.now c.args.of) = omega (arith, c.loop-i-test.true, c.count-i-end.ensures) in
     let cell = c.cell-cell.result in
-    let is = c.cell-cell.ensures no_cell ∙ ap (λ o. slice_index_or (slice_index_or (own_of o) c.args.of []) c.loop-i.i no_cell) c.loop-i.invariant.own in
+    let is = c.cell-cell.ensures no_cell ∙ ap (λ l. slice_index_or l c.loop-i.i no_cell) c.loop-i.invariant.own in
     let start = arc_claims n row ++ work_of c.args.system.now.rules c.args.tasks.now in
     let work = work_of c.args.system.now.rules c.loop-i.tasks in
     let before = subst (λ l. Turns s (deep_of c.args.nodes.now) start (deep_of c.loop-i.nodes) (l ++ work))
@@ -78,18 +76,18 @@ loop-i-preserved c =
       sound = step.1;
       node = omega (arith, arcs.size, c.loop-i.invariant.node);
       of_in = omega (arith, arcs.size, c.loop-i.invariant.of_in);
-      own = arcs.own ∙ c.loop-i.invariant.own;
-      stays = ap (λ l. live_of l n) arcs.forwards ∙ c.loop-i.invariant.stays;
+      own = arcs.own c.args.of ∙ c.loop-i.invariant.own;
+      stays = arcs.live n ∙ c.loop-i.invariant.stays;
     }
 
 pub returns-in-false : goal.returns-in-false
 returns-in-false c =
     let s = system_of c.args.system.now in
     let n = c.args.n in
-    let row = slice_index_or (own_of c.args.nodes.now.own) c.args.of [] in
-    let i_in : c.loop-i.i < length (slice_index_or (own_of c.args.nodes.now.own) c.args.of []) = omega (arith, c.loop-i-test.true, c.count-i-end.ensures) in
+    let row = own_row c.args.nodes.now c.args.of in
+    let i_in : c.loop-i.i < length (own_row c.args.nodes.now c.args.of) = omega (arith, c.loop-i-test.true, c.count-i-end.ensures) in
     let cell = c.cell-cell.result in
-    let is = c.cell-cell.ensures no_cell ∙ ap (λ o. slice_index_or (slice_index_or (own_of o) c.args.of []) c.loop-i.i no_cell) c.loop-i.invariant.own in
+    let is = c.cell-cell.ensures no_cell ∙ ap (λ l. slice_index_or l c.loop-i.i no_cell) c.loop-i.invariant.own in
     let start = arc_claims n row ++ work_of c.args.system.now.rules c.args.tasks.now in
     let work = work_of c.args.system.now.rules c.loop-i.tasks in
     let before = subst (λ l. Turns s (deep_of c.args.nodes.now) start (deep_of c.loop-i.nodes) (l ++ work))
@@ -102,9 +100,9 @@ returns-in-false c =
 pub returns : goal.returns
 returns c =
     let s = system_of c.args.system.now in
-    let row = slice_index_or (own_of c.args.nodes.now.own) c.args.of [] in
+    let row = own_row c.args.nodes.now c.args.of in
     let start = arc_claims c.args.n row ++ work_of c.args.system.now.rules c.args.tasks.now in
-    let past : length (slice_index_or (own_of c.args.nodes.now.own) c.args.of []) ≤ c.loop-i.i = omega (arith, c.loop-i-test.false, c.count-i-end.ensures) in (
+    let past : length (own_row c.args.nodes.now c.args.of) ≤ c.loop-i.i = omega (arith, c.loop-i-test.false, c.count-i-end.ensures) in (
       subst (λ l. Turns s (deep_of c.args.nodes.now) start (deep_of c.loop-i.nodes) (l ++ work_of c.args.system.now.rules c.loop-i.tasks))
           (claims_none c.args.n c.loop-i.i row past) c.loop-i.invariant.leads,
       c.loop-i.invariant.sound,

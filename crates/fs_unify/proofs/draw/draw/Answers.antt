@@ -1,9 +1,9 @@
-use Rattle.std.proofs.Common.{◌≡◌, ◌<◌, subst, arith}
+use Rattle.std.proofs.Common.{◌<◌, subst, arith}
 use Rattle.fs_graph.specs.Inside.{graph_map}
 use Rattle.fs_graph.specs.Orders.{IsClash}
-use Rattle.fs_closing.specs.Cells.{live_of}
+use Rattle.fs_closing.specs.NodeTable.{at_of, own_row}
 use Rattle.fs_closing.specs.Keeps.{deep_of}
-use Rattle.fs_closing.proofs.UniteLemmas.{live_le}
+use Rattle.fs_closing.proofs.MarkLemmas.{root_lives}
 use Rattle.fs_unify.proofs.DrawLemmas.{answer_cycle, answer_longest}
 use Rattle.fs_unify.proofs.DrawRows.{drawn_plan, draw_by}
 use Rattle.fs_unify.proofs.draw.draw.Goals as goal
@@ -19,7 +19,7 @@ pub returns-then-picture-limit : goal.returns-then-picture-limit
 returns-then-picture-limit c =
     let nodes = c.args.nodes.now in
     let plan = graph_map c.deref.result.now c.deref-2.result.now c.deref-3.result.now in
-    let root : live_of c.args.nodes.now.forwards.items 0 ≡ 0 = omega (arith, live_le nodes.forwards.items c.requires.whole.falls 0) in
+    let root = root_lives (at_of nodes) (own_row nodes) nodes.cells.items nodes.merges nodes.size c.requires.whole.stands in
     let drawn = draw_by nodes c.draw_types.new.types.items c.deref.result.now c.draw_rows.new.starts.items c.deref-2.result.now c.draw_rows.new.arcs.items c.deref-3.result.now
     c.deref.ensures.value c.deref-2.ensures.value c.deref-3.ensures.value
     (drawn_plan nodes c.draw_types.new.types.items c.draw_rows.new.starts.items c.draw_rows.new.arcs.items c.requires.whole c.requires.filled c.in_ok-draw_types.ensures
@@ -43,7 +43,7 @@ pub returns-in-Err-Cycle : goal.returns-in-Err-Cycle
 returns-in-Err-Cycle c =
     let nodes = c.args.nodes.now in
     let plan = graph_map c.deref.result.now c.deref-2.result.now c.deref-3.result.now in
-    let root : live_of c.args.nodes.now.forwards.items 0 ≡ 0 = omega (arith, live_le nodes.forwards.items c.requires.whole.falls 0) in
+    let root = root_lives (at_of nodes) (own_row nodes) nodes.cells.items nodes.merges nodes.size c.requires.whole.stands in
     let drawn = draw_by nodes c.draw_types.new.types.items c.deref.result.now c.draw_rows.new.starts.items c.deref-2.result.now c.draw_rows.new.arcs.items c.deref-3.result.now
     c.deref.ensures.value c.deref-2.ensures.value c.deref-3.ensures.value
     (drawn_plan nodes c.draw_types.new.types.items c.draw_rows.new.starts.items c.draw_rows.new.arcs.items c.requires.whole c.requires.filled c.in_ok-draw_types.ensures

@@ -1,9 +1,8 @@
-use Rattle.std.proofs.Common.{ℕ, ◌≡◌, ◌<◌, ◌-◌, Option, [], length, slice_index_or, sym, ◌∙◌, ap, subst, arith}
+use Rattle.std.proofs.Common.{ℕ, ◌≡◌, ◌-◌, Option, slice_index_or, sym, ◌∙◌, ap, subst, arith}
 use Rattle.std.proofs.lemmas.List.{get_or_default}
 use Rattle.fs_graph.specs.GraphMap.{arc_to}
-use Rattle.fs_closing.specs.Cells.{live_of, chain, no_cell, AreOnce}
-use Rattle.fs_closing.specs.OwnRows.{own_of}
-use Rattle.fs_closing.specs.NodeTable.{row_of}
+use Rattle.fs_closing.specs.Cells.{chain, no_cell, AreOnce}
+use Rattle.fs_closing.specs.NodeTable.{table_of, own_row, first_of, row_of}
 use Rattle.fs_closing.proofs.ChainLemmas.{chain_at, chain-none}
 use Rattle.fs_unify.proofs.DrawCells.{DrawsCells, draws_rest, once_left, draws_free, draws_step, draws_end}
 use Rattle.fs_unify.proofs.draw.draw_cells.Goals as goal
@@ -11,19 +10,17 @@ use Rattle.fs_unify.proofs.draw.draw_cells.Goals as goal
 pub loop-place-init : goal.loop-place-init
 loop-place-init c =
     let nodes = c.args.nodes.now in
-    let n_in : c.args.n < length c.args.nodes.now.firsts.items = omega (arith, c.requires.node, c.requires.whole.firsts_even) in
-    let first : c.index-place.result.now ≡ slice_index_or c.args.nodes.now.firsts.items c.args.n 0 =
-    c.index-place.ensures ∙ get_or_default nodes.firsts.items c.args.n _ 0 n_in in
-    let once = c.requires.whole.once c.args.n c.requires.node in
-    let own = slice_index_or (own_of nodes.own) c.args.n [] in
+    let first = c.first_of-place.ensures in
+    let once = c.requires.whole.stands.once c.args.n c.requires.node in
+    let own = own_row nodes c.args.n in
     record {
-      draws = subst (λ p. DrawsCells nodes.forwards.items (row_of nodes.firsts.items nodes.cells.items (own_of nodes.own) c.args.n) (chain nodes.cells.items p)
+      draws = subst (λ p. DrawsCells (table_of nodes).live (row_of nodes c.args.n) (chain nodes.cells.items p)
           (λ f. arc_to c.args.row.now.items f)) (sym first)
-          (draws_rest nodes.forwards.items (chain nodes.cells.items (slice_index_or nodes.firsts.items c.args.n 0)) own (λ f. arc_to c.args.row.now.items f) once c.requires.own);
-      once = subst (λ p. AreOnce (chain nodes.cells.items p)) (sym first) (once_left (chain nodes.cells.items (slice_index_or nodes.firsts.items c.args.n 0)) own once);
+          (draws_rest (table_of nodes).live (chain nodes.cells.items (first_of nodes c.args.n)) own (λ f. arc_to c.args.row.now.items f) once c.requires.own);
+      once = subst (λ p. AreOnce (chain nodes.cells.items p)) (sym first) (once_left (chain nodes.cells.items (first_of nodes c.args.n)) own once);
       rises = c.requires.rises;
       to_in = c.requires.to_in;
-      place_in = omega (arith, first, c.requires.whole.first_in c.args.n c.requires.node);
+      place_in = omega (arith, first, c.requires.whole.stands.first_in c.args.n c.requires.node);
     }
 
 pub live-to-requires-clause-node : goal.live-to-requires-clause-node
@@ -31,8 +28,8 @@ live-to-requires-clause-node c =
     let cells = c.args.nodes.now.cells.items in
     let is : c.index-cell.result.now ≡ slice_index_or c.args.nodes.now.cells.items (c.loop-place.place - 1) no_cell =
     c.index-cell.ensures ∙ get_or_default cells (c.loop-place.place - 1) _ no_cell (omega arith) in
-    let at = chain_at cells c.loop-place.place c.index-cell.result.now c.loop-place-test.true c.loop-place.invariant.place_in c.requires.whole.places is in
-    omega (arith, c.requires.whole.to_in c.index-cell.result.now at.2, c.requires.whole.forwards_even, ap length c.deref.ensures.value)
+    let at = chain_at cells c.loop-place.place c.index-cell.result.now c.loop-place-test.true c.loop-place.invariant.place_in c.requires.whole.stands.places is in
+    omega (arith, c.requires.whole.stands.to_in c.index-cell.result.now at.2)
 
 pub put_arc-requires-clause-new : goal.put_arc-requires-clause-new
 put_arc-requires-clause-new c =
@@ -40,8 +37,8 @@ put_arc-requires-clause-new c =
     let cells = nodes.cells.items in
     let is : c.index-cell.result.now ≡ slice_index_or c.args.nodes.now.cells.items (c.loop-place.place - 1) no_cell =
     c.index-cell.ensures ∙ get_or_default cells (c.loop-place.place - 1) _ no_cell (omega arith) in
-    let at = chain_at cells c.loop-place.place c.index-cell.result.now c.loop-place-test.true c.loop-place.invariant.place_in c.requires.whole.places is in
-    draws_free nodes.forwards.items (row_of nodes.firsts.items cells (own_of nodes.own) c.args.n) (chain cells c.loop-place.place)
+    let at = chain_at cells c.loop-place.place c.index-cell.result.now c.loop-place-test.true c.loop-place.invariant.place_in c.requires.whole.stands.places is in
+    draws_free (table_of nodes).live (row_of nodes c.args.n) (chain cells c.loop-place.place)
     (chain cells c.index-cell.result.now.next) c.index-cell.result.now (λ f. arc_to c.loop-place.row.items f) at.0 c.loop-place.invariant.draws
 
 pub loop-place-preserved : goal.loop-place-preserved
@@ -50,17 +47,17 @@ loop-place-preserved c =
     let cells = nodes.cells.items in
     let is : c.index-cell.result.now ≡ slice_index_or c.args.nodes.now.cells.items (c.loop-place.place - 1) no_cell =
     c.index-cell.ensures ∙ get_or_default cells (c.loop-place.place - 1) _ no_cell (omega arith) in
-    let at = chain_at cells c.loop-place.place c.index-cell.result.now c.loop-place-test.true c.loop-place.invariant.place_in c.requires.whole.places is in
-    let to = c.live-to.ensures.value ∙ ap (λ l. live_of l c.index-cell.result.now.to) c.deref.ensures.value in
+    let at = chain_at cells c.loop-place.place c.index-cell.result.now c.loop-place-test.true c.loop-place.invariant.place_in c.requires.whole.stands.places is in
+    let to = c.live-to.ensures.value in
     let within = c.live-to.ensures.within in
     let ok = c.in_ok-put_arc.ensures in
     record {
-      draws = draws_step nodes.forwards.items (row_of nodes.firsts.items cells (own_of nodes.own) c.args.n) (chain cells c.loop-place.place)
+      draws = draws_step (table_of nodes).live (row_of nodes c.args.n) (chain cells c.loop-place.place)
           (chain cells c.index-cell.result.now.next) c.index-cell.result.now c.live-to.result (λ f. arc_to c.loop-place.row.items f)
           (λ f. arc_to c.put_arc.new.row.items f) at.0 c.loop-place.invariant.once to ok.here ok.others c.loop-place.invariant.draws;
       once = (subst AreOnce at.0 c.loop-place.invariant.once).1;
       rises = ok.rises;
-      to_in = ok.to_in (length nodes.types.items) (omega (arith, within, c.requires.whole.forwards_even, ap length c.deref.ensures.value)) c.loop-place.invariant.to_in;
+      to_in = ok.to_in nodes.size (within) c.loop-place.invariant.to_in;
       place_in = omega (arith, at.1, c.loop-place.invariant.place_in);
     }
 
@@ -69,14 +66,14 @@ loop-place-smaller c =
     let cells = c.args.nodes.now.cells.items in
     let is : c.index-cell.result.now ≡ slice_index_or c.args.nodes.now.cells.items (c.loop-place.place - 1) no_cell =
     c.index-cell.ensures ∙ get_or_default cells (c.loop-place.place - 1) _ no_cell (omega arith) in
-    let at = chain_at cells c.loop-place.place c.index-cell.result.now c.loop-place-test.true c.loop-place.invariant.place_in c.requires.whole.places is in
+    let at = chain_at cells c.loop-place.place c.index-cell.result.now c.loop-place-test.true c.loop-place.invariant.place_in c.requires.whole.stands.places is in
     at.1
 
 pub returns-clause-here : goal.returns-clause-here
 returns-clause-here c =
     let nodes = c.args.nodes.now in
     let none : c.loop-place.place ≡ 0 = omega (arith, c.loop-place-test.false) in
-    let all = row_of nodes.firsts.items nodes.cells.items (own_of nodes.own) c.args.n in
+    let all = row_of nodes c.args.n in
     let arc : ℕ → Option ℕ = λ f. arc_to c.loop-place.row.items f in
-    draws_end nodes.forwards.items all arc (subst (λ l. DrawsCells nodes.forwards.items all l arc)
+    draws_end (table_of nodes).live all arc (subst (λ l. DrawsCells (table_of nodes).live all l arc)
     (ap (chain nodes.cells.items) none ∙ chain-none nodes.cells.items) c.loop-place.invariant.draws)

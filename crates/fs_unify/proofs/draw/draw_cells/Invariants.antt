@@ -2,19 +2,18 @@ use Rattle.std.proofs.Common.{ℕ, ◌≤◌, ◌<◌, length, slice_index}
 use Rattle.fs_graph.specs.GraphMap.{arc_to, Rises}
 use Rattle.fs_graph.specs.Visits.{targets_of}
 use Rattle.fs_closing.specs.Cells.{chain, AreOnce}
-use Rattle.fs_closing.specs.OwnRows.{own_of}
-use Rattle.fs_closing.specs.NodeTable.{row_of}
+use Rattle.fs_closing.specs.NodeTable.{table_of, row_of}
 use Rattle.fs_unify.proofs.DrawCells.{DrawsCells}
 use Rattle.fs_unify.proofs.draw.draw_cells.Given as goal
 
 abbrev pub invariant-loop-place : goal.invariant-loop-place
 invariant-loop-place l =
     record {
-      draws : DrawsCells l.nodes.forwards.items (row_of l.nodes.firsts.items l.nodes.cells.items (own_of l.nodes.own) l.n) (chain l.nodes.cells.items l.place)
+      draws : DrawsCells (table_of l.nodes).live (row_of l.nodes l.n) (chain l.nodes.cells.items l.place)
           (λ f. arc_to l.row.items f);
       once : AreOnce (chain l.nodes.cells.items l.place);
       rises : Rises l.row.items;
-      to_in : (k : ℕ) → k < length l.row.items → slice_index (targets_of l.row.items) k < length l.nodes.types.items;
+      to_in : (k : ℕ) → k < length l.row.items → slice_index (targets_of l.row.items) k < l.nodes.size;
       place_in : l.place ≤ length l.nodes.cells.items;
     }
 

@@ -1,8 +1,7 @@
-use Rattle.std.proofs.Common.{◌≡◌, arith}
 use Rattle.fs_graph.specs.Inside.{graph_map}
-use Rattle.fs_closing.specs.Cells.{live_of}
+use Rattle.fs_closing.specs.NodeTable.{at_of, own_row}
 use Rattle.fs_closing.specs.Keeps.{deep_of}
-use Rattle.fs_closing.proofs.UniteLemmas.{live_le}
+use Rattle.fs_closing.proofs.MarkLemmas.{root_lives}
 use Rattle.fs_unify.proofs.DrawLemmas.{answer_graph}
 use Rattle.fs_unify.proofs.InsideLemmas.{graph_inside}
 use Rattle.fs_unify.proofs.draw.graph_from.Goals as goal
@@ -17,7 +16,7 @@ pub returns-in-Ok-clause-answers : goal.returns-in-Ok-clause-answers
 returns-in-Ok-clause-answers c =
     let nodes = c.args.nodes.now in
     let p = c.args.picture.now in
-    let root : live_of c.args.nodes.now.forwards.items 0 ≡ 0 = omega (arith, live_le nodes.forwards.items c.requires.whole.falls 0) in
+    let root = root_lives (at_of nodes) (own_row nodes) nodes.cells.items nodes.merges nodes.size c.requires.whole.stands in
     answer_graph (deep_of nodes) c.args.limit (graph_map p.types.items p.starts.items p.arcs.items) c.in-Ok.graph p.order.longest c.requires.filled root
     c.requires.picture.shows c.requires.picture.order.longest c.requires.picture.short
     (rw (c.deref.ensures.value, c.deref-2.ensures.value, c.deref-3.ensures.value) at c.in-Ok.ensures)
@@ -26,7 +25,7 @@ pub returns-in-Ok-clause-inside : goal.returns-in-Ok-clause-inside
 returns-in-Ok-clause-inside c = λ types feats within.
     let nodes = c.args.nodes.now in
     let p = c.args.picture.now in
-    let root : live_of c.args.nodes.now.forwards.items 0 ≡ 0 = omega (arith, live_le nodes.forwards.items c.requires.whole.falls 0) in
+    let root = root_lives (at_of nodes) (own_row nodes) nodes.cells.items nodes.merges nodes.size c.requires.whole.stands in
     let ordering = rw (c.deref.ensures.value, c.deref-2.ensures.value, c.deref-3.ensures.value) at c.in-Ok.ensures in
     graph_inside nodes c.requires.whole c.requires.filled root types feats within (graph_map p.types.items p.starts.items p.arcs.items) c.in-Ok.graph
     c.requires.picture.shows ordering.same c.laws.ensures

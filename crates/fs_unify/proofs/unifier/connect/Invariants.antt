@@ -1,4 +1,4 @@
-use Rattle.std.proofs.Common.{◌≤◌, ◌++◌, length, map, drop}
+use Rattle.std.proofs.Common.{◌≤◌, ◌++◌, map, drop}
 use Rattle.fs_closing.specs.Work.{work_of}
 use Rattle.fs_closing.specs.Keeps.{AreSound, Leads}
 use Rattle.fs_unify.specs.Placing.{part_in, joints}
@@ -10,5 +10,5 @@ invariant-loop-i l =
       leads : Leads l.fn.system l.fn.nodes (joints (map part_in l.fn.parts) l.fn.offsets ++ work_of l.fn.system.rules l.fn.tasks)
           l.nodes (joints (drop l.i (map part_in l.parts)) (drop l.i l.offsets) ++ work_of l.system.rules l.tasks);
       sound : AreSound l.system l.nodes l.tasks;
-      more : length l.fn.nodes.types.items ≤ length l.nodes.types.items;
+      more : l.fn.nodes.size ≤ l.nodes.size;
     }

@@ -1,11 +1,11 @@
-use Rattle.std.proofs.Common.{◌++◌, length, map, refl, ap, subst}
+use Rattle.std.proofs.Common.{◌++◌, map, refl, subst}
 use Rattle.fs_closing.specs.NodeTable.{table_of}
 use Rattle.fs_closing.specs.Rules.{system_of}
 use Rattle.fs_closing.specs.Work.{work_of}
 use Rattle.fs_closing.specs.Keeps.{StepsTo}
 use Rattle.fs_unify.specs.Placing.{part_in, source_in, joints}
-use Rattle.fs_unify.proofs.GivenLemmas.{starts_one, gathers}
-use Rattle.fs_unify.proofs.PlaceLemmas.{begun, flat_by, entered_stands, item_has}
+use Rattle.fs_unify.proofs.GivenLemmas.{starts_one, gathers, flat_added}
+use Rattle.fs_unify.proofs.PlaceLemmas.{begun, entered_stands, item_has}
 use Rattle.fs_unify.proofs.unifier.gather.Goals as goal
 
 pub enter_all-requires-clause-begun : goal.enter_all-requires-clause-begun
@@ -13,9 +13,9 @@ enter_all-requires-clause-begun c =
     let g = c.args.system.now in
     let parts = c.args.parts.now in
     let p = c.index-parts-0.result in
-    let starts = starts_one (system_of g) (table_of c.args.nodes.now) (table_of c.add_node.new.nodes) (ap length c.requires.no_nodes) refl c.in_ok-add_node.ensures.adds in
+    let starts = starts_one (system_of g) (table_of c.args.nodes.now) (table_of c.add_node.new.nodes) c.requires.no_nodes refl c.in_ok-add_node.ensures.adds in
     begun g parts p c.clear.new.self.items c.add_node.new.nodes c.args.tasks.now c.requires.bare starts
-    (flat_by c.args.nodes.now.depths.items c.add_node.new.nodes.depths.items c.in_ok-add_node.ensures.depths c.requires.no_depths)
+    (flat_added c.args.nodes.now c.add_node.new.nodes c.in_ok-add_node.ensures.depths c.requires.flat)
     (item_has parts 0 c.index-parts-0.result c.requires.some c.index-parts-0.is) c.laws-2.ensures c.clear.ensures.items c.requires.no_work
 
 pub returns : goal.returns
