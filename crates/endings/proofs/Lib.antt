@@ -5,3 +5,4 @@ pub mod Long
 pub mod Clauses
 pub mod Making
 pub mod Flushing
+pub mod Batching

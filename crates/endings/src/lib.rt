@@ -12,8 +12,11 @@ ghost use Rattle.endings.specs.Reports.{streams};
 ghost use Rattle.endings.specs.Endings.{Ended, RanInPart, StopsReading, IsFaultless, IsWhole, IsReadThrough, Tells, usage_line, fault_text, status_of, is_items};
 ghost use Rattle.endings.specs.declared.Fault.{Fault};
 
+mod answering;
 pub mod commands;
+mod gathering;
 pub mod lines;
+mod pace;
 pub mod pieces;
 pub mod plain;
 

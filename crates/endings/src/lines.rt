@@ -1,13 +1,16 @@
 //! The run over lines: each line of a source is answered, and the answer written.
-ghost use Rattle.std.specs.Prelude.{◌≡◌, ℕ, ◌≤◌, List, [], Bool, map, IfOk, OnOk, OnErr};
+ghost use Rattle.std.specs.Prelude.{◌≡◌, ℕ, ◌+◌, ◌<◌, ◌≤◌, ◌^◌, List, [], Bool, length, map, IfOk, OnOk, OnErr};
 ghost use Rattle.std.specs.Thread.{IsSync};
 ghost use Rattle.lkb_io.specs.Outside.{HasRisen, Adds};
 ghost use Rattle.endings.specs.Reports.{AreAnswers, Served, ServedLine, streams};
 
 use crate::Stop;
+use crate::answering::answer_lines;
+use crate::gathering::read_batch;
+use crate::pace::Pace;
 use crate::pieces::{Report, flush_at_stop, put_lines};
-use lkb_io::{Failed, Held, LineFault, Sink, Source, read_line};
-use std::alloc::Global;
+use lkb_io::{Failed, Held, LineFault, Sink, Source};
+use std::alloc::{AllocError, AllocFailed, Global};
 use std::sync::Wait;
 use std::thread::Threads;
 use worker_gate::Gate;
@@ -15,6 +18,27 @@ use worker_gate::Gate;
 /// Memory was wanting.
 #[derive(Clone, Copy, Debug, PartialEq, Eq)]
 pub struct NoMemory;
+
+impl From<AllocError> for NoMemory {
+    fn from(_: AllocError) -> NoMemory {
+        NoMemory
+    }
+}
+
+impl<T: Drop> From<AllocFailed<T>> for NoMemory {
+    fn from(_: AllocFailed<T>) -> NoMemory {
+        NoMemory
+    }
+}
+
+/// What a line has of the workers.
+#[derive(Clone, Copy, Debug, PartialEq, Eq)]
+pub enum Share {
+    /// All of them: no other line is answered meanwhile.
+    Whole,
+    /// One, while the others answer other lines.
+    Single,
+}
 
 /// What answers lines.
 pub trait Answers {
@@ -24,13 +48,18 @@ pub trait Answers {
     /// The report lines that answer the line of this number, and whether the line is refused.
     ghost IsAnswer: { Self → ℕ → List ℕ → List (List ℕ) → Bool → Type 0 };
 
-    /// The answer to the line of this number. Lines are numbered from 1.
+    /// How many workers there are, at least one. It changes no answer.
+    fn workers(&self) -> u32
+        ensures { 0 < result };
+
+    /// The answer to the line of this number, by this share of the workers. Lines are numbered from 1.
     fn answer<Rt: Threads + Wait + Sync>(
         &self,
         rt: &Rt,
         alloc: Global,
         number: u64,
         line: &[u8],
+        share: Share,
         gate: &dyn Gate,
     ) -> Result<Report, NoMemory>
         requires sync { IsSync Rt.row }
@@ -72,21 +101,24 @@ impl From<NoMemory> for Stop {
     }
 }
 
-// Answers one line. `Ok` tells whether it is refused.
-fn serve_line<C: Answers, O: Sink, Rt: Threads + Wait + Sync>(
+// Answers some lines, the first of this number, and sets the pace by it. `Ok` tells whether one is refused.
+fn serve_batch<C: Answers + Sync, O: Sink, Rt: Threads + Wait + Sync>(
     rt: &Rt,
     alloc: Global,
     command: &C,
     number: u64,
-    line: &[u8],
+    lines: &[Vec<u8>],
+    pace: &mut Pace,
     out: &mut O,
     gate: &dyn Gate,
 ) -> Result<bool, Stop>
-    requires { C.ready command.now }
-    ensures outcome { ServedLine (C.IsAnswer command.now number line.now) (O.written out.old) (O.written out.new) (O.faults out.old) (O.faults out.new) result }
+    requires ready { C.ready command.now }
+    requires room { number + length lines.now ≤ 2 ^ 64 }
+    ensures outcome { ServedLine (AreAnswers (C.IsAnswer command.now) number (map (λ l. l.items) lines.now)) (O.written out.old) (O.written out.new) (O.faults out.old) (O.faults out.new) result }
     ensures no_fall { O.faults out.old ≤ O.faults out.new }
 {
-    let answer = command.answer(rt, alloc, number, line, gate)?;
+    let answer = answer_lines(rt, alloc, command, number, lines, gate)?;
+    pace.heed(lines.len() as u64, &answer);
     put_lines(out, &answer.lines)?;
     Ok(answer.refused)
 }
@@ -105,7 +137,7 @@ fn flush_before_read<O: Sink>(out: &mut O, held: &Held, has_written: bool) -> Re
 }
 
 // Answers all lines of the source, and flushes the sink at the end and before the source is asked for more.
-fn serve_lines<C: Answers, I: Source, O: Sink, Rt: Threads + Wait + Sync>(
+fn serve_lines<C: Answers + Sync, I: Source, O: Sink, Rt: Threads + Wait + Sync>(
     rt: &Rt,
     alloc: Global,
     command: &C,
@@ -116,23 +148,45 @@ fn serve_lines<C: Answers, I: Source, O: Sink, Rt: Threads + Wait + Sync>(
     requires { C.ready command.now }
     ensures { Served (AreAnswers (C.IsAnswer command.now) 1) (streams I.left I.faults O.written O.flushed O.faults input.old input.new out.old out.new) result }
 {
+    let mut pace = Pace::new(command.workers());
     let mut held = Held::new(alloc);
     let mut refused = false;
-    for count in 0..u64::MAX {
+    let mut count = 0;
+    let mut lines = Vec::new(alloc);
+    while count < u64::MAX {
         flush_before_read(out, &held, count > 0)?;
-        let Some(line) = read_line(alloc, input, &mut held)? else {
+        lines.clear();
+        let read = read_batch(
+            alloc,
+            input,
+            &mut held,
+            pace.lines().min(u64::MAX - count),
+            &mut lines,
+        );
+        let batch_refused = serve_batch(
+            rt,
+            alloc,
+            command,
+            count + 1,
+            &lines,
+            &mut pace,
+            out,
+            gate,
+        )?;
+        refused = refused || batch_refused;
+        let came = read?;
+        if came == 0 {
             out.flush()?;
             return Ok(refused);
-        };
-        let line_refused = serve_line(rt, alloc, command, count + 1, &line, out, gate)?;
-        refused = refused || line_refused;
+        }
+        count += came;
     }
     Err(Stop::TooMany)
 }
 
 /// Answers all lines of the source by an object that is ready. `Ok` tells whether a line was refused. The sink is flushed at the end,
 /// where the run stops, and before the source is asked for more.
-pub fn serve<C: Answers, I: Source, O: Sink, Rt: Threads + Wait + Sync>(
+pub fn serve<C: Answers + Sync, I: Source, O: Sink, Rt: Threads + Wait + Sync>(
     rt: &Rt,
     alloc: Global,
     command: &C,

@@ -4,3 +4,4 @@ pub mod SameInputs
 pub mod OneAnswers
 pub mod GenerateLaws
 pub mod Answered
+pub mod Exits

@@ -10,51 +10,42 @@ use crate::NoMemory;
 use crate::reports::{report_of, report_of_no_mrs};
 use book_signs::SignBook;
 use chart_core::Limits;
-use chart_workers::Crew;
-use endings::lines::Answers;
+use endings::lines::{Answers, Share};
 use endings::pieces::Report;
-use fs_unify::Scratch;
-use grammar_rules::LineWork;
 use grammar_shapes::GrammarShapes;
 use lexicon::Lexicon;
+use line_commands::desks::Desks;
 use mrs_generate::{Contributors, generate};
 use mrs_model::Mrs;
 use mrs_places::{MrsFeat, MrsPaths};
 use mrs_text::{MrsFault, read};
 use spelling_rules::Spelling;
 use std::alloc::Global;
-use std::sync::{Mutex, Wait};
+use std::sync::Wait;
 use std::thread::Threads;
 use worker_gate::Gate;
 
-// What is kept from one line to the next: what a line is worked out with, and the workers.
+/// What answers MRSs by the sentences that realize them. Each thing that is lent has a lifetime of its own, since it is lent to threads.
 #[derive(Drop)]
-pub(crate) struct Desk {
-    pub(crate) work: LineWork,
-    pub(crate) crew: Crew<Scratch>,
-}
-
-/// What answers MRSs by the sentences that realize them.
-#[derive(Drop)]
-pub(crate) struct Generator<'a> {
-    pub(crate) signs: &'a SignBook<'a>,
-    pub(crate) shapes: &'a GrammarShapes<'a>,
-    pub(crate) lexicon: &'a Lexicon,
-    pub(crate) spelling: &'a Spelling,
-    pub(crate) names: &'a [String],
+pub(crate) struct Generator<'g, 's, 'b, 'h, 'r, 'c, 'p, 'k> {
+    pub(crate) signs: &'s SignBook<'b>,
+    pub(crate) shapes: &'h GrammarShapes<'r>,
+    pub(crate) lexicon: &'g Lexicon,
+    pub(crate) spelling: &'g Spelling,
+    pub(crate) names: &'g [String],
     // what the grammar's lexical trees and rules contribute, where MRSs stand, and where the relations of rules
-    pub(crate) contributors: &'a Contributors,
-    pub(crate) paths: &'a MrsPaths,
-    pub(crate) c_cont: &'a [MrsFeat],
+    pub(crate) contributors: &'c Contributors,
+    pub(crate) paths: &'p MrsPaths,
+    pub(crate) c_cont: &'k [MrsFeat],
     pub(crate) limits: Limits,
-    // one line is answered at a time
-    pub(crate) desk: Mutex<Desk>,
+    // what lines are worked out with
+    pub(crate) desks: Desks,
     ghost shapes_are: { AreShapesOf signs.now shapes.now },
     ghost in_range: { InRange limits },
     ghost paths_are: { ArePathsOf signs.now (paths_of paths.now) } by { Prim.hlevel list_props },
 }
 
-impl Generator<'_> {
+impl Generator<'_, '_, '_, '_, '_, '_, '_, '_> {
     ghost use Rattle.std.specs.Prelude.{map, IfOk};
     ghost use Rattle.std.specs.Thread.{IsSync};
     ghost use Rattle.mrs_model.specs.Valid.{IsValid};
@@ -69,6 +60,7 @@ impl Generator<'_> {
         alloc: Global,
         number: u64,
         mrs: &Mrs,
+        share: Share,
         gate: &dyn Gate,
     ) -> Result<Report, NoMemory>
         requires sync { IsSync Rt.row }
@@ -76,8 +68,7 @@ impl Generator<'_> {
         requires valid { IsValid (meaning_of mrs.now) }
         ensures { IfOk result (λ r. IsReportOf self.now number (meaning_of mrs.now) (map (λ l. l.items) r.lines.items) r.refused) }
     {
-        let mut desk = self.desk.lock(rt);
-        let desk = &mut *desk;
+        let mut desk = self.desks.take(rt, alloc, share);
         let answer = generate(
             rt,
             alloc,
@@ -94,6 +85,7 @@ impl Generator<'_> {
             &self.limits,
             gate,
         )?;
+        self.desks.give_back(rt, share, desk);
         report_of(alloc, number, &answer)
     }
 
@@ -104,6 +96,7 @@ impl Generator<'_> {
         alloc: Global,
         number: u64,
         line: &[u8],
+        share: Share,
         gate: &dyn Gate,
     ) -> Result<Report, NoMemory>
         requires sync { IsSync Rt.row }
@@ -111,14 +104,14 @@ impl Generator<'_> {
         ensures { IfOk result (λ r. IsAnswer (speaker_of self.now) (bounds_of self.now) number line.now (map (λ l. l.items) r.lines.items) r.refused) }
     {
         match read(alloc, line) {
-            Ok(mrs) => self.generated(rt, alloc, number, &mrs, gate),
+            Ok(mrs) => self.generated(rt, alloc, number, &mrs, share, gate),
             Err(MrsFault::At { at }) => report_of_no_mrs(alloc, number, at),
             Err(MrsFault::NoMemory) => Err(NoMemory),
         }
     }
 }
 
-impl Answers for Generator<'_> {
+impl Answers for Generator<'_, '_, '_, '_, '_, '_, '_, '_> {
     ghost use Rattle.generate_commands.specs.Answers.{IsAnswer};
     ghost use Rattle.generate_commands.specs.Inner.Generators.{IsReady, speaker_of, bounds_of};
 
@@ -126,15 +119,20 @@ impl Answers for Generator<'_> {
 
     ghost IsAnswer = { λ p. IsAnswer (speaker_of p) (bounds_of p) };
 
+    fn workers(&self) -> u32 {
+        self.desks.workers()
+    }
+
     fn answer<Rt: Threads + Wait + Sync>(
         &self,
         rt: &Rt,
         alloc: Global,
         number: u64,
         line: &[u8],
+        share: Share,
         gate: &dyn Gate,
     ) -> Result<Report, endings::lines::NoMemory> {
-        match self.report(rt, alloc, number, line, gate) {
+        match self.report(rt, alloc, number, line, share, gate) {
             Ok(report) => Ok(report),
             Err(_) => Err(endings::lines::NoMemory),
         }

@@ -17,26 +17,25 @@ ghost use Rattle.command_grammars.specs.Grammars.{HasGrammar};
 ghost use Rattle.generate_commands.specs.Generating.{c_cont_of, generate_meaning};
 ghost use Rattle.generate_commands.specs.Views.{bounds_with};
 
-use crate::answering::{Desk, Generator};
+use crate::answering::Generator;
+use crate::serving::serve;
 use book_signs::SignBook;
 use book_signs::laws::whole_book;
 use chart_core::Limits;
-use chart_workers::Crew;
 use command_grammars::load_grammar;
-use endings::lines::serve;
 use endings::{Fault, Stop};
 use fs_unify::Scratch;
 use grammar_load::Grammar;
 use grammar_names::loaded_paths;
-use grammar_rules::LineWork;
 use grammar_shapes::GrammarShapes;
+use line_commands::desks::Desks;
 use line_commands::{rule_feeds, shapes_of};
 use lkb_io::{Shelf, Sink, Source};
 use mrs_generate::{Contributors, contributors_of};
 use mrs_paths::{c_cont_path, mrs_paths};
 use mrs_places::{MrsFeat, MrsPaths};
 use std::alloc::Global;
-use std::sync::{Mutex, Wait};
+use std::sync::Wait;
 use std::thread::Threads;
 use worker_gate::Gate;
 
@@ -47,7 +46,7 @@ pub struct Generate<'a> {
     pub settings: Option<&'a str>,
     /// The limits, each in its range; `empty` is the most empty words of a sentence.
     pub limits: Limits,
-    /// How many workers fill a chart, 1 to 64. It changes no answer.
+    /// How many workers share the lines, and a chart, 1 to 64. It changes no answer.
     pub workers: u32,
 }
 
@@ -79,13 +78,6 @@ fn generate_with_made<I: Source, O: Sink, Rt: Threads + Wait + Sync>(
         (streams I.left I.faults O.written O.flushed O.faults input.old input.new out.old out.new) (input.new ≡ input.old) ((input.new ≡ input.old) × (out.new ≡ out.old)) result }
 {
     signs.laws();
-    let desk = Desk {
-        work: LineWork {
-            chart: Scratch::new(alloc),
-            trees: Scratch::new(alloc),
-        },
-        crew: Crew::new(alloc, command.workers),
-    };
     let generator = Generator {
         signs,
         shapes,
@@ -96,7 +88,7 @@ fn generate_with_made<I: Source, O: Sink, Rt: Threads + Wait + Sync>(
         paths,
         c_cont,
         limits: command.limits,
-        desk: Mutex::new(desk),
+        desks: Desks::new(alloc, command.workers),
     };
     let refused = serve(rt, alloc, &generator, input, out, gate)?;
     Ok(refused)

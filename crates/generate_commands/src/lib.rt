@@ -5,6 +5,7 @@ mod answering;
 mod generating;
 pub mod laws;
 mod reports;
+mod serving;
 
 pub use generating::{Generate, generate_lines};
 use std::alloc::{AllocError, AllocFailed};

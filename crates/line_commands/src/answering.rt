@@ -9,15 +9,15 @@ ghost use Rattle.line_commands.specs.Inner.Props.{list_props};
 ghost use Rattle.grammar_rules.specs.Lines.{AreShapesOf, AreFeedsOf, HaveAll};
 
 use crate::NoMemory;
+use crate::desks::Desks;
 use crate::lattices::lattice_of_line;
 use crate::reports::{report_of, report_of_no_lattice, report_of_no_text, report_with_mrs};
 use book_signs::SignBook;
 use chart_core::Limits;
-use chart_workers::Crew;
-use endings::lines::Answers;
+use endings::lines::{Answers, Share};
 use endings::pieces::Report;
 use fs_unify::Scratch;
-use grammar_rules::{ItemAnswer, LineWork, parse_words};
+use grammar_rules::{ItemAnswer, parse_words};
 use grammar_shapes::GrammarShapes;
 use lexicon::Lexicon;
 use morph_analysis::{Feeds, Lattice, LatticeFault};
@@ -25,34 +25,28 @@ use mrs_lines::TreeLines;
 use mrs_places::MrsPaths;
 use spelling_rules::Spelling;
 use std::alloc::Global;
-use std::sync::{Mutex, Wait};
+use std::sync::Wait;
 use std::thread::Threads;
 use worker_gate::Gate;
 
-// What is kept from one line to the next: what a line is worked out with, and the workers.
+/// What answers lines by the trees that a grammar licenses for them. Each thing that is lent has a lifetime of its own, since it is lent
+/// to threads.
 #[derive(Drop)]
-pub(crate) struct Desk {
-    pub(crate) work: LineWork,
-    pub(crate) crew: Crew<Scratch>,
-}
-
-/// What answers lines by the trees that a grammar licenses for them.
-#[derive(Drop)]
-pub(crate) struct Parser<'a> {
-    pub(crate) signs: &'a SignBook<'a>,
-    pub(crate) shapes: &'a GrammarShapes<'a>,
-    pub(crate) feeds: &'a Feeds,
-    pub(crate) lexicon: &'a Lexicon,
-    pub(crate) spelling: &'a Spelling,
-    pub(crate) names: &'a [String],
+pub(crate) struct Parser<'g, 's, 'b, 'h, 'r, 'f, 'p> {
+    pub(crate) signs: &'s SignBook<'b>,
+    pub(crate) shapes: &'h GrammarShapes<'r>,
+    pub(crate) feeds: &'f Feeds,
+    pub(crate) lexicon: &'g Lexicon,
+    pub(crate) spelling: &'g Spelling,
+    pub(crate) names: &'g [String],
     pub(crate) limits: Limits,
     // whether a line writes a lattice
     pub(crate) lattice: bool,
     // where MRSs stand, and whether each tree is followed by its own
-    pub(crate) paths: &'a MrsPaths,
+    pub(crate) paths: &'p MrsPaths,
     pub(crate) mrs: bool,
-    // one line is answered at a time
-    pub(crate) desk: Mutex<Desk>,
+    // what lines are worked out with
+    pub(crate) desks: Desks,
     ghost shapes_are: { AreShapesOf signs.now shapes.now },
     ghost feeds_are: { AreFeedsOf signs.now feeds.now } by { Prim.hlevel list_props },
     ghost have: { HaveAll signs.now lexicon.now spelling.now } by { Prim.hlevel list_props },
@@ -61,7 +55,7 @@ pub(crate) struct Parser<'a> {
     ghost paths_are: { ArePathsOf signs.now (paths_of paths.now) } by { Prim.hlevel list_props },
 }
 
-impl Parser<'_> {
+impl Parser<'_, '_, '_, '_, '_, '_, '_> {
     ghost use Rattle.std.specs.Prelude.{◌≡◌, ◌<◌, ◌^◌, length, map, IfOk};
     ghost use Rattle.std.specs.Thread.{IsSync};
     ghost use Rattle.std.specs.Str.{chars, IsUtf8};
@@ -106,6 +100,7 @@ impl Parser<'_> {
         alloc: Global,
         number: u64,
         lattice: &Lattice,
+        share: Share,
         gate: &dyn Gate,
     ) -> Result<Report, NoMemory>
         requires sync { IsSync Rt.row }
@@ -113,8 +108,7 @@ impl Parser<'_> {
         ensures { IfOk result (λ r. IsReportOf self.now number (lattice_of lattice.now) (map (λ l. l.items) r.lines.items) r.refused) }
     {
         self.signs.laws();
-        let mut desk = self.desk.lock(rt);
-        let desk = &mut *desk;
+        let mut desk = self.desks.take(rt, alloc, share);
         let answer = parse_words(
             rt,
             alloc,
@@ -129,7 +123,9 @@ impl Parser<'_> {
             &self.limits,
             gate,
         )?;
-        self.reported(alloc, &mut desk.work.trees, number, &answer)
+        let report = self.reported(alloc, &mut desk.work.trees, number, &answer);
+        self.desks.give_back(rt, share, desk);
+        report
     }
 
     // The report on a line that is text.
@@ -139,6 +135,7 @@ impl Parser<'_> {
         alloc: Global,
         number: u64,
         line: &str,
+        share: Share,
         gate: &dyn Gate,
     ) -> Result<Report, NoMemory>
         requires sync { IsSync Rt.row }
@@ -146,7 +143,7 @@ impl Parser<'_> {
         ensures { IfOk result (λ r. IsAnswer (speech_of self.now) (asked_of self.now) number line.now (map (λ l. l.items) r.lines.items) r.refused) }
     {
         match lattice_of_line(alloc, line, self.lattice) {
-            Ok(lattice) => self.parsed(rt, alloc, number, &lattice, gate),
+            Ok(lattice) => self.parsed(rt, alloc, number, &lattice, share, gate),
             Err(LatticeFault::At { at }) => report_of_no_lattice(alloc, number, at),
             Err(LatticeFault::NoMemory) => Err(NoMemory),
         }
@@ -160,6 +157,7 @@ impl Parser<'_> {
         alloc: Global,
         number: u64,
         line: &[u8],
+        share: Share,
         gate: &dyn Gate,
     ) -> Result<Report, NoMemory>
         requires { IsSync Rt.row }
@@ -169,13 +167,13 @@ impl Parser<'_> {
             return Err(NoMemory);
         }
         match str::from_utf8(line) {
-            Ok(text) => self.text_report(rt, alloc, number, text, gate),
+            Ok(text) => self.text_report(rt, alloc, number, text, share, gate),
             Err(_) => report_of_no_text(alloc, number),
         }
     }
 }
 
-impl Answers for Parser<'_> {
+impl Answers for Parser<'_, '_, '_, '_, '_, '_, '_> {
     ghost use Rattle.line_commands.specs.Answers.{IsAnswer};
     ghost use Rattle.line_commands.specs.Inner.Parsers.{speech_of, asked_of};
 
@@ -183,15 +181,20 @@ impl Answers for Parser<'_> {
 
     ghost IsAnswer = { λ p. IsAnswer (speech_of p) (asked_of p) };
 
+    fn workers(&self) -> u32 {
+        self.desks.workers()
+    }
+
     fn answer<Rt: Threads + Wait + Sync>(
         &self,
         rt: &Rt,
         alloc: Global,
         number: u64,
         line: &[u8],
+        share: Share,
         gate: &dyn Gate,
     ) -> Result<Report, endings::lines::NoMemory> {
-        match self.report(rt, alloc, number, line, gate) {
+        match self.report(rt, alloc, number, line, share, gate) {
             Ok(report) => Ok(report),
             Err(_) => Err(endings::lines::NoMemory),
         }

@@ -4,6 +4,7 @@
 mod answering;
 mod checks;
 mod compared;
+pub mod desks;
 mod lattices;
 pub mod laws;
 mod parsing;

@@ -16,26 +16,24 @@ ghost use Rattle.command_grammars.specs.Grammars.{HasGrammar};
 ghost use Rattle.line_commands.specs.Parsing.{parse_meaning};
 ghost use Rattle.line_commands.specs.Views.{asked_with};
 
-use crate::answering::{Desk, Parser};
+use crate::answering::Parser;
+use crate::desks::Desks;
 use crate::rules::{rule_feeds, shapes_of};
 use book_signs::SignBook;
 use book_signs::laws::whole_book;
 use chart_core::Limits;
-use chart_workers::Crew;
 use command_grammars::load_grammar;
 use endings::lines::serve;
 use endings::{Fault, Stop};
-use fs_unify::Scratch;
 use grammar_load::Grammar;
 use grammar_names::loaded_paths;
-use grammar_rules::LineWork;
 use grammar_shapes::GrammarShapes;
 use lkb_io::{Shelf, Sink, Source};
 use morph_analysis::Feeds;
 use mrs_paths::mrs_paths;
 use mrs_places::MrsPaths;
 use std::alloc::Global;
-use std::sync::{Mutex, Wait};
+use std::sync::Wait;
 use std::thread::Threads;
 use worker_gate::Gate;
 
@@ -46,7 +44,7 @@ pub struct Parse<'a> {
     pub settings: Option<&'a str>,
     /// The limits, each in its range.
     pub limits: Limits,
-    /// How many workers fill a chart, 1 to 64. It changes no answer.
+    /// How many workers share the lines, and a chart, 1 to 64. It changes no answer.
     pub workers: u32,
     /// Whether each line writes a lattice of words.
     pub lattice: bool,
@@ -81,13 +79,6 @@ fn parse_with_shapes<I: Source, O: Sink, Rt: Threads + Wait + Sync>(
         (streams I.left I.faults O.written O.flushed O.faults input.old input.new out.old out.new) (input.new ≡ input.old) ((input.new ≡ input.old) × (out.new ≡ out.old)) result }
 {
     signs.laws();
-    let desk = Desk {
-        work: LineWork {
-            chart: Scratch::new(alloc),
-            trees: Scratch::new(alloc),
-        },
-        crew: Crew::new(alloc, command.workers),
-    };
     let parser = Parser {
         signs,
         shapes,
@@ -99,7 +90,7 @@ fn parse_with_shapes<I: Source, O: Sink, Rt: Threads + Wait + Sync>(
         lattice: command.lattice,
         paths,
         mrs: command.mrs,
-        desk: Mutex::new(desk),
+        desks: Desks::new(alloc, command.workers),
     };
     let refused = serve(rt, alloc, &parser, input, out, gate)?;
     Ok(refused)

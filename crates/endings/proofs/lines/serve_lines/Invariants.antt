@@ -1,4 +1,4 @@
-use Rattle.std.proofs.Common.{◌≡◌, ℕ, ◌≤◌, List, length}
+use Rattle.std.proofs.Common.{◌≡◌, ℕ, ◌≤◌, ◌-◌, List, length}
 use Rattle.std.specs.List.{concat}
 use Rattle.lkb_io.specs.Outside.{Adds}
 use Rattle.endings.specs.Readings.{ReadsSoFar}
@@ -15,3 +15,6 @@ invariant-loop-count g l = record {
   no_fall_in : g.I.Source.faults l.fn.input ≤ g.I.Source.faults l.input;
   no_fall_out : g.O.Sink.faults l.fn.out ≤ g.O.Sink.faults l.out;
 }
+
+abbrev pub decreases-loop-count : goal.decreases-loop-count
+decreases-loop-count g l = 18446744073709551615 - l.count

@@ -1,4 +1,4 @@
-use Rattle.std.proofs.Common.{ℕ, ◌≡◌, ◌∷◌, [], map, inl, inr, true, subst}
+use Rattle.std.proofs.Common.{ℕ, ◌≡◌, ◌∷◌, [], map, inl, inr, true, subst, IfOk}
 use Rattle.mrs_model.specs.Views.{meaning_of}
 use Rattle.mrs_reading.specs.Places.{IsPlace}
 use Rattle.line_commands.proofs.Answered.{if-ok, if-both}
@@ -28,5 +28,5 @@ returns-in-Err-At g c =
           (λ r. r.refused ≡ true)
           (λ r. IsAnswer (speaker_of p) (bounds_of p) c.args.number c.args.line.now (map (λ l. l.items) r.lines.items) r.refused)
           (λ r e f. wrong-with (speaker_of p) (bounds_of p) c.args.number c.args.line.now c.in-Err-At.at (let same : x.0 ≡ c.in-Err-At.at = (let e' = x.1 in cc) in subst (λ (k : ℕ). IsPlace c.args.line.now k) same x.2) (map (λ l. l.items) r.lines.items) r.refused e f)
-          c.report_of_no_mrs.ensures.lines c.report_of_no_mrs.ensures.refused
+          (subst (λ at. IfOk c.report_of_no_mrs.result (λ r. map (λ l. l.items) r.lines.items ≡ no_mrs_line c.args.number at ∷ [])) c.in-Err-At.at-is c.report_of_no_mrs.ensures.lines) c.report_of_no_mrs.ensures.refused
     ]

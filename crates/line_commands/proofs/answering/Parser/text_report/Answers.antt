@@ -1,4 +1,4 @@
-use Rattle.std.proofs.Common.{◌≡◌, ◌∷◌, [], map, inl, inr, true, subst}
+use Rattle.std.proofs.Common.{◌≡◌, ◌∷◌, [], map, inl, inr, true, subst, IfOk}
 use Rattle.std.specs.Str.{chars}
 use Rattle.morph_analysis.specs.LatticeViews.{lattice_of}
 use Rattle.morph_analysis.specs.LatticeLines.{IsFirstWrong}
@@ -27,5 +27,5 @@ returns-in-Err-At g c =
           (λ r. r.refused ≡ true)
           (λ r. IsAnswer (speech_of p) (asked_of p) c.args.number c.args.line.now (map (λ l. l.items) r.lines.items) r.refused)
           (λ r e f. wrong-with (speech_of p) (asked_of p) c.args.number c.args.line.now c.in-Err-At.at c.utf8.line x.2 (let same : x.0 ≡ c.in-Err-At.at = (let e' = x.1 in cc) in subst (IsFirstWrong (chars c.args.line.now)) same x.3) (map (λ l. l.items) r.lines.items) r.refused e f)
-          c.report_of_no_lattice.ensures.lines c.report_of_no_lattice.ensures.refused
+          (subst (λ at. IfOk c.report_of_no_lattice.result (λ r. map (λ l. l.items) r.lines.items ≡ no_lattice_line c.args.number at ∷ [])) c.in-Err-At.at-is c.report_of_no_lattice.ensures.lines) c.report_of_no_lattice.ensures.refused
     ]
