@@ -1,8 +1,7 @@
 -- The table after a graph entered.
-use Rattle.std.proofs.Common.{ℕ, ◌≡◌, ◌≤◌, ◌<◌, ◌+◌, ◌-◌, ◌^◌, ◌⊎◌, inl, inr, Option, None, List, [], ◌++◌, length, slice_index_or, refl, sym, ◌∙◌, ap, subst, arith, length-append}
+use Rattle.std.proofs.Common.{ℕ, ◌≡◌, ◌≤◌, ◌<◌, ◌+◌, ◌-◌, ◌^◌, ◌⊎◌, inl, inr, Option, None, List, [], ◌∷◌, ◌++◌, length, map, slice_index_or, refl, sym, ◌∙◌, ap, subst, arith}
 use Rattle.std.proofs.lemmas.Bool.{cases_lt}
-use Rattle.std.proofs.Math.ListN.{get_or-append}
-use Rattle.std.proofs.lemmas.List.{get_or-append_right, get_or-map, length-map, get_or_past}
+use Rattle.std.proofs.lemmas.List.{get_or-map, length-map, get_or_past}
 use Rattle.fs_model.specs.Claims.{Has}
 use Rattle.fs_graph.specs.declared.graph.GraphArc.{GraphArc}
 use Rattle.fs_graph.specs.GraphMap.{GraphMap, IsGraph, arcs_at, type_at}
@@ -10,12 +9,17 @@ use Rattle.fs_closing.specs.declared.marks.Written.{Written}
 use Rattle.fs_closing.specs.declared.nodes.Cell.{Cell}
 use Rattle.fs_closing.specs.Cells.{find_arc, AreOnce}
 use Rattle.fs_closing.specs.Marked.{next_by, type_by, first_by}
-use Rattle.fs_closing.specs.OwnRows.{cells_from, graph_rows}
+use Rattle.fs_closing.specs.declared.parts.Based.{Based}
+use Rattle.fs_closing.specs.Beside.{cells_from, type_from, row_from, type_in, row_in, ArePlaced}
 use Rattle.fs_closing.specs.NodeTable.{table_from, AreWhole, AreWithin}
 use Rattle.fs_closing.specs.NodeSteps.{EntersTable, IsGraphIn}
-use Rattle.fs_closing.proofs.HasLemmas.{Has-of_map}
-use Rattle.fs_closing.proofs.OwnLemmas.{find_from, once_from, rises_found}
+use Rattle.fs_closing.proofs.HasLemmas.{Has-of_map, each_push}
+use Rattle.fs_closing.proofs.BesideLemmas.{home_old, home_new, home_past, find_from, once_from, rises_found}
 use Rattle.fs_closing.proofs.WiderLemmas.{row_wider_old, row_wider_new, live_wider, live_wider_new, whole_wider}
+
+-- the rows of a graph whose nodes begin at a number
+abbrev pub graph_rows : ℕ → GraphMap → List (List Cell)
+graph_rows base g = map (cells_from base) g.arcs
 
 module _ (g : GraphMap) (graph : IsGraph g) (base : ℕ) where
   row_at : (k : ℕ) → k < length g.types → slice_index_or (graph_rows base g) k [] ≡ cells_from base (arcs_at g k)
@@ -47,27 +51,37 @@ module _ (g : GraphMap) (graph : IsGraph g) (base : ℕ) where
       let inside = graph.numbered.table.arc_in k r.1.feat.0 r.1.to.0 r.0 found in
       omega (arith, r.4)
 
--- The rows and the types of a graph's nodes are added at the end. What is written at nodes stays as it was.
-module _ (at at' : ℕ → Option Written) (cells : List Cell) (merges size : ℕ) (types : List ℕ) (rows : List (List Cell)) (g : GraphMap) (graph : IsGraph g)
-    (whole : AreWhole at (λ n. slice_index_or rows n []) cells merges size) (rows_size : length rows ≡ size) (types_size : length types ≡ size)
-    (same : (k : ℕ) → at' k ≡ at k) (room : size + length g.types < 2 ^ 32) where
+-- A graph enters after all others. What is written at nodes stays as it was.
+module _ (at at' : ℕ → Option Written) (cells : List Cell) (merges size : ℕ) (parts : List Based) (p : Based) (graph : IsGraph p.graph.now) (placed : ArePlaced parts size)
+    (whole : AreWhole at (row_in parts) cells merges size) (base_is : p.base ≡ size) (same : (k : ℕ) → at' k ≡ at k) (room : size + length p.graph.now.types < 2 ^ 32) where
+  abbrev g : GraphMap
+  g = p.graph.now
+
   abbrev own : ℕ → List Cell
-  own n = slice_index_or rows n []
+  own n = row_in parts n
 
   abbrev own' : ℕ → List Cell
-  own' n = slice_index_or (rows ++ graph_rows size g) n []
+  own' n = row_in (parts ++ p ∷ []) n
 
   abbrev own_type : ℕ → ℕ
-  own_type n = slice_index_or types n 0
+  own_type n = type_in parts n
 
   abbrev own_type' : ℕ → ℕ
-  own_type' n = slice_index_or (types ++ g.types) n 0
+  own_type' n = type_in (parts ++ p ∷ []) n
 
   own_old : (k : ℕ) → k < size → own' k ≡ own k
-  own_old k h = get_or-append rows (graph_rows size g) [] k (omega (arith, rows_size))
+  own_old k h = ap (row_from k) (home_old parts size placed p base_is k h)
 
   own_right : (k : ℕ) → size ≤ k → own' k ≡ slice_index_or (graph_rows size g) (k - size) []
-  own_right k h = get_or-append_right rows (graph_rows size g) size k [] rows_size h
+  own_right k low = go (cases_lt (k - size) (length p.graph.now.types))
+    where
+      go : (k - size < length p.graph.now.types) ⊎ (length p.graph.now.types ≤ k - size) → own' k ≡ slice_index_or (graph_rows size g) (k - size) []
+      go (inl h) =
+          ap (row_from k) (home_new parts size placed p base_is k low h) ∙ ap (λ b. cells_from b (arcs_at g (k - b))) base_is
+          ∙ sym (row_at g graph size (k - size) h)
+      go (inr h) =
+          ap (row_from k) (home_past parts size placed p base_is k low h)
+          ∙ sym (get_or_past (graph_rows size g) (k - size) [] (omega (arith, length_rows g graph size, h)))
 
   own_new : (k : ℕ) → k < length g.types → own' (size + k) ≡ cells_from size (arcs_at g k)
   own_new k h =
@@ -75,10 +89,14 @@ module _ (at at' : ℕ → Option Written) (cells : List Cell) (merges size : �
       ∙ ap (λ i. slice_index_or (graph_rows size g) i []) (let d : size + k - size ≡ k = omega arith in d)
       ∙ row_at g graph size k h
 
+  type_old : (k : ℕ) → k < size → own_type' k ≡ own_type k
+  type_old k h = ap (type_from k) (home_old parts size placed p base_is k h)
+
   type_new : (k : ℕ) → k < length g.types → own_type' (size + k) ≡ type_at g k
   type_new k h =
-      get_or-append_right types g.types size (size + k) 0 types_size (omega arith)
-      ∙ ap (λ i. slice_index_or g.types i 0) (let d : size + k - size ≡ k = omega arith in d)
+      let back : size + k - p.base ≡ k = omega (arith, base_is) in
+      let high : size + k - size < length p.graph.now.types = omega (arith, h) in
+      ap (type_from (size + k)) (home_new parts size placed p base_is (size + k) (omega arith) high) ∙ ap (type_at g) back
 
   next_same : (k : ℕ) → next_by k (at' k) ≡ next_by k (at k)
   next_same k = ap (next_by k) (same k)
@@ -98,7 +116,7 @@ module _ (at at' : ℕ → Option Written) (cells : List Cell) (merges size : �
     arc_new = λ k f h.
         ap (λ r. find_arc r f) (row_wider_new at at' own own' cells merges size whole next_same first_same own_old (size + k) (omega arith) ∙ own_new k h)
         ∙ find_from size (arcs_at g k) f;
-    type_old = λ k h. ap (type_by (own_type' k)) (same k) ∙ ap (λ t. type_by t (at k)) (get_or-append types g.types 0 k (omega (arith, types_size)));
+    type_old = λ k h. ap (type_by (own_type' k)) (same k) ∙ ap (λ t. type_by t (at k)) (type_old k h);
     type_new = λ k h. ap (type_by (own_type' (size + k))) (is_none (size + k) (omega arith)) ∙ type_new k h;
   }
 
@@ -126,7 +144,7 @@ module _ (at at' : ℕ → Option Written) (cells : List Cell) (merges size : �
           go (inr i) = to_at g graph size (n - size) c i
 
       own_none : (n : ℕ) → size + length g.types ≤ n → own' n ≡ []
-      own_none n h = get_or_past (rows ++ graph_rows size g) n [] (omega (arith, rows_size, length-append rows (graph_rows size g), length_rows g graph size))
+      own_none n h = own_right n (omega arith) ∙ get_or_past (graph_rows size g) (n - size) [] (omega (arith, length_rows g graph size, h))
 
   pub within_entered : (a b : ℕ) → IsGraphIn a b g → AreWithin a b (λ k. type_by (own_type k) (at k)) own cells size →
       AreWithin a b (λ k. type_by (own_type' k) (at' k)) own' cells (size + length g.types)
@@ -147,3 +165,8 @@ module _ (at at' : ℕ → Option Written) (cells : List Cell) (merges size : �
       own_feat n c (inl h) = old.own_feat n c h
       own_feat n c (inr h) =
           let r = cell_of g graph size (n - size) c h in let low = inside.feats_in (n - size) r.1 r.0 r.2 in omega (arith, r.3, low)
+
+  pub placed_entered : ArePlaced (parts ++ p ∷ []) (size + length g.types)
+  placed_entered = each_push (λ q. IsGraph q.graph.now × (q.base + length q.graph.now.types ≤ size + length g.types)) parts _ p refl
+      (λ q h. let x = placed q h in (x.0, omega (arith, x.1)))
+      (graph, omega (arith, base_is))

@@ -2,7 +2,7 @@ pub mod ListLemmas
 pub mod GenerationLemmas
 pub mod ForwardLemmas
 pub mod ChainLemmas
-pub mod OwnLemmas
+pub mod BesideLemmas
 pub mod MarkLemmas
 pub mod WiderLemmas
 pub mod EnterTable

@@ -9,7 +9,7 @@ use Rattle.fs_closing.specs.declared.marks.Written.{Written}
 use Rattle.fs_closing.specs.declared.nodes.Cell.{Cell}
 use Rattle.fs_closing.specs.Cells.{chain, find_arc, no_cell, AreOnce}
 use Rattle.fs_closing.specs.Marked.{next_by, type_by, first_by, chase}
-use Rattle.fs_closing.specs.NodeTable.{row_in, table_from, AreWhole, AreWithin}
+use Rattle.fs_closing.specs.NodeTable.{arcs_in, table_from, AreWhole, AreWithin}
 use Rattle.fs_closing.specs.NodeSteps.{Retypes, Unites}
 use Rattle.fs_closing.proofs.HasLemmas.{each_push, Has-either}
 use Rattle.fs_closing.proofs.ForwardLemmas.{chase_same, chase_stays, Rises-same, Rises-set, live_set, live_twice, live_in, live_next}
@@ -42,7 +42,7 @@ module _ (at at' : ℕ → Option Written) (own_type : ℕ → ℕ) (own : ℕ �
   first_kept : (k : ℕ) → first_by (at' k) ≡ first_by (at k)
   first_kept = read_same at at' n w here others (λ _. first_by) first_is
 
-  row_kept : (k : ℕ) → row_in at' own cells k ≡ row_in at own cells k
+  row_kept : (k : ℕ) → arcs_in at' own cells k ≡ arcs_in at own cells k
   row_kept k = ap (λ p. chain cells p ++ own k) (first_kept k)
 
   pub live_retyped : (k : ℕ) → chase (λ m. next_by m (at' m)) merges k ≡ chase (λ m. next_by m (at m)) merges k
@@ -89,7 +89,7 @@ module _ (at at' : ℕ → Option Written) (own_type : ℕ → ℕ) (own : ℕ �
 module _ (at at' : ℕ → Option Written) (own_type : ℕ → ℕ) (own : ℕ → List Cell) (cells : List Cell) (merges size : ℕ) (whole : AreWhole at own cells merges size)
     (n f to p : ℕ) (w : Written) (h : n < size) (to_in : to < size) (here : at' n ≡ Some w) (others : (k : ℕ) → k ≢ n → at' k ≡ at k)
     (p_is : p ≡ first_by (at n)) (forward_is : w.forward ≡ next_by n (at n)) (type_is : w.ty ≡ type_by (own_type n) (at n)) (first_is : w.first ≡ length cells + 1)
-    (empty : find_arc (row_in at own cells n) f ≡ None) where
+    (empty : find_arc (arcs_in at own cells n) f ≡ None) where
   abbrev pub new_cell : Cell
   new_cell = record { feat = f; to = to; next = p }
 
@@ -102,13 +102,13 @@ module _ (at at' : ℕ → Option Written) (own_type : ℕ → ℕ) (own : ℕ �
   first_here : first_by (at' n) ≡ length cells + 1
   first_here = ap first_by here ∙ first_is
 
-  row_here : (k : ℕ) → k ≡ n → row_in at' own (cells ++ new_cell ∷ []) k ≡ new_cell ∷ row_in at own cells k
+  row_here : (k : ℕ) → k ≡ n → arcs_in at' own (cells ++ new_cell ∷ []) k ≡ new_cell ∷ arcs_in at own cells k
   row_here k e =
       ap (λ l. l ++ own k)
       (chain-push_new cells new_cell (first_by (at' k)) (ap (λ i. first_by (at' i)) e ∙ first_here)
       ∙ ap (λ i. new_cell ∷ chain cells i) (p_is ∙ ap (λ i. first_by (at i)) (sym e)))
 
-  row_other : (k : ℕ) → k < size → k ≢ n → row_in at' own (cells ++ new_cell ∷ []) k ≡ row_in at own cells k
+  row_other : (k : ℕ) → k < size → k ≢ n → arcs_in at' own (cells ++ new_cell ∷ []) k ≡ arcs_in at own cells k
   row_other k i e =
       ap (λ l. l ++ own k)
       (ap (λ o. chain (cells ++ new_cell ∷ []) (first_by o)) (others k e) ∙ chain-push_old cells new_cell (first_by (at k)) (whole.first_in k i))
@@ -126,11 +126,11 @@ module _ (at at' : ℕ → Option Written) (own_type : ℕ → ℕ) (own : ℕ �
   }
     where
       arc_old : (k g : ℕ) → k < size → (k ≢ n) ⊎ (g ≢ f) →
-          find_arc (row_in at' own (cells ++ new_cell ∷ []) k) g ≡ find_arc (row_in at own cells k) g
+          find_arc (arcs_in at' own (cells ++ new_cell ∷ []) k) g ≡ find_arc (arcs_in at own cells k) g
       arc_old k g i (inl e) = ap (λ l. find_arc l g) (row_other k i e)
       arc_old k g i (inr e) = go (same_or_other k n)
         where
-          go : (k ≡ n) ⊎ (k ≢ n) → find_arc (row_in at' own (cells ++ new_cell ∷ []) k) g ≡ find_arc (row_in at own cells k) g
+          go : (k ≡ n) ⊎ (k ≢ n) → find_arc (arcs_in at' own (cells ++ new_cell ∷ []) k) g ≡ find_arc (arcs_in at own cells k) g
           go (inl q) = ap (λ l. find_arc l g) (row_here k q) ∙ find_arc-past new_cell _ g (λ d. e (sym d))
           go (inr q) = ap (λ l. find_arc l g) (row_other k i q)
 
@@ -155,8 +155,8 @@ module _ (at at' : ℕ → Option Written) (own_type : ℕ → ℕ) (own : ℕ �
       first_in k i (inl e) = omega (arith, ap (λ j. first_by (at' j)) e, first_here, length-append cells (new_cell ∷ []))
       first_in k i (inr e) = omega (arith, ap first_by (others k e), whole.first_in k i, length-append cells (new_cell ∷ []))
 
-      once : (k : ℕ) → k < size → (k ≡ n) ⊎ (k ≢ n) → AreOnce (row_in at' own (cells ++ new_cell ∷ []) k)
-      once k i (inl e) = subst AreOnce (ap (λ j. new_cell ∷ row_in at own cells j) (sym e) ∙ sym (row_here k e)) (empty, whole.once n h)
+      once : (k : ℕ) → k < size → (k ≡ n) ⊎ (k ≢ n) → AreOnce (arcs_in at' own (cells ++ new_cell ∷ []) k)
+      once k i (inl e) = subst AreOnce (ap (λ j. new_cell ∷ arcs_in at own cells j) (sym e) ∙ sym (row_here k e)) (empty, whole.once n h)
       once k i (inr e) = subst AreOnce (sym (row_other k i e)) (whole.once k i)
 
   pub within_linked : (a b : ℕ) → f < b → AreWithin a b (λ k. type_by (own_type k) (at k)) own cells size →
@@ -185,7 +185,7 @@ module _ (at between at' : ℕ → Option Written) (own_type : ℕ → ℕ) (own
   first_joined : (k : ℕ) → first_by (at' k) ≡ first_by (at k)
   first_joined = same_after (λ _. first_by) first_a first_b
 
-  row_joined : (k : ℕ) → row_in at' own cells k ≡ row_in at own cells k
+  row_joined : (k : ℕ) → arcs_in at' own cells k ≡ arcs_in at own cells k
   row_joined k = ap (λ p. chain cells p ++ own k) (first_joined k)
 
   next_after : (k : ℕ) → next_by k (at' k) ≡ next_by k (between k)
@@ -252,9 +252,9 @@ module _ (at between at' : ℕ → Option Written) (own_type : ℕ → ℕ) (own
 
 -- where an arc leads is a node
 pub arc_within : (at : ℕ → Option Written) (own : ℕ → List Cell) (cells : List Cell) (merges size : ℕ) → AreWhole at own cells merges size → (n f m : ℕ) →
-    find_arc (row_in at own cells n) f ≡ Some m → m < size
+    find_arc (arcs_in at own cells n) f ≡ Some m → m < size
 arc_within at own cells merges size whole n f m e =
-    let x = find_arc-has (row_in at own cells n) f m e in
+    let x = find_arc-has (arcs_in at own cells n) f m e in
     subst (λ i. i < size) x.3 (go x.0 (Has-either x.0 (chain cells (first_by (at n))) (own n) x.1))
   where
     go : (c : Cell) → Has c (chain cells (first_by (at n))) ⊎ Has c (own n) → c.to < size
@@ -262,7 +262,7 @@ arc_within at own cells merges size whole n f m e =
     go c (inr h) = whole.own_in n c h
 
 pub arc_within_some : (at : ℕ → Option Written) (own : ℕ → List Cell) (cells : List Cell) (merges size : ℕ) → AreWhole at own cells merges size → (n f : ℕ)
-    (o : Option ℕ) → o ≡ find_arc (row_in at own cells n) f → IfSome o (λ m. m < size)
+    (o : Option ℕ) → o ≡ find_arc (arcs_in at own cells n) f → IfSome o (λ m. m < size)
 arc_within_some at own cells merges size whole n f None e = tt
 arc_within_some at own cells merges size whole n f (Some m) e = arc_within at own cells merges size whole n f m (sym e)
 

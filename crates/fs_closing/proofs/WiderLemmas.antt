@@ -8,7 +8,7 @@ use Rattle.fs_closing.specs.declared.marks.Written.{Written}
 use Rattle.fs_closing.specs.declared.nodes.Cell.{Cell}
 use Rattle.fs_closing.specs.Cells.{chain, find_arc, AreOnce}
 use Rattle.fs_closing.specs.Marked.{next_by, type_by, first_by, chase}
-use Rattle.fs_closing.specs.NodeTable.{row_in, table_from, AreWhole, AreWithin}
+use Rattle.fs_closing.specs.NodeTable.{arcs_in, table_from, AreWhole, AreWithin}
 use Rattle.fs_closing.specs.NodeSteps.{AddsNode}
 use Rattle.fs_closing.proofs.ForwardLemmas.{chase_same, chase_stays, Rises-same}
 use Rattle.fs_closing.proofs.ChainLemmas.{chain-none}
@@ -18,13 +18,13 @@ use Rattle.fs_closing.proofs.MarkLemmas.{read_same}
 module _ (at at' : ℕ → Option Written) (own own' : ℕ → List Cell) (cells : List Cell) (merges size : ℕ) (whole : AreWhole at own cells merges size)
     (next_same : (k : ℕ) → next_by k (at' k) ≡ next_by k (at k)) (first_same : (k : ℕ) → first_by (at' k) ≡ first_by (at k))
     (own_old : (k : ℕ) → k < size → own' k ≡ own k) where
-  pub row_wider_old : (k : ℕ) → k < size → row_in at' own' cells k ≡ row_in at own cells k
+  pub row_wider_old : (k : ℕ) → k < size → arcs_in at' own' cells k ≡ arcs_in at own cells k
   row_wider_old k h = ap (λ p. chain cells p ++ own' k) (first_same k) ∙ ap (λ l. chain cells (first_by (at k)) ++ l) (own_old k h)
 
   first_past : (k : ℕ) → size ≤ k → first_by (at' k) ≡ 0
   first_past k h = first_same k ∙ ap first_by (whole.unwritten k h)
 
-  pub row_wider_new : (k : ℕ) → size ≤ k → row_in at' own' cells k ≡ own' k
+  pub row_wider_new : (k : ℕ) → size ≤ k → arcs_in at' own' cells k ≡ own' k
   row_wider_new k h = ap (λ p. chain cells p ++ own' k) (first_past k h) ∙ ap (λ l. l ++ own' k) (chain-none cells)
 
   next_past : (k : ℕ) → size ≤ k → next_by k (at k) ≡ k
@@ -62,7 +62,7 @@ module _ (at at' : ℕ → Option Written) (own own' : ℕ → List Cell) (cells
       first_in k (inl a) = subst (λ y. y ≤ length cells) (sym (first_same k)) (whole.first_in k a)
       first_in k (inr a) = subst (λ y. y ≤ length cells) (sym (first_past k a)) (omega arith)
 
-      once : (k : ℕ) → k < size' → (k < size) ⊎ (size ≤ k) → AreOnce (row_in at' own' cells k)
+      once : (k : ℕ) → k < size' → (k < size) ⊎ (size ≤ k) → AreOnce (arcs_in at' own' cells k)
       once k h (inl a) = subst AreOnce (sym (row_wider_old k a)) (whole.once k a)
       once k h (inr a) = subst AreOnce (sym (row_wider_new k a)) (once_new k a h)
 

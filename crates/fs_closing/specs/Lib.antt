@@ -1,6 +1,6 @@
 pub mod Cells
 pub mod Marked
-pub mod OwnRows
+pub mod Beside
 pub mod NodeTable
 pub mod NodeSteps
 pub mod Rules

@@ -1,17 +1,17 @@
 -- Nodes as a table.
-use Rattle.std.specs.Prelude.{ℕ, ◌≡◌, ◌<◌, ◌≤◌, ◌^◌, Option, None, length, List, [], ◌++◌, slice_index_or}
+use Rattle.std.specs.Prelude.{ℕ, ◌≡◌, ◌<◌, ◌≤◌, ◌^◌, Option, None, length, List, [], ◌++◌}
 use Rattle.fs_model.specs.Claims.{Has}
 use Rattle.fs_model.specs.Table.{Table}
 use Rattle.fs_closing.specs.declared.marks.Written.{Written}
 use Rattle.fs_closing.specs.declared.nodes.Cell.{Cell}
 use Rattle.fs_closing.specs.declared.nodes.Nodes.{Nodes}
-use Rattle.fs_closing.specs.OwnRows.{own_of, types_of, AreOwn}
+use Rattle.fs_closing.specs.Beside.{row_in, type_in, ArePlaced}
 use Rattle.fs_closing.specs.Cells.{chain, find_arc, PlacesFall, AreOnce}
 use Rattle.fs_closing.specs.Marked.{written_at, next_by, type_by, first_by, depth_by, chase, Rises}
 
 -- the arcs of a node: those that were added, then those that it has from its graph
-abbrev pub row_in : (ℕ → Option Written) → (ℕ → List Cell) → List Cell → ℕ → List Cell
-row_in at own cells n = chain cells (first_by (at n)) ++ own n
+abbrev pub arcs_in : (ℕ → Option Written) → (ℕ → List Cell) → List Cell → ℕ → List Cell
+arcs_in at own cells n = chain cells (first_by (at n)) ++ own n
 
 -- `at` has what is written at each node, `own` and `own_type` what a node has from its graph
 abbrev pub table_from : (ℕ → Option Written) → (ℕ → ℕ) → (ℕ → List Cell) → List Cell → ℕ → ℕ → Table
@@ -19,7 +19,7 @@ table_from at own_type own cells merges size =
     record {
       size = size;
       live = chase (λ n. next_by n (at n)) merges;
-      arc = λ n f. find_arc (row_in at own cells n) f;
+      arc = λ n f. find_arc (arcs_in at own cells n) f;
       type_of = λ n. type_by (own_type n) (at n);
     }
 
@@ -27,10 +27,10 @@ abbrev pub at_of : Nodes → ℕ → Option Written
 at_of nodes n = written_at nodes.marks n
 
 abbrev pub own_type : Nodes → ℕ → ℕ
-own_type nodes n = slice_index_or (types_of nodes.own) n 0
+own_type nodes n = type_in nodes.parts.now n
 
 abbrev pub own_row : Nodes → ℕ → List Cell
-own_row nodes n = slice_index_or (own_of nodes.own) n []
+own_row nodes n = row_in nodes.parts.now n
 
 -- the place of a node's first added arc, and a number of features that some path to it has at least
 abbrev pub first_of : Nodes → ℕ → ℕ
@@ -40,7 +40,7 @@ abbrev pub depth_of : Nodes → ℕ → ℕ
 depth_of nodes n = depth_by (at_of nodes n)
 
 abbrev pub row_of : Nodes → ℕ → List Cell
-row_of nodes n = row_in (at_of nodes) (own_row nodes) nodes.cells.items n
+row_of nodes n = arcs_in (at_of nodes) (own_row nodes) nodes.cells.items n
 
 abbrev pub table_of : Nodes → Table
 table_of nodes = table_from (at_of nodes) (own_type nodes) (own_row nodes) nodes.cells.items nodes.merges nodes.size
@@ -56,18 +56,16 @@ pub record AreWhole (at : ℕ → Option Written) (own : ℕ → List Cell) (cel
   pub forward_in : (n : ℕ) → n < size → next_by n (at n) < size
   pub places : PlacesFall cells
   pub first_in : (n : ℕ) → n < size → first_by (at n) ≤ length cells
-  pub once : (n : ℕ) → n < size → AreOnce (row_in at own cells n)
+  pub once : (n : ℕ) → n < size → AreOnce (arcs_in at own cells n)
   pub to_in : (c : Cell) → Has c cells → c.to < size
   pub own_in : (n : ℕ) (c : Cell) → Has c (own n) → c.to < size
   pub own_none : (n : ℕ) → size ≤ n → own n ≡ []
 
--- the same of nodes, each of which has a place for what is written there, and its own row and type
+-- the same of nodes, for each of which there is a place for what is written, and whose graphs have no others
 pub record IsWhole (nodes : Nodes) : Type 0 where
   pub stands : AreWhole (at_of nodes) (own_row nodes) nodes.cells.items nodes.merges nodes.size
   pub enough : nodes.size ≤ length nodes.marks
-  pub own_even : length nodes.own.bases.items ≡ nodes.size
-  pub types_even : length (types_of nodes.own) ≡ nodes.size
-  pub own_rows : AreOwn nodes.own
+  pub placed : ArePlaced nodes.parts.now nodes.size
 
 -- no type and no feature out of range, where there are `type_count` types and `feat_count` features
 pub record AreWithin (type_count feat_count : ℕ) (type_of : ℕ → ℕ) (own : ℕ → List Cell) (cells : List Cell) (size : ℕ) : Type 0 where

@@ -12,6 +12,7 @@ ghost use Rattle.fs_closing.specs.Keeps.{AreSound, StepsTo, Reaches, Progresses,
 
 use crate::fault::NoMemory;
 use crate::nodes::{Nodes, live};
+use crate::parts::own_count;
 use crate::steps::{go, merge, put_under};
 use crate::system::TypeSystem;
 use crate::tasks::{Entry, Pair, Tasks};
@@ -28,7 +29,7 @@ pub enum Progress {
 
 /// The node at the end of a path from a node; nodes are made where they aren't there. `None` where there is no such path.
 pub fn reach(
-    nodes: &mut Nodes,
+    nodes: &mut Nodes<'_>,
     tasks: &mut Tasks,
     system: &TypeSystem,
     node: u32,
@@ -52,7 +53,7 @@ pub fn reach(
 
 // Whether a node is to be merged into another one, rather than the other way round: the one with fewer arcs from its graph goes,
 // but never the root.
-fn is_barer(nodes: &Nodes, n: u32, than: u32) -> bool
+fn is_barer(nodes: &Nodes<'_>, n: u32, than: u32) -> bool
     requires whole { IsWhole nodes.now }
     requires n_in { n < nodes.now.size }
     requires than_in { than < nodes.now.size }
@@ -66,12 +67,12 @@ fn is_barer(nodes: &Nodes, n: u32, than: u32) -> bool
     if than == 0 {
         return true;
     }
-    nodes.own.count(n) <= nodes.own.count(than)
+    own_count(nodes.parts, n) <= own_count(nodes.parts, than)
 }
 
 // Two nodes become one. The answer is false where their types have no common subtype, or another clash was met.
 fn step_pair(
-    nodes: &mut Nodes,
+    nodes: &mut Nodes<'_>,
     tasks: &mut Tasks,
     system: &TypeSystem,
     pair: Pair,
@@ -96,7 +97,7 @@ fn step_pair(
 
 /// A fact is put at a node. The answer is false where a path gets too long, or another clash was met.
 pub fn apply(
-    nodes: &mut Nodes,
+    nodes: &mut Nodes<'_>,
     tasks: &mut Tasks,
     system: &TypeSystem,
     node: u32,
@@ -130,7 +131,7 @@ pub fn apply(
 
 // Two paths from a node are to lead to one node. The first fact of a coreference speaks of one path alone, which is then there.
 fn apply_same(
-    nodes: &mut Nodes,
+    nodes: &mut Nodes<'_>,
     tasks: &mut Tasks,
     system: &TypeSystem,
     node: u32,
@@ -160,7 +161,7 @@ fn apply_same(
 
 // The next fact of a rule is put at a node, unless the one behind it tells it.
 fn step_entry(
-    nodes: &mut Nodes,
+    nodes: &mut Nodes<'_>,
     tasks: &mut Tasks,
     system: &TypeSystem,
     entry: Entry,
@@ -188,7 +189,7 @@ fn step_entry(
 }
 
 // One task.
-fn step(nodes: &mut Nodes, tasks: &mut Tasks, system: &TypeSystem) -> Result<Progress, NoMemory>
+fn step(nodes: &mut Nodes<'_>, tasks: &mut Tasks, system: &TypeSystem) -> Result<Progress, NoMemory>
     requires bare { IsBare (system_of system.now) }
     requires sound { AreSound system.now nodes.old tasks.old }
     ensures { IfOk result (Progresses system.now nodes.old tasks.old nodes.new tasks.new) }
@@ -215,7 +216,11 @@ fn step(nodes: &mut Nodes, tasks: &mut Tasks, system: &TypeSystem) -> Result<Pro
 }
 
 /// Works off all tasks. The answer is false where a clash was met: then there is no structure.
-pub fn close(nodes: &mut Nodes, tasks: &mut Tasks, system: &TypeSystem) -> Result<bool, NoMemory>
+pub fn close(
+    nodes: &mut Nodes<'_>,
+    tasks: &mut Tasks,
+    system: &TypeSystem,
+) -> Result<bool, NoMemory>
     requires bare { IsBare (system_of system.now) }
     requires sound { AreSound system.now nodes.old tasks.old }
     ensures { IfOk result (Closed system.now nodes.old tasks.old nodes.new) }

@@ -7,7 +7,7 @@ pub mod fault;
 pub mod marks;
 pub mod nodes;
 pub mod outline;
-pub mod own_rows;
+pub mod parts;
 pub mod rule_rows;
 pub mod steps;
 pub mod system;

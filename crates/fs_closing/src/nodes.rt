@@ -1,6 +1,7 @@
 //! Nodes by number: each has a type, the node that it was merged into, and arcs.
 
-ghost use Rattle.std.specs.Prelude.{◌≡◌, ◌≢◌, ℕ, ◌+◌, ◌<◌, ◌≤◌, ◌^◌, length, None, IfOk, OnOk};
+ghost use Rattle.std.specs.Prelude.{◌≡◌, ◌≢◌, ℕ, ◌+◌, ◌<◌, ◌≤◌, ◌^◌, length, take, None, IfOk, OnOk, slice_index_or};
+ghost use Rattle.fs_closing.specs.declared.parts.Based.{Based as BasedValue};
 ghost use Rattle.fs_model.specs.Steps.{Links, Grows};
 ghost use Rattle.fs_closing.specs.Marked.{written_at, next_by, stands_by};
 ghost use Rattle.fs_closing.specs.NodeSteps.{AddsNode, AddsDepth, KeepsArcs, KeepsDepths, Retypes, EntersTable, IsGraphIn, Unites};
@@ -9,9 +10,7 @@ ghost use Rattle.fs_closing.specs.NodeTable.{table_of, at_of, own_type, own_row,
 
 use crate::fault::NoMemory;
 use crate::marks::{Marks, Written};
-use crate::own_rows::OwnRows;
-use fs_graph::Graph;
-use std::alloc::Global;
+use crate::parts::{Based, own_type as type_from_graph};
 
 /// An arc, with the place of its node's next one: 0 for none, and k + 1 for cell k.
 #[derive(Clone, Copy, Debug)]
@@ -21,33 +20,25 @@ pub struct Cell {
     pub next: u32,
 }
 
-/// The first `size` nodes by number. `own` has what they have from their graphs, `marks` what was written at them, and `cells`
-/// the arcs that were added to them. So many nodes were merged into others as `merges` says.
-#[derive(Debug, Drop)]
-pub struct Nodes {
+/// The first `size` nodes by number. Those of a graph are read where they stand; other ones were made. `marks` has what was
+/// written at nodes, and `cells` the arcs that were added to them. So many nodes were merged into others as `merges` says.
+#[derive(Drop)]
+pub struct Nodes<'a> {
     pub marks: Marks,
     pub cells: Vec<Cell>,
-    pub own: OwnRows,
+    pub parts: &'a [Based<'a>],
     pub merges: u32,
     pub size: u32,
 }
 
-impl Nodes {
+impl Nodes<'_> {
+    ghost use Rattle.std.specs.Prelude.{◌≡◌, []};
     ghost use Rattle.fs_closing.specs.NodeTable.{IsWhole, IsWithin, AreFlat};
 
-    /// No nodes, and no memory. Marks begin at a generation: at the first one for 0.
-    pub fn aged(alloc: Global, generation: u32) -> Nodes {
-        Nodes {
-            marks: Marks::aged(alloc, generation),
-            cells: Vec::new(alloc),
-            own: OwnRows::new(alloc),
-            merges: 0,
-            size: 0,
-        }
-    }
-
-    /// Drops all nodes, and keeps their memory.
+    /// Begins with no nodes: what was written and added before counts no more. No graph has entered.
     pub fn clear(&mut self)
+        requires { self.old.parts.now ≡ [] }
+        ensures parts { self.new.parts.now ≡ [] }
         ensures whole { IsWhole self.new }
         ensures none { self.new.size ≡ 0 }
         ensures flat { AreFlat self.new }
@@ -55,7 +46,6 @@ impl Nodes {
     {
         self.marks.clear();
         self.cells.clear();
-        self.own.clear();
         self.merges = 0;
         self.size = 0;
     }
@@ -73,7 +63,7 @@ fn next(marks: &Marks, n: u32) -> u32
 }
 
 /// The node that a node was merged into, and itself for one that wasn't merged.
-pub fn live(nodes: &Nodes, n: u32) -> u32
+pub fn live(nodes: &Nodes<'_>, n: u32) -> u32
     requires whole { IsWhole nodes.now }
     requires node { n < nodes.now.size }
     ensures value { result ≡ (table_of nodes.now).live n }
@@ -94,19 +84,19 @@ pub fn live(nodes: &Nodes, n: u32) -> u32
 }
 
 /// The type of a node.
-pub fn ty_of(nodes: &Nodes, n: u32) -> u32
+pub fn ty_of(nodes: &Nodes<'_>, n: u32) -> u32
     requires whole { IsWhole nodes.now }
     requires node { n < nodes.now.size }
     ensures { result ≡ (table_of nodes.now).type_of n }
 {
     match nodes.marks.get(n) {
         Some(written) => written.ty,
-        None => nodes.own.ty(n),
+        None => type_from_graph(nodes.parts, n),
     }
 }
 
 /// The place of the first arc that was added to a node.
-pub fn first_of(nodes: &Nodes, n: u32) -> u32
+pub fn first_of(nodes: &Nodes<'_>, n: u32) -> u32
     requires whole { IsWhole nodes.now }
     requires node { n < nodes.now.size }
     ensures { result ≡ first_of nodes.now n }
@@ -118,7 +108,7 @@ pub fn first_of(nodes: &Nodes, n: u32) -> u32
 }
 
 /// A number of features that some path to a node has at least.
-pub fn depth_of(nodes: &Nodes, n: u32) -> u32
+pub fn depth_of(nodes: &Nodes<'_>, n: u32) -> u32
     requires whole { IsWhole nodes.now }
     requires node { n < nodes.now.size }
     ensures { result ≡ depth_of nodes.now n }
@@ -130,7 +120,7 @@ pub fn depth_of(nodes: &Nodes, n: u32) -> u32
 }
 
 // All that stands at a node.
-fn stands(nodes: &Nodes, n: u32) -> Written
+fn stands(nodes: &Nodes<'_>, n: u32) -> Written
     requires whole { IsWhole nodes.now }
     requires node { n < nodes.now.size }
     ensures { result ≡ stands_by (own_type nodes.now n) n (at_of nodes.now n) }
@@ -139,7 +129,7 @@ fn stands(nodes: &Nodes, n: u32) -> Written
         Some(written) => written,
         None => Written {
             forward: n,
-            ty: nodes.own.ty(n),
+            ty: type_from_graph(nodes.parts, n),
             first: 0,
             depth: 0,
         },
@@ -164,7 +154,7 @@ pub fn look_up(cells: &[Cell], first: u32, feat: u32) -> Option<u32>
 }
 
 /// Gives a node a type.
-pub fn set_type(nodes: &mut Nodes, n: u32, ty: u32)
+pub fn set_type(nodes: &mut Nodes<'_>, n: u32, ty: u32)
     requires whole { IsWhole nodes.old }
     requires node { n < nodes.old.size }
     ensures retypes { Retypes (table_of nodes.old) (table_of nodes.new) n ty }
@@ -183,11 +173,12 @@ pub fn set_type(nodes: &mut Nodes, n: u32, ty: u32)
 }
 
 /// Adds a node without arcs.
-pub fn add_node(nodes: &mut Nodes, ty: u32, depth: u32) -> Result<u32, NoMemory>
+pub fn add_node(nodes: &mut Nodes<'_>, ty: u32, depth: u32) -> Result<u32, NoMemory>
     requires { IsWhole nodes.old }
     ensures adds { OnOk result (AddsNode ty (table_of nodes.old) (table_of nodes.new)) }
     ensures place { IfOk result (λ m. m ≡ nodes.old.size) }
     ensures depths { OnOk result (AddsDepth depth nodes.old nodes.new) }
+    ensures parts { OnOk result (nodes.new.parts.now ≡ nodes.old.parts.now) }
     ensures whole { OnOk result (IsWhole nodes.new) }
     ensures within { OnOk result ((types feats : ℕ) → ty < types → IsWithin types feats nodes.old → IsWithin types feats nodes.new) }
 {
@@ -196,7 +187,6 @@ pub fn add_node(nodes: &mut Nodes, ty: u32, depth: u32) -> Result<u32, NoMemory>
         return Err(NoMemory);
     }
     nodes.marks.widen(n as usize + 1)?;
-    nodes.own.push_none()?;
     let new = Written {
         forward: n,
         ty,
@@ -209,7 +199,7 @@ pub fn add_node(nodes: &mut Nodes, ty: u32, depth: u32) -> Result<u32, NoMemory>
 }
 
 /// Gives a node an arc that it hasn't.
-pub fn add_arc(nodes: &mut Nodes, n: u32, feat: u32, to: u32) -> Result<(), NoMemory>
+pub fn add_arc(nodes: &mut Nodes<'_>, n: u32, feat: u32, to: u32) -> Result<(), NoMemory>
     requires whole { IsWhole nodes.old }
     requires node { n < nodes.old.size }
     requires to { to < nodes.old.size }
@@ -241,7 +231,7 @@ pub fn add_arc(nodes: &mut Nodes, n: u32, feat: u32, to: u32) -> Result<(), NoMe
 }
 
 /// Gives a node an arc to a new node.
-pub fn grow(nodes: &mut Nodes, n: u32, feat: u32, ty: u32, depth: u32) -> Result<u32, NoMemory>
+pub fn grow(nodes: &mut Nodes<'_>, n: u32, feat: u32, ty: u32, depth: u32) -> Result<u32, NoMemory>
     requires whole { IsWhole nodes.old }
     requires node { n < nodes.old.size }
     requires no_arc { (table_of nodes.old).arc n feat ≡ None }
@@ -257,7 +247,7 @@ pub fn grow(nodes: &mut Nodes, n: u32, feat: u32, ty: u32, depth: u32) -> Result
 }
 
 /// Merges b into a, which gets a type. Neither was merged before, and b isn't the root.
-pub fn unite(nodes: &mut Nodes, a: u32, b: u32, ty: u32)
+pub fn unite(nodes: &mut Nodes<'_>, a: u32, b: u32, ty: u32)
     requires whole { IsWhole nodes.old }
     requires a_in { a < nodes.old.size }
     requires b_in { b < nodes.old.size }
@@ -292,24 +282,32 @@ pub fn unite(nodes: &mut Nodes, a: u32, b: u32, ty: u32)
     nodes.merges += 1;
 }
 
-/// A graph enters: its nodes have the numbers from the answer on. They are copied as they stand, each list of the graph at
-/// once.
-pub fn add_graph(nodes: &mut Nodes, graph: &Graph) -> Result<u32, NoMemory>
-    requires { IsWhole nodes.old }
+/// The graph at a place enters, after those before it: its nodes have the numbers from the answer on, where it is based.
+/// Nothing of it is read.
+pub fn add_graph<'a>(
+    nodes: &mut Nodes<'a>,
+    parts: &'a [Based<'a>],
+    place: usize,
+) -> Result<u32, NoMemory>
+    requires whole { IsWhole nodes.old }
+    requires place { place < length parts.now }
+    requires before { nodes.old.parts.now ≡ take place parts.now }
+    requires based { (d : BasedValue) → (slice_index_or parts.now place d).base ≡ nodes.old.size }
     ensures place { IfOk result (λ o. o ≡ nodes.old.size) }
-    ensures enters { OnOk result (EntersTable graph.now (table_of nodes.old) (table_of nodes.new)) }
+    ensures parts { OnOk result (nodes.new.parts.now ≡ take (place + 1) parts.now) }
+    ensures enters { OnOk result ((d : BasedValue) → EntersTable (slice_index_or parts.now place d).graph.now (table_of nodes.old) (table_of nodes.new)) }
     ensures flat { OnOk result ((k : ℕ) → depth_of nodes.new k ≡ depth_of nodes.old k) }
     ensures whole { OnOk result (IsWhole nodes.new) }
-    ensures within { OnOk result ((types feats : ℕ) → IsGraphIn types feats graph.now → IsWithin types feats nodes.old → IsWithin types feats nodes.new) }
+    ensures within { OnOk result ((types feats : ℕ) (d : BasedValue) → IsGraphIn types feats (slice_index_or parts.now place d).graph.now → IsWithin types feats nodes.old → IsWithin types feats nodes.new) }
 {
-    let base = nodes.size;
-    let count = graph.nodes();
-    if count > u32::MAX - base {
+    let part = &parts[place];
+    let count = part.graph.nodes();
+    if count > u32::MAX - part.base {
         return Err(NoMemory);
     }
-    let size = base + count;
+    let size = part.base + count;
     nodes.marks.widen(size as usize)?;
-    nodes.own.push_graph(graph, base)?;
+    nodes.parts = &parts[..place + 1];
     nodes.size = size;
-    Ok(base)
+    Ok(part.base)
 }

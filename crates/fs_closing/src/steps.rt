@@ -16,12 +16,13 @@ use crate::fault::NoMemory;
 use crate::nodes::{
     Nodes, add_arc, depth_of, first_of, grow, live, look_up, set_type, ty_of, unite,
 };
+use crate::parts::{own_arc, own_cell, own_count};
 use crate::system::TypeSystem;
 use crate::tasks::Tasks;
 use type_hierarchy::Ty;
 
 // The arc of a node with a feature.
-fn arc_of(nodes: &Nodes, n: u32, feat: u32) -> Option<u32>
+fn arc_of(nodes: &Nodes<'_>, n: u32, feat: u32) -> Option<u32>
     requires node { n < nodes.now.size }
     requires sound { IsWhole nodes.now }
     ensures value { result ≡ (table_of nodes.now).arc n feat }
@@ -30,7 +31,7 @@ fn arc_of(nodes: &Nodes, n: u32, feat: u32) -> Option<u32>
     if let Some(to) = look_up(&nodes.cells, first_of(nodes, n), feat) {
         return Some(to);
     }
-    nodes.own.find(n, feat)
+    own_arc(nodes.parts, n, feat)
 }
 
 // The facts of a rule are to hold at a node, unless they hold at one of two types already.
@@ -90,7 +91,7 @@ pub fn push_rules(
 
 // A node's type becomes its meet with another type.
 fn lower(
-    nodes: &mut Nodes,
+    nodes: &mut Nodes<'_>,
     tasks: &mut Tasks,
     system: &TypeSystem,
     n: u32,
@@ -112,7 +113,7 @@ fn lower(
 
 /// A node's type is put at or below a type. The answer is false where the two have no common subtype.
 pub fn put_under(
-    nodes: &mut Nodes,
+    nodes: &mut Nodes<'_>,
     tasks: &mut Tasks,
     system: &TypeSystem,
     node: u32,
@@ -141,7 +142,7 @@ pub fn put_under(
 /// A node that isn't merged is to have an arc. The answer is false where its type and the feature's introducer have no common
 /// subtype.
 pub fn attach(
-    nodes: &mut Nodes,
+    nodes: &mut Nodes<'_>,
     tasks: &mut Tasks,
     system: &TypeSystem,
     n: u32,
@@ -168,7 +169,7 @@ pub fn attach(
 
 /// A node that isn't merged is to have the arcs from a place on. The answer is false where a clash was met.
 pub fn attach_cells(
-    nodes: &mut Nodes,
+    nodes: &mut Nodes<'_>,
     tasks: &mut Tasks,
     system: &TypeSystem,
     n: u32,
@@ -194,7 +195,7 @@ pub fn attach_cells(
 
 /// A node that isn't merged is to have the arcs that another one has from its graph. The answer is false where a clash was met.
 pub fn attach_own(
-    nodes: &mut Nodes,
+    nodes: &mut Nodes<'_>,
     tasks: &mut Tasks,
     system: &TypeSystem,
     n: u32,
@@ -206,8 +207,8 @@ pub fn attach_own(
     requires stays { (table_of nodes.old).live n ≡ n }
     ensures { IfOk result (StepsTo system.now nodes.old (arc_claims n (own_row nodes.old of) ++ work_of system.now.rules tasks.old) nodes.new tasks.new) }
 {
-    for i in 0..nodes.own.count(of) {
-        let cell = nodes.own.cell(of, i);
+    for i in 0..own_count(nodes.parts, of) {
+        let cell = own_cell(nodes.parts, of, i);
         match attach(nodes, tasks, system, n, cell.feat, cell.to)? {
             true => {}
             false => return Ok(false),
@@ -219,7 +220,7 @@ pub fn attach_own(
 /// A node that isn't merged is to have the arcs from a place on, and those that another one has from its graph. The answer is
 /// false where a clash was met.
 pub fn attach_all(
-    nodes: &mut Nodes,
+    nodes: &mut Nodes<'_>,
     tasks: &mut Tasks,
     system: &TypeSystem,
     n: u32,
@@ -245,7 +246,7 @@ pub fn attach_all(
 /// Merges b, which isn't the root, into a, whose type becomes the meet of both; b's arcs are to be a's. The answer is false where there is no meet,
 /// or another clash was met.
 pub fn merge(
-    nodes: &mut Nodes,
+    nodes: &mut Nodes<'_>,
     tasks: &mut Tasks,
     system: &TypeSystem,
     a: u32,
@@ -280,7 +281,7 @@ pub fn merge(
 /// The node one arc on, which is made where it isn't there. `None` where a path gets too long, or the feature can't stand at
 /// the node.
 pub fn go(
-    nodes: &mut Nodes,
+    nodes: &mut Nodes<'_>,
     tasks: &mut Tasks,
     system: &TypeSystem,
     node: u32,

@@ -14,7 +14,8 @@ use Rattle.fs_graph.proofs.DrawLemmas.{insert_rises, insert_bounded, insert_here
 use Rattle.fs_graph.proofs.RowLemmas.{row_at}
 use Rattle.fs_closing.specs.declared.nodes.Nodes.{Nodes}
 use Rattle.fs_closing.specs.Marked.{type_by}
-use Rattle.fs_closing.specs.OwnRows.{types_of}
+use Rattle.fs_closing.specs.Beside.{type_from}
+use Rattle.fs_closing.proofs.BesideLemmas.{home_none}
 use Rattle.fs_closing.specs.NodeTable.{table_of, own_type, IsWhole}
 use Rattle.fs_closing.proofs.ListLemmas.{at_push}
 use Rattle.fs_unify.specs.Drawing.{PutsArc, DrawsTypes, DrawsRow, DrawsRows, IsPicture}
@@ -170,7 +171,7 @@ drawn_plan nodes types starts arcs whole filled ty d = (
     type_is n (inl h) = ty.each n h
     type_is n (inr h) =
         get_or_past (map (λ t. t.0) types) n 0 (omega (arith, ty.size))
-        ∙ sym (ap (type_by (own_type nodes n)) (whole.stands.unwritten n h) ∙ get_or_past (types_of nodes.own) n 0 (omega (arith, whole.types_even)))
+        ∙ sym (ap (type_by (own_type nodes n)) (whole.stands.unwritten n h) ∙ ap (type_from n) (home_none nodes.parts.now nodes.size whole.placed n h))
 
 -- one type more
 pub types_more : (t : Table) (n : ℕ) (types types' : List Ty) (ty : Ty) → types' ≡ types ++ ty ∷ [] → ty.0 ≡ t.type_of n → DrawsTypes t n (map (λ t. t.0) types) →

@@ -10,7 +10,7 @@ use Rattle.fs_closing.proofs.HasLemmas.{Has-left, Has-right, Has-either, Has-map
 use Rattle.fs_graph.specs.declared.graph.GraphArc.{GraphArc}
 use Rattle.fs_graph.specs.GraphMap.{GraphMap, table_of, type_at, arc_to, arcs_at}
 use Rattle.fs_unify.specs.Entering.{Owes, introducer_claims}
-pub use Rattle.fs_closing.proofs.OwnLemmas.{rises_found}
+pub use Rattle.fs_closing.proofs.BesideLemmas.{rises_found}
 
 abbrev pub no_arc : GraphArc
 no_arc = record { feat = record { 0 = 0 }; to = record { 0 = 0 } }

@@ -9,3 +9,4 @@ pub mod OwedRows
 pub mod PartModel
 pub mod PlaceLemmas
 pub mod SampleLemmas
+pub mod BaseLemmas

@@ -11,6 +11,7 @@ ghost use Rattle.fs_unify.specs.Drawing.{PutsArc, DrawsTypes, DrawsRow, DrawsRow
 
 use crate::NoMemory;
 use fs_closing::nodes::{Nodes, first_of, live, ty_of};
+use fs_closing::parts::{own_cell, own_count};
 use fs_graph::{Clash, Graph, GraphArc, Node, Order, graph_of, order_in};
 use fs_paths::Feat;
 use std::alloc::Global;
@@ -45,7 +46,7 @@ fn put_arc(row: &mut Vec<GraphArc>, feat: Feat, to: Node) -> Result<(), NoMemory
 }
 
 // An empty row gets the arcs that a node has from its graph.
-fn draw_own(row: &mut Vec<GraphArc>, nodes: &Nodes, n: u32) -> Result<(), NoMemory>
+fn draw_own(row: &mut Vec<GraphArc>, nodes: &Nodes<'_>, n: u32) -> Result<(), NoMemory>
     requires whole { IsWhole nodes.now }
     requires node { n < nodes.now.size }
     requires empty { row.old.items ≡ [] }
@@ -53,8 +54,8 @@ fn draw_own(row: &mut Vec<GraphArc>, nodes: &Nodes, n: u32) -> Result<(), NoMemo
     ensures here { OnOk result ((f : ℕ) → arc_to row.new.items f ≡ option_map (table_of nodes.now).live (find_arc (own_row nodes.now n) f)) }
     ensures to_in { OnOk result ((k : ℕ) → k < length row.new.items → slice_index (targets_of row.new.items) k < nodes.now.size) }
 {
-    for i in 0..nodes.own.count(n) {
-        let cell = nodes.own.cell(n, i);
+    for i in 0..own_count(nodes.parts, n) {
+        let cell = own_cell(nodes.parts, n, i);
         let to = live(nodes, cell.to);
         put_arc(row, Feat(cell.feat), Node(to))?;
     }
@@ -62,7 +63,7 @@ fn draw_own(row: &mut Vec<GraphArc>, nodes: &Nodes, n: u32) -> Result<(), NoMemo
 }
 
 // A row with the arcs that a node has from its graph gets those that were added.
-fn draw_cells(row: &mut Vec<GraphArc>, nodes: &Nodes, n: u32) -> Result<(), NoMemory>
+fn draw_cells(row: &mut Vec<GraphArc>, nodes: &Nodes<'_>, n: u32) -> Result<(), NoMemory>
     requires whole { IsWhole nodes.now }
     requires node { n < nodes.now.size }
     requires rises { Rises row.old.items }
@@ -83,7 +84,7 @@ fn draw_cells(row: &mut Vec<GraphArc>, nodes: &Nodes, n: u32) -> Result<(), NoMe
 }
 
 // An empty row gets the arcs of a node.
-fn draw_arcs(row: &mut Vec<GraphArc>, nodes: &Nodes, n: u32) -> Result<(), NoMemory>
+fn draw_arcs(row: &mut Vec<GraphArc>, nodes: &Nodes<'_>, n: u32) -> Result<(), NoMemory>
     requires whole { IsWhole nodes.now }
     requires node { n < nodes.now.size }
     requires empty { row.old.items ≡ [] }
@@ -97,7 +98,7 @@ fn draw_arcs(row: &mut Vec<GraphArc>, nodes: &Nodes, n: u32) -> Result<(), NoMem
 }
 
 // A row becomes that of a node: its arcs, and none where it was merged.
-fn draw_row(row: &mut Vec<GraphArc>, nodes: &Nodes, n: u32) -> Result<(), NoMemory>
+fn draw_row(row: &mut Vec<GraphArc>, nodes: &Nodes<'_>, n: u32) -> Result<(), NoMemory>
     requires whole { IsWhole nodes.now }
     requires node { n < nodes.now.size }
     ensures { OnOk result (DrawsRow (table_of nodes.now) n row.new.items) }
@@ -118,7 +119,7 @@ fn place(arcs: &Vec<GraphArc>) -> Result<u32, NoMemory>
 
 // The rows of all nodes, one after another. Each row's arcs end where those of the next begin. `row` is a place to draw in.
 fn draw_rows(
-    nodes: &Nodes,
+    nodes: &Nodes<'_>,
     row: &mut Vec<GraphArc>,
     starts: &mut Vec<u32>,
     arcs: &mut Vec<GraphArc>,
@@ -137,7 +138,7 @@ fn draw_rows(
 }
 
 // The types of all nodes.
-fn draw_types(types: &mut Vec<Ty>, nodes: &Nodes) -> Result<(), NoMemory>
+fn draw_types(types: &mut Vec<Ty>, nodes: &Nodes<'_>) -> Result<(), NoMemory>
     requires whole { IsWhole nodes.now }
     requires empty { types.old.items ≡ [] }
     ensures { OnOk result (DrawsTypes (table_of nodes.now) nodes.now.size (map (λ t. t.0) types.new.items)) }
@@ -173,7 +174,7 @@ impl Picture {
 
 /// Draws closed nodes, whatever was drawn before. The answer is false where a node reaches itself or a path from the root is
 /// longer than the limit.
-pub fn draw(picture: &mut Picture, nodes: &Nodes, limit: u32) -> Result<bool, NoMemory>
+pub fn draw(picture: &mut Picture, nodes: &Nodes<'_>, limit: u32) -> Result<bool, NoMemory>
     requires whole { IsWhole nodes.now }
     requires filled { 0 < nodes.now.size }
     ensures { IfOk result (Shows nodes.now limit picture.new) }
@@ -209,7 +210,7 @@ pub fn draw(picture: &mut Picture, nodes: &Nodes, limit: u32) -> Result<bool, No
 /// The graph of closed nodes from their picture.
 pub fn graph_from(
     alloc: Global,
-    nodes: &Nodes,
+    nodes: &Nodes<'_>,
     limit: u32,
     picture: &Picture,
 ) -> Result<Graph, NoMemory>

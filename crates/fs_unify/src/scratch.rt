@@ -1,20 +1,25 @@
 //! Room for closings.
 
-ghost use Rattle.std.specs.Prelude.{◌≡◌, ◌≤◌, length, OnOk, OnErr};
+ghost use Rattle.std.specs.Prelude.{◌≡◌, ℕ, ◌≤◌, [], length, OnOk, OnErr};
 ghost use Rattle.std.specs.Borrow.{sem};
+ghost use Rattle.fs_closing.specs.NodeTable.{IsWhole, IsWithin, AreFlat};
 ghost use Rattle.fs_unify.specs.Room.{room_of, LendsMarks};
 
 use crate::draw::Picture;
 use fs_closing::fault::NoMemory;
-use fs_closing::nodes::Nodes;
+use fs_closing::marks::Marks;
+use fs_closing::nodes::{Cell, Nodes};
+use fs_closing::parts::Based;
 use fs_closing::tasks::Tasks;
 use std::alloc::Global;
+use std::mem;
 
 /// Room in which nodes are closed and drawn. A call empties it and keeps its memory; no answer depends on what it holds. It
 /// has spare room for a number of nodes, a mark for each.
 #[derive(Debug, Drop)]
 pub struct Scratch {
-    pub(crate) nodes: Nodes,
+    pub(crate) written: Marks,
+    pub(crate) cells: Vec<Cell>,
     pub(crate) tasks: Tasks,
     pub(crate) offsets: Vec<u32>,
     pub(crate) picture: Picture,
@@ -36,7 +41,8 @@ impl Scratch {
         ensures { room_of result ≡ 0 }
     {
         Scratch {
-            nodes: Nodes::aged(alloc, generation),
+            written: Marks::aged(alloc, generation),
+            cells: Vec::new(alloc),
             tasks: Tasks::new(alloc),
             offsets: Vec::new(alloc),
             picture: Picture::new(alloc),
@@ -62,5 +68,34 @@ impl Scratch {
         ensures size { length result.now ≡ room_of self.old }
     {
         &mut self.marks
+    }
+
+    // The nodes of a call, in the memory of those before: none yet, and no graph has entered.
+    pub(crate) fn begin<'a>(&mut self, alloc: Global, graphs: &'a [Based<'a>]) -> Nodes<'a>
+        requires { graphs.now ≡ [] }
+        ensures parts { result.parts.now ≡ [] }
+        ensures none { result.size ≡ 0 }
+        ensures whole { IsWhole result }
+        ensures flat { AreFlat result }
+        ensures within { (types feats : ℕ) → IsWithin types feats result }
+        ensures room { room_of self.new ≡ room_of self.old }
+    {
+        let mut nodes = Nodes {
+            marks: mem::replace(&mut self.written, Marks::aged(alloc, 1)),
+            cells: mem::replace(&mut self.cells, Vec::new(alloc)),
+            parts: graphs,
+            merges: 0,
+            size: 0,
+        };
+        nodes.clear();
+        nodes
+    }
+
+    // Keeps the memory of a call's nodes for the next one.
+    pub(crate) fn keep(&mut self, nodes: Nodes<'_>)
+        ensures { room_of self.new ≡ room_of self.old }
+    {
+        self.written = nodes.marks;
+        self.cells = nodes.cells;
     }
 }

@@ -29,7 +29,7 @@ use std::alloc::Global;
 
 // Puts facts at the root.
 fn apply_all(
-    nodes: &mut Nodes,
+    nodes: &mut Nodes<'_>,
     tasks: &mut Tasks,
     system: &TypeSystem,
     facts: &[Fact],
@@ -51,7 +51,7 @@ fn apply_all(
 
 // Facts are put at the root, from no nodes on. The answer is false where a path gets too long.
 fn gather_facts(
-    nodes: &mut Nodes,
+    nodes: &mut Nodes<'_>,
     tasks: &mut Tasks,
     system: &TypeSystem,
     facts: &[Fact],
@@ -76,7 +76,7 @@ fn gather_facts(
 /// Closes nodes with their tasks, and draws them, whatever was drawn before. The answer is true exactly where what they stand
 /// for is consistent.
 pub fn close_within(
-    nodes: &mut Nodes,
+    nodes: &mut Nodes<'_>,
     tasks: &mut Tasks,
     picture: &mut Picture,
     system: &TypeSystem,
@@ -100,7 +100,7 @@ pub fn close_within(
 /// inconsistent.
 pub fn settle(
     alloc: Global,
-    nodes: &mut Nodes,
+    nodes: &mut Nodes<'_>,
     tasks: &mut Tasks,
     picture: &mut Picture,
     system: &TypeSystem,
@@ -123,7 +123,7 @@ pub fn settle(
 // The structure of facts, from no nodes on.
 fn structure(
     alloc: Global,
-    nodes: &mut Nodes,
+    nodes: &mut Nodes<'_>,
     tasks: &mut Tasks,
     picture: &mut Picture,
     system: &TypeSystem,
@@ -167,16 +167,19 @@ pub fn structure_of(
     ensures answer { IfOk result (λ o. IsUnified (system_of system.now) (facts_source (claims_of facts.now)) (option_map reader_of o)) }
     ensures known { IfOk result (λ o. IfSome o (IsAnswerIn system.now)) }
 {
-    scratch.nodes.clear();
+    let none = Vec::new(alloc);
+    let mut nodes = scratch.begin(alloc, &none);
     scratch.tasks.clear();
     let types = system.types();
     types.laws();
-    structure(
+    let answer = structure(
         alloc,
-        &mut scratch.nodes,
+        &mut nodes,
         &mut scratch.tasks,
         &mut scratch.picture,
         system,
         facts,
-    )
+    );
+    scratch.keep(nodes);
+    answer
 }

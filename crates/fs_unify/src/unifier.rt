@@ -12,6 +12,7 @@ ghost use Rattle.fs_closing.specs.Work.{work_of, AreReady};
 ghost use Rattle.fs_closing.specs.Keeps.{AreSound, StepsTo};
 ghost use Rattle.fs_unify.specs.Given.{Gathers};
 ghost use Rattle.fs_unify.specs.Placing.{PlacedGraph, placed, part_in, source_of, source_in, joints, HasEntered, IsPlacedIn, IsAnswerIn};
+ghost use Rattle.fs_unify.specs.Inner.Bases.{AreBased};
 ghost use Rattle.fs_unify.specs.Room.{room_of};
 
 use crate::draw::Picture;
@@ -22,29 +23,35 @@ use crate::structure::{close_within, settle};
 use fs_closing::closing::reach;
 use fs_closing::fault::NoMemory;
 use fs_closing::nodes::{Nodes, add_node};
+use fs_closing::parts::Based;
 use fs_closing::system::TypeSystem;
 use fs_closing::tasks::Tasks;
 use fs_graph::Graph;
 use std::alloc::Global;
 
 // All graphs enter; `offsets` gets the numbers of their roots.
-fn enter_all(
-    nodes: &mut Nodes,
+fn enter_all<'a>(
+    nodes: &mut Nodes<'a>,
     tasks: &mut Tasks,
     system: &TypeSystem,
     parts: &[Placed<'_>],
+    graphs: &'a [Based<'a>],
     offsets: &mut Vec<u32>,
 ) -> Result<(), NoMemory>
     requires bare { IsBare (system_of system.now) }
     requires sound { AreSound system.now nodes.old tasks.old }
     requires parts { (p : Placed) → Has p parts.now → IsPlacedIn system.now (placed p) }
+    requires graphs { AreBased 1 parts.now graphs.now }
+    requires first { nodes.old.size ≡ 1 }
+    requires none { nodes.old.parts.now ≡ [] }
     requires begun { HasEntered system.now parts.now [] offsets.old.items nodes.old tasks.old }
     ensures entered { OnOk result (HasEntered system.now parts.now parts.now offsets.new.items nodes.new tasks.new) }
     ensures sound { OnOk result (AreSound system.now nodes.new tasks.new) }
 {
-    for part in parts {
+    for i in 0..parts.len() {
+        let part = &parts[i];
         part.graph.laws();
-        let offset = enter(nodes, tasks, system, part.graph, part.standing)?;
+        let offset = enter(nodes, tasks, system, graphs, i, part.standing)?;
         offsets.push(offset)?;
     }
     Ok(())
@@ -52,7 +59,7 @@ fn enter_all(
 
 // Each graph's root is put at its path.
 fn connect(
-    nodes: &mut Nodes,
+    nodes: &mut Nodes<'_>,
     tasks: &mut Tasks,
     system: &TypeSystem,
     parts: &[Placed<'_>],
@@ -76,12 +83,13 @@ fn connect(
 }
 
 // All graphs enter, from no nodes on, and each is put at its path. The answer is false where a path gets too long.
-fn gather(
-    nodes: &mut Nodes,
+fn gather<'a>(
+    nodes: &mut Nodes<'a>,
     tasks: &mut Tasks,
     offsets: &mut Vec<u32>,
     system: &TypeSystem,
     parts: &[Placed<'_>],
+    graphs: &'a [Based<'a>],
 ) -> Result<bool, NoMemory>
     requires bare { IsBare (system_of system.now) }
     requires whole { IsWhole nodes.old }
@@ -91,6 +99,8 @@ fn gather(
     requires no_work { work_of system.now.rules tasks.old ≡ [] }
     requires ready { (size types rules : ℕ) → AreReady size types rules tasks.old }
     requires some { 0 < length parts.now }
+    requires graphs { AreBased 1 parts.now graphs.now }
+    requires lent { nodes.old.parts.now ≡ [] }
     requires parts { (p : Placed) → Has p parts.now → IsPlacedIn system.now (placed p) }
     ensures { IfOk result (Gathers system.now (source_in parts.now) nodes.new tasks.new) }
 {
@@ -99,20 +109,21 @@ fn gather(
     first.graph.laws();
     add_node(nodes, 0, 0)?;
     offsets.clear();
-    enter_all(nodes, tasks, system, parts, offsets)?;
+    enter_all(nodes, tasks, system, parts, graphs, offsets)?;
     let connected = connect(nodes, tasks, system, parts, offsets)?;
     Ok(connected)
 }
 
 // The unification of graphs, from no nodes on.
-fn unified(
+fn unified<'a>(
     alloc: Global,
-    nodes: &mut Nodes,
+    nodes: &mut Nodes<'a>,
     tasks: &mut Tasks,
     offsets: &mut Vec<u32>,
     picture: &mut Picture,
     system: &TypeSystem,
     parts: &[Placed<'_>],
+    graphs: &'a [Based<'a>],
 ) -> Result<Option<Graph>, NoMemory>
     requires order { IsOrder (system_of system.now) }
     requires bare { IsBare (system_of system.now) }
@@ -123,11 +134,13 @@ fn unified(
     requires no_work { work_of system.now.rules tasks.old ≡ [] }
     requires ready { (size types rules : ℕ) → AreReady size types rules tasks.old }
     requires some { 0 < length parts.now }
+    requires graphs { AreBased 1 parts.now graphs.now }
+    requires lent { nodes.old.parts.now ≡ [] }
     requires parts { (p : Placed) → Has p parts.now → IsPlacedIn system.now (placed p) }
     ensures answer { IfOk result (λ o. IsUnified (system_of system.now) (source_in parts.now) (option_map reader_of o)) }
     ensures known { IfOk result (λ o. IfSome o (IsAnswerIn system.now)) }
 {
-    let gathered = gather(nodes, tasks, offsets, system, parts)?;
+    let gathered = gather(nodes, tasks, offsets, system, parts, graphs)?;
     if gathered {
         let graph = settle(alloc, nodes, tasks, picture, system)?;
         return Ok(graph);
@@ -136,13 +149,14 @@ fn unified(
 }
 
 // Whether graphs unify, from no nodes on.
-fn consistent(
-    nodes: &mut Nodes,
+fn consistent<'a>(
+    nodes: &mut Nodes<'a>,
     tasks: &mut Tasks,
     offsets: &mut Vec<u32>,
     picture: &mut Picture,
     system: &TypeSystem,
     parts: &[Placed<'_>],
+    graphs: &'a [Based<'a>],
 ) -> Result<bool, NoMemory>
     requires order { IsOrder (system_of system.now) }
     requires bare { IsBare (system_of system.now) }
@@ -153,10 +167,12 @@ fn consistent(
     requires no_work { work_of system.now.rules tasks.old ≡ [] }
     requires ready { (size types rules : ℕ) → AreReady size types rules tasks.old }
     requires some { 0 < length parts.now }
+    requires graphs { AreBased 1 parts.now graphs.now }
+    requires lent { nodes.old.parts.now ≡ [] }
     requires parts { (p : Placed) → Has p parts.now → IsPlacedIn system.now (placed p) }
     ensures { IfOk result (λ b. IsTrue b ↔ IsConsistent (system_of system.now) (Told (source_in parts.now))) }
 {
-    let gathered = gather(nodes, tasks, offsets, system, parts)?;
+    let gathered = gather(nodes, tasks, offsets, system, parts, graphs)?;
     if gathered {
         let consistent = close_within(nodes, tasks, picture, system)?;
         return Ok(consistent);
@@ -181,26 +197,29 @@ pub fn unify(
     ensures answer { IfOk result (λ o. IsUnified (system_of system.now) (source_of parts.now) (option_map reader_of o)) }
     ensures known { IfOk result (λ o. IfSome o (IsAnswerIn system.now)) }
 {
-    scratch.nodes.clear();
+    let mut nodes = scratch.begin(alloc, &parts.graphs[..0]);
     scratch.tasks.clear();
     let types = system.types();
     types.laws();
-    unified(
+    let answer = unified(
         alloc,
-        &mut scratch.nodes,
+        &mut nodes,
         &mut scratch.tasks,
         &mut scratch.offsets,
         &mut scratch.picture,
         system,
         &parts.items,
-    )
+        &parts.graphs,
+    );
+    scratch.keep(nodes);
+    answer
 }
 
 /// Whether graphs unify, each at its path: true exactly where the closure of all that they tell is consistent. There is one
 /// graph at least. Whatever the scratch holds, the answer is the same. No graph is made. `NoMemory` comes only for want of
 /// memory, or of numbers for nodes, arcs and turns.
 pub fn unifies(
-    _alloc: Global,
+    alloc: Global,
     scratch: &mut Scratch,
     system: &TypeSystem,
     parts: &Parts<'_>,
@@ -211,16 +230,19 @@ pub fn unifies(
     ensures room { room_of scratch.old ≤ room_of scratch.new }
     ensures answer { IfOk result (λ b. IsTrue b ↔ IsConsistent (system_of system.now) (Told (source_of parts.now))) }
 {
-    scratch.nodes.clear();
+    let mut nodes = scratch.begin(alloc, &parts.graphs[..0]);
     scratch.tasks.clear();
     let types = system.types();
     types.laws();
-    consistent(
-        &mut scratch.nodes,
+    let answer = consistent(
+        &mut nodes,
         &mut scratch.tasks,
         &mut scratch.offsets,
         &mut scratch.picture,
         system,
         &parts.items,
-    )
+        &parts.graphs,
+    );
+    scratch.keep(nodes);
+    answer
 }

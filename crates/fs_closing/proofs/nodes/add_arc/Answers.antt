@@ -27,9 +27,7 @@ returns-clause-whole c =
           c.args.n c.args.feat c.args.to c.stands-old.result.first _ c.requires.node c.requires.to c.write.ensures.here c.write.ensures.others
           (ap (λ w. w.first) stood) (ap (λ w. w.forward) stood) (ap (λ w. w.ty) stood) place c.requires.no_arc room);
       enough = omega (arith, c.requires.whole.enough, c.write.ensures.size);
-      own_even = c.requires.whole.own_even;
-      types_even = c.requires.whole.types_even;
-      own_rows = c.requires.whole.own_rows;
+      placed = c.requires.whole.placed;
     }
 
 pub returns-clause-within : goal.returns-clause-within

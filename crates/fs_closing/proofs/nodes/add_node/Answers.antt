@@ -1,8 +1,6 @@
-use Rattle.std.proofs.Common.{◌<◌, ◌+◌, ◌^◌, slice_index_or, [], refl, ◌∙◌, ap, arith}
+use Rattle.std.proofs.Common.{◌<◌, ◌+◌, ◌^◌, refl, ◌∙◌, ap, arith}
 use Rattle.fs_closing.specs.Marked.{written_at, depth_by}
-use Rattle.fs_closing.specs.OwnRows.{own_of, types_of}
 use Rattle.fs_closing.specs.NodeTable.{at_of, own_type, own_row}
-use Rattle.fs_closing.proofs.ListLemmas.{push_default, types_pushed}
 use Rattle.fs_closing.proofs.WiderLemmas.{table_added, whole_added, within_added}
 use Rattle.fs_closing.proofs.nodes.add_node.Goals as goal
 
@@ -12,36 +10,25 @@ write-requires c = let more = c.in_ok-widen.ensures.room in omega (arith, more)
 pub returns-clause-adds : goal.returns-clause-adds
 returns-clause-adds c =
     let nodes = c.args.nodes.now in
-    table_added (at_of nodes) (written_at c.write.new.self) (own_type nodes) (λ k. slice_index_or (types_of c.push_none.new.self) k 0) (own_row nodes)
-    (λ k. slice_index_or (own_of c.push_none.new.self) k []) nodes.cells.items nodes.merges nodes.size c.requires.stands _ c.write.ensures.here
-    (λ k e. c.write.ensures.others k e ∙ c.in_ok-widen.ensures.kept k)
-    (λ k. ap (λ l. slice_index_or l k []) c.in_ok-push_none.ensures.rows ∙ push_default (own_of nodes.own) [] k)
-    (λ k. ap (λ l. slice_index_or l k 0) c.in_ok-push_none.ensures.types ∙ push_default (types_of nodes.own) 0 k) refl refl
+    table_added (at_of nodes) (written_at c.write.new.self) (own_type nodes) (own_type nodes) (own_row nodes) (own_row nodes) nodes.cells.items nodes.merges nodes.size
+    c.requires.stands _ c.write.ensures.here (λ k e. c.write.ensures.others k e ∙ c.in_ok-widen.ensures.kept k) (λ k. refl) (λ k. refl) refl refl
 
 pub returns-clause-whole : goal.returns-clause-whole
 returns-clause-whole c =
     let nodes = c.args.nodes.now in
     let room : c.args.nodes.now.size + 1 < 2 ^ 32 = omega (arith, c.requires.stands.small, c.if-n.false) in
     record {
-      stands = whole_added (at_of nodes) (written_at c.write.new.self) (own_type nodes) (λ k. slice_index_or (types_of c.push_none.new.self) k 0) (own_row nodes)
-          (λ k. slice_index_or (own_of c.push_none.new.self) k []) nodes.cells.items nodes.merges nodes.size c.requires.stands _ c.write.ensures.here
-          (λ k e. c.write.ensures.others k e ∙ c.in_ok-widen.ensures.kept k)
-          (λ k. ap (λ l. slice_index_or l k []) c.in_ok-push_none.ensures.rows ∙ push_default (own_of nodes.own) [] k)
-          (λ k. ap (λ l. slice_index_or l k 0) c.in_ok-push_none.ensures.types ∙ push_default (types_of nodes.own) 0 k) refl refl room;
+      stands = whole_added (at_of nodes) (written_at c.write.new.self) (own_type nodes) (own_type nodes) (own_row nodes) (own_row nodes) nodes.cells.items nodes.merges nodes.size
+          c.requires.stands _ c.write.ensures.here (λ k e. c.write.ensures.others k e ∙ c.in_ok-widen.ensures.kept k) (λ k. refl) (λ k. refl) refl refl room;
       enough = omega (arith, c.in_ok-widen.ensures.room, c.write.ensures.size);
-      own_even = omega (arith, c.in_ok-push_none.ensures.size, c.requires.own_even);
-      types_even = types_pushed (types_of nodes.own) (types_of c.push_none.new.self) nodes.size c.in_ok-push_none.ensures.types c.requires.types_even;
-      own_rows = c.in_ok-push_none.ensures.whole;
+      placed = λ p h. let x = c.requires.placed p h in (x.0, omega (arith, x.1));
     }
 
 pub returns-clause-within : goal.returns-clause-within
 returns-clause-within c = λ types feats low old.
     let nodes = c.args.nodes.now in
-    within_added (at_of nodes) (written_at c.write.new.self) (own_type nodes) (λ k. slice_index_or (types_of c.push_none.new.self) k 0) (own_row nodes)
-    (λ k. slice_index_or (own_of c.push_none.new.self) k []) nodes.cells.items nodes.merges nodes.size c.requires.stands _ c.write.ensures.here
-    (λ k e. c.write.ensures.others k e ∙ c.in_ok-widen.ensures.kept k)
-    (λ k. ap (λ l. slice_index_or l k []) c.in_ok-push_none.ensures.rows ∙ push_default (own_of nodes.own) [] k)
-    (λ k. ap (λ l. slice_index_or l k 0) c.in_ok-push_none.ensures.types ∙ push_default (types_of nodes.own) 0 k) refl refl types feats low old
+    within_added (at_of nodes) (written_at c.write.new.self) (own_type nodes) (own_type nodes) (own_row nodes) (own_row nodes) nodes.cells.items nodes.merges nodes.size
+    c.requires.stands _ c.write.ensures.here (λ k e. c.write.ensures.others k e ∙ c.in_ok-widen.ensures.kept k) (λ k. refl) (λ k. refl) refl refl types feats low old
 
 pub returns-clause-depths : goal.returns-clause-depths
 returns-clause-depths c = record {

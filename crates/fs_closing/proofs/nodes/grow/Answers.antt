@@ -13,3 +13,6 @@ returns-clause-depths c = record {
   others = λ k e. c.in_ok-add_arc.ensures.keeps.depths k ∙ c.in_ok-to.ensures.depths.others k e;
   here = c.in_ok-add_arc.ensures.keeps.depths c.args.nodes.now.size ∙ c.in_ok-to.ensures.depths.here;
 }
+
+pub returns-clause-within : goal.returns-clause-within
+returns-clause-within c = λ types feats low feat old. c.in_ok-add_arc.ensures.within types feats feat (c.in_ok-to.ensures.within types feats low old)

@@ -19,9 +19,7 @@ returns-clause-whole c =
       stands = whole_retyped (at_of nodes) (written_at c.write.new.self) (own_type nodes) (own_row nodes) nodes.cells.items nodes.merges nodes.size c.requires.whole.stands
           c.args.n _ c.requires.node c.write.ensures.here c.write.ensures.others (ap (λ w. w.forward) stood) (ap (λ w. w.first) stood);
       enough = omega (arith, c.requires.whole.enough, c.write.ensures.size);
-      own_even = c.requires.whole.own_even;
-      types_even = c.requires.whole.types_even;
-      own_rows = c.requires.whole.own_rows;
+      placed = c.requires.whole.placed;
     }
 
 pub returns-clause-within : goal.returns-clause-within

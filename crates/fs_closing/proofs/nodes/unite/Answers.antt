@@ -32,9 +32,7 @@ returns-clause-whole c =
           c.write.ensures.here c.write.ensures.others c.write-2.ensures.here c.write-2.ensures.others
           refl (ap (λ w. w.ty) b) (ap (λ w. w.first) b) (ap (λ w. w.forward) a) (ap (λ w. w.first) a);
       enough = omega (arith, c.requires.whole.enough, c.write.ensures.size, c.write-2.ensures.size);
-      own_even = c.requires.whole.own_even;
-      types_even = c.requires.whole.types_even;
-      own_rows = c.requires.whole.own_rows;
+      placed = c.requires.whole.placed;
     })
 
 pub returns-clause-within : goal.returns-clause-within

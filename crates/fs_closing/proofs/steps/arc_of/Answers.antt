@@ -24,11 +24,8 @@ pub look_up-requires-clause-place : goal.look_up-requires-clause-place
 look_up-requires-clause-place c =
     omega (arith, c.first_of.ensures, c.requires.sound.stands.first_in c.args.n c.requires.node, ap length c.deref.ensures.value)
 
-pub find-requires-clause-node : goal.find-requires-clause-node
-find-requires-clause-node c = omega (arith, c.requires.node, c.requires.sound.own_even)
-
-pub find-requires-clause-small : goal.find-requires-clause-small
-find-requires-clause-small c = λ x h. omega (arith, c.requires.sound.stands.own_in c.args.n x h, c.requires.sound.stands.small)
+pub own_arc-requires : goal.own_arc-requires
+own_arc-requires c = record { small = λ x h. omega (arith, c.requires.sound.stands.own_in c.args.n x h, c.requires.sound.stands.small) }
 
 pub returns-clause-value : goal.returns-clause-value
 returns-clause-value c =
@@ -36,7 +33,7 @@ returns-clause-value c =
     let value : None ≡ find_arc (chain c.deref.result.now c.first_of.result) c.args.feat = cc (c.in_default.is, c.in_default.ensures) in
     let none = value ∙ ap (λ l. find_arc (chain l c.first_of.result) c.args.feat) c.deref.ensures.value
     ∙ ap (λ p. find_arc (chain nodes.cells.items p) c.args.feat) c.first_of.ensures in
-    c.find.ensures ∙ sym (find_right (chain nodes.cells.items (first_of nodes c.args.n)) (own_row nodes c.args.n) c.args.feat (sym none))
+    c.own_arc.ensures ∙ sym (find_right (chain nodes.cells.items (first_of nodes c.args.n)) (own_row nodes c.args.n) c.args.feat (sym none))
 
 pub returns-clause-within : goal.returns-clause-within
 returns-clause-within c =
@@ -44,5 +41,5 @@ returns-clause-within c =
     let value : None ≡ find_arc (chain c.deref.result.now c.first_of.result) c.args.feat = cc (c.in_default.is, c.in_default.ensures) in
     let none = value ∙ ap (λ l. find_arc (chain l c.first_of.result) c.args.feat) c.deref.ensures.value
     ∙ ap (λ p. find_arc (chain nodes.cells.items p) c.args.feat) c.first_of.ensures in
-    arc_within_some (at_of nodes) (own_row nodes) nodes.cells.items nodes.merges nodes.size c.requires.sound.stands c.args.n c.args.feat c.find.result
-    (c.find.ensures ∙ sym (find_right (chain nodes.cells.items (first_of nodes c.args.n)) (own_row nodes c.args.n) c.args.feat (sym none)))
+    arc_within_some (at_of nodes) (own_row nodes) nodes.cells.items nodes.merges nodes.size c.requires.sound.stands c.args.n c.args.feat c.own_arc.result
+    (c.own_arc.ensures ∙ sym (find_right (chain nodes.cells.items (first_of nodes c.args.n)) (own_row nodes c.args.n) c.args.feat (sym none)))

@@ -10,36 +10,30 @@ use Rattle.fs_closing.proofs.HasLemmas.{Has-at}
 use Rattle.fs_closing.proofs.StepLemmas.{Turns-none, turn_one, refute_one, claims_step, claims_all, claims_none}
 use Rattle.fs_closing.proofs.steps.attach_own.Goals as goal
 
-pub count-i-end-requires-clause-node : goal.count-i-end-requires-clause-node
-count-i-end-requires-clause-node c = omega (arith, c.requires.of_in, c.requires.sound.whole.own_even)
-
-pub cell-cell-requires-clause-node : goal.cell-cell-requires-clause-node
-cell-cell-requires-clause-node c = omega (arith, c.loop-i.invariant.of_in, c.loop-i.invariant.sound.whole.own_even)
-
-pub cell-cell-requires-clause-place : goal.cell-cell-requires-clause-place
-cell-cell-requires-clause-place c =
-    let i_in : c.loop-i.i < length (own_row c.args.nodes.now c.args.of) = omega (arith, c.loop-i-test.true, c.count-i-end.ensures) in
+pub own_cell-cell-requires-clause-place : goal.own_cell-cell-requires-clause-place
+own_cell-cell-requires-clause-place c =
+    let i_in : c.loop-i.i < length (own_row c.args.nodes.now c.args.of) = omega (arith, c.loop-i-test.true, c.own_count-i-end.ensures) in
     subst (λ l. c.loop-i.i < length l) (sym c.loop-i.invariant.own) i_in
 
-pub cell-cell-requires-clause-small : goal.cell-cell-requires-clause-small
-cell-cell-requires-clause-small c = λ x h.
+pub own_cell-cell-requires-clause-small : goal.own_cell-cell-requires-clause-small
+own_cell-cell-requires-clause-small c = λ x h.
     omega (arith, c.loop-i.invariant.sound.whole.stands.own_in c.args.of x h, c.loop-i.invariant.sound.whole.stands.small)
 
 pub attach-requires-clause-to_in : goal.attach-requires-clause-to_in
 attach-requires-clause-to_in c =
-    let i_in : c.loop-i.i < length (own_row c.args.nodes.now c.args.of) = omega (arith, c.loop-i-test.true, c.count-i-end.ensures) in
+    let i_in : c.loop-i.i < length (own_row c.args.nodes.now c.args.of) = omega (arith, c.loop-i-test.true, c.own_count-i-end.ensures) in
     let here = subst (λ l. c.loop-i.i < length l) (sym c.loop-i.invariant.own) i_in in
-    let at = subst (λ x. Has x (own_row c.loop-i.nodes c.args.of)) (sym (c.cell-cell.ensures no_cell))
+    let at = subst (λ x. Has x (own_row c.loop-i.nodes c.args.of)) (sym (c.own_cell-cell.ensures no_cell))
     (Has-at (own_row c.loop-i.nodes c.args.of) c.loop-i.i no_cell here) in
-    c.loop-i.invariant.sound.whole.stands.own_in c.args.of c.cell-cell.result at
+    c.loop-i.invariant.sound.whole.stands.own_in c.args.of c.own_cell-cell.result at
 
 pub attach-requires-clause-feat_in : goal.attach-requires-clause-feat_in
 attach-requires-clause-feat_in c =
-    let i_in : c.loop-i.i < length (own_row c.args.nodes.now c.args.of) = omega (arith, c.loop-i-test.true, c.count-i-end.ensures) in
+    let i_in : c.loop-i.i < length (own_row c.args.nodes.now c.args.of) = omega (arith, c.loop-i-test.true, c.own_count-i-end.ensures) in
     let here = subst (λ l. c.loop-i.i < length l) (sym c.loop-i.invariant.own) i_in in
-    let at = subst (λ x. Has x (own_row c.loop-i.nodes c.args.of)) (sym (c.cell-cell.ensures no_cell))
+    let at = subst (λ x. Has x (own_row c.loop-i.nodes c.args.of)) (sym (c.own_cell-cell.ensures no_cell))
     (Has-at (own_row c.loop-i.nodes c.args.of) c.loop-i.i no_cell here) in
-    c.loop-i.invariant.sound.within.own_feat c.args.of c.cell-cell.result at
+    c.loop-i.invariant.sound.within.own_feat c.args.of c.own_cell-cell.result at
 
 pub loop-i-init : goal.loop-i-init
 loop-i-init c =
@@ -61,9 +55,9 @@ loop-i-preserved c =
     let s = system_of c.args.system.now in
     let n = c.args.n in
     let row = own_row c.args.nodes.now c.args.of in
-    let i_in : c.loop-i.i < length (own_row c.args.nodes.now c.args.of) = omega (arith, c.loop-i-test.true, c.count-i-end.ensures) in
-    let cell = c.cell-cell.result in
-    let is = c.cell-cell.ensures no_cell ∙ ap (λ l. slice_index_or l c.loop-i.i no_cell) c.loop-i.invariant.own in
+    let i_in : c.loop-i.i < length (own_row c.args.nodes.now c.args.of) = omega (arith, c.loop-i-test.true, c.own_count-i-end.ensures) in
+    let cell = c.own_cell-cell.result in
+    let is = c.own_cell-cell.ensures no_cell ∙ ap (λ l. slice_index_or l c.loop-i.i no_cell) c.loop-i.invariant.own in
     let start = arc_claims n row ++ work_of c.args.system.now.rules c.args.tasks.now in
     let work = work_of c.args.system.now.rules c.loop-i.tasks in
     let before = subst (λ l. Turns s (deep_of c.args.nodes.now) start (deep_of c.loop-i.nodes) (l ++ work))
@@ -85,9 +79,9 @@ returns-in-false c =
     let s = system_of c.args.system.now in
     let n = c.args.n in
     let row = own_row c.args.nodes.now c.args.of in
-    let i_in : c.loop-i.i < length (own_row c.args.nodes.now c.args.of) = omega (arith, c.loop-i-test.true, c.count-i-end.ensures) in
-    let cell = c.cell-cell.result in
-    let is = c.cell-cell.ensures no_cell ∙ ap (λ l. slice_index_or l c.loop-i.i no_cell) c.loop-i.invariant.own in
+    let i_in : c.loop-i.i < length (own_row c.args.nodes.now c.args.of) = omega (arith, c.loop-i-test.true, c.own_count-i-end.ensures) in
+    let cell = c.own_cell-cell.result in
+    let is = c.own_cell-cell.ensures no_cell ∙ ap (λ l. slice_index_or l c.loop-i.i no_cell) c.loop-i.invariant.own in
     let start = arc_claims n row ++ work_of c.args.system.now.rules c.args.tasks.now in
     let work = work_of c.args.system.now.rules c.loop-i.tasks in
     let before = subst (λ l. Turns s (deep_of c.args.nodes.now) start (deep_of c.loop-i.nodes) (l ++ work))
@@ -102,7 +96,7 @@ returns c =
     let s = system_of c.args.system.now in
     let row = own_row c.args.nodes.now c.args.of in
     let start = arc_claims c.args.n row ++ work_of c.args.system.now.rules c.args.tasks.now in
-    let past : length (own_row c.args.nodes.now c.args.of) ≤ c.loop-i.i = omega (arith, c.loop-i-test.false, c.count-i-end.ensures) in (
+    let past : length (own_row c.args.nodes.now c.args.of) ≤ c.loop-i.i = omega (arith, c.loop-i-test.false, c.own_count-i-end.ensures) in (
       subst (λ l. Turns s (deep_of c.args.nodes.now) start (deep_of c.loop-i.nodes) (l ++ work_of c.args.system.now.rules c.loop-i.tasks))
           (claims_none c.args.n c.loop-i.i row past) c.loop-i.invariant.leads,
       c.loop-i.invariant.sound,

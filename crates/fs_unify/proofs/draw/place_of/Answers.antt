@@ -1,7 +1,7 @@
 use Rattle.std.proofs.Common.{◌≤◌, ◌<◌, ◌-◌, length, sym, subst, arith}
 use Rattle.std.proofs.lemmas.List.{get_or-map}
 use Rattle.fs_graph.specs.declared.graph.GraphArc.{GraphArc}
-use Rattle.fs_closing.proofs.OwnLemmas.{no_arc}
+use Rattle.fs_closing.proofs.BesideLemmas.{no_arc}
 use Rattle.fs_unify.proofs.DrawRows.{below_place, past_place}
 use Rattle.fs_unify.proofs.draw.place_of.Goals as goal
 

@@ -3,5 +3,5 @@ use Rattle.type_hierarchy.specs.Laws.{HasTypeLaws}
 use Rattle.fs_closing.proofs.OrderLemmas.{order_of_laws}
 use Rattle.fs_unify.proofs.structure.structure_of.Goals as goal
 
-pub structure-requires-clause-order : goal.structure-requires-clause-order
-structure-requires-clause-order c = order_of_laws c.args.system.now (subst HasTypeLaws c.types-types.ensures c.laws.ensures)
+pub structure-answer-requires-clause-order : goal.structure-answer-requires-clause-order
+structure-answer-requires-clause-order c = order_of_laws c.args.system.now (subst HasTypeLaws c.types-types.ensures c.laws.ensures)

@@ -12,16 +12,19 @@ use Rattle.fs_unify.specs.Placing.{placed, source_of, source_in}
 use Rattle.fs_unify.proofs.PlaceLemmas.{source_seen}
 use Rattle.fs_unify.proofs.unifier.unify.Goals as goal
 
-pub unified-requires-clause-order : goal.unified-requires-clause-order
-unified-requires-clause-order c = order_of_laws c.args.system.now (subst HasTypeLaws c.types-types.ensures c.laws.ensures)
+pub unified-answer-requires-clause-order : goal.unified-answer-requires-clause-order
+unified-answer-requires-clause-order c = order_of_laws c.args.system.now (subst HasTypeLaws c.types-types.ensures c.laws.ensures)
 
-pub unified-requires-clause-parts : goal.unified-requires-clause-parts
-unified-requires-clause-parts c = λ p h.
-    c.requires.parts (placed p) (subst (Has (placed p)) c.parts.view_is (Has-map placed p c.parts.inside.items.items (subst (Has p) c.deref.ensures.value h)))
+pub unified-answer-requires-clause-parts : goal.unified-answer-requires-clause-parts
+unified-answer-requires-clause-parts c = λ p h.
+    c.requires.parts (placed p) (subst (Has (placed p)) c.parts.view_is (Has-map placed p c.parts.inside.items.items (subst (Has p) c.deref-2.ensures.value h)))
 
 pub returns-clause-answer : goal.returns-clause-answer
 returns-clause-answer c =
     let g = c.args.system.now in
-    let is : source_in c.deref.result.now ≡ source_of c.args.parts.now =
-    source_seen c.deref.result.now ∙ ap (λ l. source_of (map placed l)) c.deref.ensures.value ∙ ap source_of c.parts.view_is in
-    subst (λ s. IfOk c.unified.result (λ o. IsUnified (system_of g) s (option_map reader_of o))) is c.unified.ensures.answer
+    let is : source_in c.deref-2.result.now ≡ source_of c.args.parts.now =
+    source_seen c.deref-2.result.now ∙ ap (λ l. source_of (map placed l)) c.deref-2.ensures.value ∙ ap source_of c.parts.view_is in
+    subst (λ s. IfOk c.unified-answer.result (λ o. IsUnified (system_of g) s (option_map reader_of o))) is c.unified-answer.ensures.answer
+
+pub unified-answer-requires-clause-graphs : goal.unified-answer-requires-clause-graphs
+unified-answer-requires-clause-graphs c = rw (c.deref-2.ensures.value, c.deref-3.ensures.value) c.parts.invariant.based

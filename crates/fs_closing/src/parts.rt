@@ -1,0 +1,94 @@
+//! Graphs that are read where they stand.
+
+ghost use Rattle.std.specs.Prelude.{◌≡◌, ◌<◌, ◌^◌, length, option_map, slice_index_or};
+ghost use Rattle.fs_model.specs.Claims.{Has};
+ghost use Rattle.fs_graph.specs.GraphMap.{arc_to};
+ghost use Rattle.fs_closing.specs.declared.nodes.Cell.{Cell as CellValue};
+ghost use Rattle.fs_closing.specs.Cells.{find_arc};
+ghost use Rattle.fs_closing.specs.Beside.{holds, home, row_in, type_in};
+
+use crate::nodes::Cell;
+use fs_graph::{Graph, GraphArc, Node};
+
+/// A graph whose nodes have the numbers from `base` on.
+#[derive(Clone, Copy)]
+pub struct Based<'a> {
+    pub graph: &'a Graph,
+    pub base: u32,
+}
+
+// Whether a number is that of a node of the graph.
+fn is_of(part: &Based<'_>, n: u32) -> bool
+    ensures { result ≡ holds n part.now }
+{
+    part.base <= n && n - part.base < part.graph.nodes()
+}
+
+// The graph of a node. There are few.
+fn home<'a>(parts: &'a [Based<'a>], n: u32) -> Option<&'a Based<'a>>
+    ensures { option_map (λ p. p.now) result ≡ home n parts.now }
+{
+    parts.iter().find(|part| is_of(part, n))
+}
+
+/// The type that a node has from its graph, and the top type for a node of none.
+pub fn own_type(parts: &[Based<'_>], n: u32) -> u32
+    ensures { result ≡ type_in parts.now n }
+{
+    match home(parts, n) {
+        Some(part) => part.graph.ty(Node(n - part.base)).0,
+        None => 0,
+    }
+}
+
+/// How many arcs a node has from its graph.
+pub fn own_count(parts: &[Based<'_>], n: u32) -> usize
+    ensures { result ≡ length (row_in parts.now n) }
+{
+    match home(parts, n) {
+        Some(part) => part.graph.arcs(Node(n - part.base)).len(),
+        None => 0,
+    }
+}
+
+/// An arc that a node has from its graph.
+pub fn own_cell(parts: &[Based<'_>], n: u32, i: usize) -> Cell
+    requires place { i < length (row_in parts.now n) }
+    requires small { (c : CellValue) → Has c (row_in parts.now n) → c.to < 2 ^ 32 }
+    ensures { (d : CellValue) → result ≡ slice_index_or (row_in parts.now n) i d }
+{
+    match home(parts, n) {
+        Some(part) => {
+            let arc = part.graph.arcs(Node(n - part.base))[i];
+            Cell {
+                feat: arc.feat.0,
+                to: part.base + arc.to.0,
+                next: 0,
+            }
+        }
+        None => Cell {
+            feat: 0,
+            to: 0,
+            next: 0,
+        },
+    }
+}
+
+// Where an arc leads, of a row.
+fn find_in(arcs: &[GraphArc], feat: u32) -> Option<u32>
+    ensures { result ≡ arc_to arcs.now feat }
+{
+    arcs.iter()
+        .find(|arc| arc.feat.0 == feat)
+        .map(|arc| arc.to.0)
+}
+
+/// Where an arc leads that a node has from its graph.
+pub fn own_arc(parts: &[Based<'_>], n: u32, feat: u32) -> Option<u32>
+    requires small { (c : CellValue) → Has c (row_in parts.now n) → c.to < 2 ^ 32 }
+    ensures { result ≡ find_arc (row_in parts.now n) feat }
+{
+    let part = home(parts, n)?;
+    let to = find_in(part.graph.arcs(Node(n - part.base)), feat)?;
+    Some(part.base + to)
+}
