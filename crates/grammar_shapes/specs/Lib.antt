@@ -1,4 +1,3 @@
-pub mod Sketches
 pub mod Ruled
 pub mod Cutting
 pub mod Spanned

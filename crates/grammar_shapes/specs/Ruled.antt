@@ -10,7 +10,7 @@ use Rattle.rule_model.specs.Said.{rule_said}
 pub use Rattle.fs_trim.specs.Cutting.{paths_in}
 use Rattle.fs_trim.specs.Cutting.{IsShort}
 use Rattle.grammar_shapes.specs.declared.phrase_rule.PhraseRule.{PhraseRule}
-use Rattle.grammar_shapes.specs.Sketches.{paths_of}
+use Rattle.sieve.specs.Sketches.{paths_of}
 
 abbrev pub places_of : PhraseRule → List Path
 places_of r = paths_of r.places.items

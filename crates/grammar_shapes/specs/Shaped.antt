@@ -12,7 +12,7 @@ use Rattle.rule_model.specs.Structures.{Structure}
 use Rattle.rule_model.specs.Views.{view}
 use Rattle.fs_trim.specs.Cutting.{owed_of, IsShort}
 use Rattle.grammar_shapes.specs.declared.place.Place.{Place}
-use Rattle.grammar_shapes.specs.Sketches.{sketch_of, numbers_of}
+use Rattle.sieve.specs.Sketches.{sketch_of}
 use Rattle.grammar_shapes.specs.Ruled.{paths_in}
 
 abbrev pub Shape : Type 0
@@ -30,4 +30,4 @@ meaning_in g s = view (paths_in g) (reader_of (graph_of s))
 pub record BelongsIn (g : Grammar) (restrictors : Cut) (checks : List Path) (s : Shape) : Type 0 where
   pub short : IsShort g (graph_of s)
   pub well_formed : IsWellFormedBut (system_of g) (reader_of (graph_of s)) (owed_of restrictors)
-  pub sketched : numbers_of (arc_value s).sketch.items ≡ sketch_of (graph_of s) checks
+  pub sketched : (arc_value s).sketch ≡ sketch_of (reader_of (graph_of s)) checks

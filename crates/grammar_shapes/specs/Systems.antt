@@ -3,6 +3,7 @@ use Rattle.std.specs.Prelude.{ℕ, ◌≡◌, ◌<◌, ◌≤◌, ◌++◌, ◌-
 use Rattle.cover.specs.declared.Tuple.{Tuple}
 use Rattle.cover.specs.Tuples.{shapes_of, IsTuple}
 use Rattle.fs_model.specs.Claims.{Path}
+use Rattle.fs_graph.specs.GraphMap.{reader_of}
 use Rattle.fs_closing.specs.Rules.{Grammar}
 use Rattle.fs_trim.specs.Cutting.{cut_of}
 use Rattle.rule_model.specs.Structures.{Structure}
@@ -10,7 +11,7 @@ use Rattle.rule_model.specs.Mothers.{RuleSystem, arity_at}
 use Rattle.rule_model.specs.Laws.{rules_applies}
 use Rattle.grammar_shapes.specs.declared.phrase_rule.PhraseRule.{PhraseRule}
 use Rattle.grammar_shapes.specs.declared.shapes.GrammarShapes.{GrammarShapes}
-use Rattle.grammar_shapes.specs.Sketches.{sketch_of, sketch_below, sketches_meet}
+use Rattle.sieve.specs.Sketches.{TypeAt, sketch_of, below_place, sketches_meet}
 use Rattle.grammar_shapes.specs.Ruled.{places_of, system_in}
 use Rattle.grammar_shapes.specs.Shaped.{Shape, graph_of, meaning_in, BelongsIn}
 
@@ -56,7 +57,13 @@ meanings_of s t = map (meaning_of s) (shapes_of t)
 abbrev pub AppliesToNone : GrammarShapes → ℕ → List Structure → Type 0
 AppliesToNone s rule front = (rest : List Structure) → rules_applies (rules_of s) rule (front ++ rest) → ⊥
 
+-- the sketches of the rule at the place of the last daughter, and of the last daughter, at the paths at which types are compared
+abbrev pub AreSketches : {C : Type 0} → GrammarShapes → ℕ → Tuple Shape C → List TypeAt → List TypeAt → Type 0
+AreSketches s rule t a b = (r : PhraseRule) (place : Path) (last : Shape) → slice_get (list_of s) rule ≡ Some r → slice_get (places_of r) (t.count - 1) ≡ Some place →
+    slice_get (shapes_of t) (t.count - 1) ≡ Some last → (a ≡ sketch_of (below_place place (reader_of r.structure.now)) (checks_of s)) × (b ≡ sketch_of (reader_of (graph_of last)) (checks_of s))
+
 -- whether no type of the last daughter clashes with the rule's at its place, at the paths at which types are compared
 abbrev pub IsMet : {C : Type 0} → GrammarShapes → ℕ → Tuple Shape C → Bool → Type 0
 IsMet s rule t met = (r : PhraseRule) (place : Path) (last : Shape) → slice_get (list_of s) rule ≡ Some r → slice_get (places_of r) (t.count - 1) ≡ Some place →
-    slice_get (shapes_of t) (t.count - 1) ≡ Some last → met ≡ sketches_meet (grammar_of s).types (sketch_below r.structure.now (checks_of s) place) (sketch_of (graph_of last) (checks_of s))
+    slice_get (shapes_of t) (t.count - 1) ≡ Some last →
+    met ≡ sketches_meet (grammar_of s).types (sketch_of (below_place place (reader_of r.structure.now)) (checks_of s)) (sketch_of (reader_of (graph_of last)) (checks_of s))

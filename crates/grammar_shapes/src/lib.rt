@@ -11,7 +11,7 @@ mod phrase_rule;
 mod place;
 mod rule_table;
 mod shapes;
-mod sketches;
+mod sketched;
 mod spans;
 
 pub use cover::NoMemory;

@@ -1,32 +1,32 @@
 //! Phrase rules with their sketches.
 
-ghost use Rattle.std.specs.Prelude.{◌≡◌, ◌<◌, ◌∷◌, ◌++◌, [], length, map, All, IfOk, IfSome, Some, slice_get, OnOk, slice_index_or};
-ghost use Rattle.type_hierarchy.specs.Table.{count_of};
+ghost use Rattle.std.specs.Prelude.{◌≡◌, ◌<◌, length, map, All, IfOk, Some, slice_get};
 ghost use Rattle.fs_graph.specs.GraphMap.{reader_of};
+ghost use Rattle.fs_paths.specs.Facts.{path_of};
 ghost use Rattle.fs_closing.specs.Rules.{system_of};
 ghost use Rattle.fs_unify.specs.Entering.{IsWellFormed};
-ghost use Rattle.grammar_shapes.specs.Sketches.{paths_of, sketch_of, sketch_below, sketches_meet, numbers_of};
+ghost use Rattle.fs_model.specs.Claims.{Path};
+ghost use Rattle.sieve.specs.Sketches.{paths_of, sketch_of, below_place, AreTypesIn};
 ghost use Rattle.grammar_shapes.specs.Ruled.{IsRuleIn, AreClosed, places_of};
 ghost use Rattle.grammar_shapes.specs.Inner.Tables.{rule_sketches, row_of};
 ghost use Rattle.grammar_shapes.specs.declared.phrase_rule.PhraseRule.{PhraseRule};
 
 use crate::phrase_rule::PhraseRule;
-use crate::sketches::{sketch, sketch_below, sketches_meet};
 use cover::NoMemory;
 use fs_graph::Graph;
 use fs_paths::Feat;
 use fs_unify::TypeSystem;
+use sieve::{Sketch, SketchPaths};
 use std::alloc::Global;
 use std::marker::Model;
-use type_hierarchy::Ty;
 
-// Phrase rules whose structures are well-formed, with the types of each structure at some paths below each place of a daughter.
+// Phrase rules whose structures are well-formed, with the sketch of what stands at each place of a daughter, at some paths from there.
 #[derive(Drop)]
 pub(crate) struct RuleTable<'a> {
     system: &'a TypeSystem,
     rules: Vec<PhraseRule<'a>>,
-    checks: Vec<Vec<Feat>>,
-    sketches: Vec<Vec<Vec<Option<Ty>>>>,
+    checks: SketchPaths,
+    sketches: Vec<Vec<Sketch>>,
 }
 
 impl<'a> Model for RuleTable<'a> {
@@ -34,25 +34,35 @@ impl<'a> Model for RuleTable<'a> {
 
     ghost Value = { RuleList };
 
-    ghost use Rattle.grammar_shapes.specs.Sketches.{paths_of};
     ghost use Rattle.grammar_shapes.specs.Inner.Tables.{IsRuleTable};
 
-    ghost view = { λ t. record { grammar = t.system.now; rules = t.rules.items; checks = paths_of t.checks.items } };
+    ghost view = { λ t. record { grammar = t.system.now; rules = t.rules.items; checks = t.checks } };
 
-    ghost invariant = { λ t. IsRuleTable t.system.now t.rules.items (paths_of t.checks.items) t.sketches.items };
+    ghost invariant = { λ t. IsRuleTable t.system.now t.rules.items t.checks t.sketches.items };
+}
+
+// The sketch of what a rule has at a place.
+fn sketch_at(
+    alloc: Global,
+    rule: &PhraseRule<'_>,
+    place: &[Feat],
+    checks: &SketchPaths,
+) -> Result<Sketch, NoMemory>
+    ensures { IfOk result (λ s. s ≡ sketch_of (below_place (path_of place.now) (reader_of rule.now.structure.now)) checks.now) }
+{
+    match checks.sketch_below(alloc, rule.structure, place) {
+        Ok(sketch) => Ok(sketch),
+        Err(_) => Err(NoMemory),
+    }
 }
 
 // The sketches of a rule, one for each place.
-fn row(
-    alloc: Global,
-    rule: &PhraseRule<'_>,
-    checks: &[Vec<Feat>],
-) -> Result<Vec<Vec<Option<Ty>>>, NoMemory>
-    ensures { IfOk result (λ row. row_of row ≡ rule_sketches (paths_of checks.now) rule.now) }
+fn row(alloc: Global, rule: &PhraseRule<'_>, checks: &SketchPaths) -> Result<Vec<Sketch>, NoMemory>
+    ensures { IfOk result (λ row. row.items ≡ rule_sketches checks.now rule.now) }
 {
     let mut row = Vec::new(alloc);
     for place in &rule.places {
-        row.push(sketch_below(alloc, rule.structure, place, checks)?)?;
+        row.push(sketch_at(alloc, rule, place, checks)?)?;
     }
     Ok(row)
 }
@@ -61,9 +71,9 @@ fn row(
 fn rows(
     alloc: Global,
     rules: &[PhraseRule<'_>],
-    checks: &[Vec<Feat>],
-) -> Result<Vec<Vec<Vec<Option<Ty>>>>, NoMemory>
-    ensures { IfOk result (λ rows. map row_of rows.items ≡ map (rule_sketches (paths_of checks.now)) rules.now) }
+    checks: &SketchPaths,
+) -> Result<Vec<Vec<Sketch>>, NoMemory>
+    ensures { IfOk result (λ rows. map row_of rows.items ≡ map (rule_sketches checks.now) rules.now) }
 {
     let mut rows = Vec::new(alloc);
     for rule in rules {
@@ -84,6 +94,9 @@ impl<'a> RuleTable<'a> {
         requires closed { AreClosed system.now rules.items }
         ensures { IfOk result (λ t. t ≡ record { grammar = system.now; rules = rules.entry.items; checks = paths_of checks.items }) }
     {
+        let Ok(checks) = SketchPaths::new(alloc, checks) else {
+            return Err(NoMemory);
+        };
         let sketches = rows(alloc, &rules, &checks)?;
         Ok(RuleTable {
             system,
@@ -113,25 +126,26 @@ impl<'a> RuleTable<'a> {
         &self.rules[rule as usize]
     }
 
-    // The types of a graph at the paths at which types are compared.
-    pub(crate) fn sketch(&self, alloc: Global, graph: &Graph) -> Result<Vec<Option<Ty>>, NoMemory>
-        ensures { IfOk result (λ types. numbers_of types.items ≡ sketch_of graph.now self.now.checks) }
+    // The sketch of a graph at the paths at which types are compared.
+    pub(crate) fn sketch(&self, alloc: Global, graph: &Graph) -> Result<Sketch, NoMemory>
+        ensures { IfOk result (λ s. s ≡ sketch_of (reader_of graph.now) self.now.checks) }
     {
-        sketch(alloc, graph, &self.checks)
+        match self.checks.sketch(alloc, graph) {
+            Ok(sketch) => Ok(sketch),
+            Err(_) => Err(NoMemory),
+        }
     }
 
-    // Whether no types clash of a rule below a place and of a daughter there. Takes no memory.
-    pub(crate) fn passes(&self, rule: u32, place: u32, daughter: &[Option<Ty>]) -> bool
+    // The sketch of what a rule has at a place. Takes no memory.
+    pub(crate) fn at(&self, rule: u32, place: u32) -> &Sketch
         requires rule { rule < length self.now.rules }
         requires place { (r : PhraseRule) → slice_get self.now.rules rule ≡ Some r → place < length (places_of r) }
-        requires even { length daughter.now ≡ length self.now.checks }
-        requires types_in { All (λ o. IfSome o (λ t. t.0 < count_of self.now.grammar.types)) daughter.now }
-        ensures { (r : PhraseRule) → slice_get self.now.rules rule ≡ Some r →
-            result ≡ sketches_meet self.now.grammar.types (sketch_below r.structure.now self.now.checks (slice_index_or (places_of r) place [])) (numbers_of daughter.now) }
+        ensures sketch { (r : PhraseRule) (p : Path) → slice_get self.now.rules rule ≡ Some r → slice_get (places_of r) place ≡ Some p →
+            result.now ≡ sketch_of (below_place p (reader_of r.structure.now)) self.now.checks }
+        ensures types_in { AreTypesIn self.now.grammar.types result.now }
     {
-        let structure = self.rules[rule as usize].structure;
-        structure.laws();
+        self.rules[rule as usize].structure.laws();
         let sketch = &self.sketches[rule as usize][place as usize];
-        sketches_meet(self.system.types(), sketch, daughter)
+        sketch
     }
 }

@@ -21,8 +21,11 @@ use fs_paths::Feat;
 use fs_subsume::subsumes;
 use fs_trim::{Cut, owed, unify_trimmed_owing, unify_without};
 use fs_unify::{Owed, Parts, Scratch, TypeSystem, unifies};
+use sieve::types_meet;
+use sieved_shapes::Sketches;
 use std::alloc::Global;
 use std::sync::Arc;
+use type_hierarchy::Types;
 
 /// The phrase rules of a grammar over abstract structures, numbered in the order in which they were given.
 #[derive(Drop)]
@@ -87,10 +90,11 @@ impl<'a> GrammarShapes<'a> {
     ghost use Rattle.rule_model.specs.Laws.{rules_over, rules_applies, rules_mother};
     ghost use Rattle.rule_model.specs.Mothers.{IsAbstract, Meant};
     ghost use Rattle.rule_model.specs.Views.{view, source_alone, IsTrimmed};
-    ghost use Rattle.grammar_shapes.specs.Sketches.{paths_of};
+    ghost use Rattle.sieve.specs.Sketches.{paths_of, AreTypesIn};
+    ghost use Rattle.sieve.specs.Unifying.{NoneUnify};
     ghost use Rattle.grammar_shapes.specs.Ruled.{IsRuleIn, AreClosed, paths_in, system_in};
     ghost use Rattle.grammar_shapes.specs.Shaped.{graph_of};
-    ghost use Rattle.grammar_shapes.specs.Systems.{rules_of, list_of, grammar_of, checks_of, arity_of, meaning_of, meanings_of, Belongs, AreDaughters, AppliesToNone, IsMet};
+    ghost use Rattle.grammar_shapes.specs.Systems.{rules_of, list_of, grammar_of, checks_of, arity_of, meaning_of, meanings_of, Belongs, AreDaughters, AppliesToNone, IsMet, AreSketches};
 
     /// The shapes of these rules. A mother loses what `daughters` cuts off, and an abstract structure lacks what `restrictors`
     /// cuts off; types are compared at `checks`. More rules than a `u32` can number count as want of memory.
@@ -183,6 +187,36 @@ impl<'a> GrammarShapes<'a> {
         }
     }
 
+    /// The types.
+    pub fn types(&self) -> &Types
+        ensures { result.now ≡ (grammar_of self.now).types }
+    {
+        self.rules.system().types()
+    }
+
+    /// The sketches of the last daughter, whatever the daughters cover, and of the rule's place for it. Where no two structures with
+    /// these sketches unify, the rule applies to no tuple that begins with these daughters. Takes no memory.
+    pub fn sketches<'b, C>(&'b self, rule: u32, parts: &'b Tuple<Arc<Place>, C>) -> Sketches<'b>
+        requires { AreDaughters self.now rule parts.now }
+        ensures place { AreTypesIn (grammar_of self.now).types result.place.now }
+        ensures daughter { AreTypesIn (grammar_of self.now).types result.daughter.now }
+        ensures apart { NoneUnify (grammar_of self.now).types result.place.now result.daughter.now → AppliesToNone self.now rule (meanings_of self.now parts.now) }
+        ensures exact { AreSketches self.now rule parts.now result.place.now result.daughter.now }
+    {
+        let last = parts.count - 1;
+        match parts.get(last) {
+            Some(part) => {
+                let daughter: &Place = &part.shape;
+                daughter.graph.laws();
+                Sketches {
+                    place: self.rules.at(rule, last),
+                    daughter: &daughter.sketch,
+                }
+            }
+            None => unreachable!(),
+        }
+    }
+
     /// A quick test of daughters, whatever they cover: false only where the rule applies to no tuple that begins with them. It
     /// compares the types of the last daughter with the rule's at its place, and takes no memory.
     pub fn may<C>(&self, rule: u32, parts: &Tuple<Arc<Place>, C>) -> bool
@@ -190,15 +224,8 @@ impl<'a> GrammarShapes<'a> {
         ensures none { result ≡ false → AppliesToNone self.now rule (meanings_of self.now parts.now) }
         ensures exact { IsMet self.now rule parts.now result }
     {
-        let last = parts.count - 1;
-        match parts.get(last) {
-            Some(part) => {
-                let daughter: &Place = &part.shape;
-                daughter.graph.laws();
-                self.rules.passes(rule, last, &daughter.sketch)
-            }
-            None => unreachable!(),
-        }
+        let sketches = self.sketches(rule, parts);
+        types_meet(self.types(), sketches.place, sketches.daughter)
     }
 
     /// A test of daughters by unification, whatever they cover: false exactly where the rule, with these daughters alone, has no

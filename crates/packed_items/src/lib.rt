@@ -3,6 +3,8 @@
 //! A packed chart and its unpacking: Oepen and Carroll 2000.
 #![tactic(auto)]
 
+mod sieving;
+
 ghost use Rattle.std.specs.Prelude.{◌≡◌, All, IfOk, MatchResult, map};
 ghost use Rattle.chart_model.specs.Limits.{IsLimitAnswer, Within};
 ghost use Rattle.chart_core.specs.CoreView.{leaves_of, limits_of};
@@ -17,6 +19,7 @@ use chart_workers::{Crew, Rank, saturate};
 use cover::Shapes;
 use derivation::Tree;
 use forest_unpack::{Fulls, UnpackFault, unpack};
+pub use sieving::answer_sieved;
 use std::alloc::Global;
 use std::sync::Wait;
 use std::thread::Threads;
@@ -42,8 +45,8 @@ pub struct NoMemory;
 // Below so many leaves one worker is done before a second one has started.
 const FEW: usize = 6;
 
-// Finishes the chart over these leaves: one worker by the ordered pass, on the caller's thread, and so it is done where leaves are
-// few; otherwise all workers together.
+// Finishes the chart over these leaves. Where smaller hosts are to come first, one worker does so by the ordered pass, on the
+// caller's thread, and so it is done where leaves are few; otherwise all workers do so together, one of them on the caller's thread.
 fn finish_chart<R: Wait + Threads + Sync, S: Shapes + Send + Sync, P: Rank + Sync>(
     rt: &R,
     alloc: Global,
@@ -65,7 +68,7 @@ where
         (IsPassed (grammar_of S.Shapes S.Cover.Cover.own shapes.now) (S.full shapes.now) (S.agrees shapes.now) (limits_seen limits.now) (map (leaf_seen (S.meaning shapes.now)) leaves.items))
         (IsPassFault (S.calculus shapes.now) (limits_seen limits.now) (map (leaf_seen (S.meaning shapes.now)) leaves.items)) }
 {
-    if crew.is_alone() || leaves.len() < FEW {
+    if priority.is_by_size() && (crew.is_alone() || leaves.len() < FEW) {
         return ordered_pass(alloc, leaves, shapes, work, limits);
     }
     saturate(

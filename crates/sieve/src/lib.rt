@@ -15,6 +15,6 @@ pub use guards::{Decision, Guard};
 pub use no_memory::NoMemory;
 pub use paths::SketchPaths;
 pub use priorities::{Priority, Ranking};
-pub use quick::types_meet;
+pub use quick::{TypesMeet, types_meet};
 pub use sieves::{Filter, Sieve};
 pub use sketches::{Sketch, SketchLine};

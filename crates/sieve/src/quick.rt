@@ -8,6 +8,7 @@ ghost use Rattle.sieve.specs.Sketches.{AreTypesIn, types_meet, sketches_meet};
 ghost use Rattle.sieve.specs.Unifying.{NoneUnify};
 ghost use Rattle.sieve.specs.Inner.{line_seen};
 
+use crate::sieves::Filter;
 use crate::sketches::{Sketch, SketchLine};
 use fs_paths::Feat;
 use type_hierarchy::{Ty, Types};
@@ -80,4 +81,19 @@ pub fn types_meet(types: &Types, a: &Sketch, b: &Sketch) -> bool
     ensures apart { result ≡ false → NoneUnify types.now a.now b.now }
 {
     all_pass(types, a, b)
+}
+
+/// The quick test as what a sieve keeps.
+#[derive(Clone, Copy)]
+pub struct TypesMeet;
+
+impl Filter for TypesMeet {
+    ghost use Rattle.std.specs.Prelude.{◌≡◌};
+    ghost use Rattle.sieve.specs.Sketches.{sketches_meet};
+
+    ghost answers = { λ _ types a b yes. yes ≡ sketches_meet types.now a.now b.now };
+
+    fn ask(&self, types: &Types, a: &Sketch, b: &Sketch) -> bool {
+        types_meet(types, a, b)
+    }
 }

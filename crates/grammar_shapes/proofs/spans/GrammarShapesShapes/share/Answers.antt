@@ -4,7 +4,7 @@ use Rattle.fs_closing.specs.Rules.{system_of}
 use Rattle.fs_unify.specs.Owing.{IsWellFormedBut}
 use Rattle.fs_trim.specs.Cutting.{cut_of, owed_of, IsShort}
 use Rattle.rule_model.specs.Views.{view}
-use Rattle.grammar_shapes.specs.Sketches.{sketch_of, numbers_of}
+use Rattle.sieve.specs.Sketches.{sketch_of}
 use Rattle.grammar_shapes.specs.Ruled.{paths_in}
 use Rattle.grammar_shapes.proofs.spans.GrammarShapesShapes.share.Goals as goal
 
@@ -15,7 +15,7 @@ returns c =
       record {
         short = subst (λ p. IsShort g p.graph) e c.requires.short;
         well_formed = subst (λ p. IsWellFormedBut (system_of g) (reader_of p.graph) (owed_of (cut_of c.args.self.now.restrictors))) e c.requires.well_formed;
-        sketched = subst (λ p. numbers_of p.sketch.items ≡ sketch_of p.graph c.args.self.now.rules.checks) e c.requires.sketched;
+        sketched = subst (λ p. p.sketch ≡ sketch_of (reader_of p.graph) c.args.self.now.rules.checks) e c.requires.sketched;
       },
       ap (λ p. view (paths_in g) (reader_of p.graph)) c.in_ok-copy.ensures,
     )
