@@ -1,1 +1,2 @@
 pub mod UnifyLemmas
+pub mod MakingLemmas

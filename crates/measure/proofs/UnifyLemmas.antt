@@ -1,5 +1,5 @@
 -- What is known of the structures of a book, and of graphs at paths.
-use Rattle.std.proofs.Common.{ℕ, zero, suc, ◌≡◌, ◌<◌, true, List, [], ◌∷◌, ◌++◌, All, length, map, get_or, slice_index_or, refl, sym, ◌∙◌, ap, subst, arith, string_bytes}
+use Rattle.std.proofs.Common.{ℕ, zero, suc, ◌≡◌, ◌<◌, List, [], ◌∷◌, ◌++◌, All, length, map, get_or, slice_index_or, refl, sym, ◌∙◌, ap, subst, arith, string_bytes}
 use Rattle.std.specs.List.{AllZip}
 use Rattle.std.proofs.lemmas.List.{length-map}
 use Rattle.type_hierarchy.specs.Decls.{texts}

@@ -23,8 +23,12 @@ bin := sign & [ SYNSEM.LOCAL.CONT [ RELS [ LIST #a, LAST #c ], HCONS [ LIST #d, 
 lexeme := sign & [ SYNSEM.LOCAL.CONT [ HOOK [ LTOP #h, INDEX #x & ref-ind ],
   RELS <! arg0-rel & [ LBL #h, ARG0 #x ] !>, HCONS <! !> ] ].\n";
 
-// A lexical rule. It stands after all entries.
-const RULE: &str = ":begin :instance :status lex-rule.
+// A rule, and after all others a lexical rule. The second daughter's number is to unify with `sg`, as the lexical rule's.
+const RULES: &str = ":begin :instance :status rule.
+two := bin & [ SYNSEM.LOCAL.CONT.HOOK #h, ARGS < lexeme & [ SYNSEM.LOCAL.CONT.HOOK #h ],
+  lexeme & [ SYNSEM.LOCAL.CONT.HOOK.INDEX.NUM sg ] > ].
+:end :instance.
+:begin :instance :status lex-rule.
 n_sg := sign & [ SYNSEM #s & [ LOCAL.CONT.HOOK.INDEX.NUM sg ], ARGS < lexeme & [ SYNSEM #s ] > ].
 :end :instance.\n";
 
@@ -32,7 +36,7 @@ n_sg := sign & [ SYNSEM #s & [ LOCAL.CONT.HOOK.INDEX.NUM sg ], ARGS < lexeme & [
 const PER_FEATURE: u32 = 100;
 
 /// How large a grammar is: its further types and its entries, how many words an entry has, and the type of its number, which
-/// unifies with the lexical rule where it is `num` or `sg`.
+/// unifies with both rules where it is `num` or `sg`.
 #[derive(Clone, Copy, Debug)]
 pub struct Size<'a> {
     pub types: u32,
@@ -42,7 +46,7 @@ pub struct Size<'a> {
 }
 
 /// A shelf with the grammar `g`. Its further types stand in a tree below its lexeme, and its instances are its entries, which
-/// are of these types, and then a lexical rule.
+/// are of these types, then a rule of two daughters, and at last a lexical rule.
 pub fn grammar(alloc: Global, size: Size<'_>) -> Result<MemShelf, AllocError> {
     shelf(alloc, text(alloc, size)?.as_str())
 }
@@ -55,7 +59,7 @@ fn text(alloc: Global, size: Size<'_>) -> Result<String, AllocError> {
     text.push_str(":begin :instance :status lex-entry.\n")?;
     add_entries(alloc, &mut text, size)?;
     text.push_str(":end :instance.\n")?;
-    text.push_str(RULE)?;
+    text.push_str(RULES)?;
     Ok(text)
 }
 

@@ -7,6 +7,8 @@ mod charts;
 mod grammars;
 mod hierarchies;
 mod lexing;
+mod making;
+mod mothers;
 mod report;
 mod structures;
 mod types;

@@ -1,11 +1,12 @@
 //! Measures the structures of grammars: how long it takes to read one, to complete its types, to make the constraint of
-//! each type and the structure of each instance, and to unify a rule with each entry.
+//! each type and the structure of each instance, to unify a rule with each entry, and to make mothers.
 
 ghost use Rattle.grammar_files.specs.WalkViews.{CanSettle};
 ghost use Rattle.grammar_model.specs.Typings.{AreTypesOf};
 ghost use Rattle.grammar_model.specs.WalkViews.{walked_of};
 
 use crate::grammars::{Size, grammar};
+use crate::mothers::mothers_each;
 use crate::report::Report;
 use crate::unifying::unify_each;
 use constraint_expand::Book;
@@ -138,6 +139,7 @@ fn expansion<R: Print + Clock>(
         Ok(book) => {
             told(report, name, size, &book);
             unify_each(report, alloc, name, size, walked, &book);
+            mothers_each(report, alloc, name, size, walked, &book);
         }
         Err(_) => report.tell(name, size, "fault of expansion", 0),
     }

@@ -20,13 +20,13 @@ use tdl_reader::Status;
 
 /// What came of unifications.
 #[derive(Clone, Copy, Debug)]
-struct Tally {
+pub struct Tally {
     /// How many there were.
-    all: u32,
+    pub all: u32,
     /// How many gave a structure.
-    unified: u32,
+    pub unified: u32,
     /// The nodes of these structures.
-    nodes: u64,
+    pub nodes: u64,
 }
 
 /// Unifies the last instance of a book with each of its entries, each as the first daughter, and tells what came of it.
@@ -65,8 +65,8 @@ fn tell<R: Print + Clock>(report: &mut Report<R>, name: &str, size: u32, tally: 
     report.tell(name, size, "nodes of unifiers", tally.nodes);
 }
 
-// The number of the feature of this name.
-fn feature(feats: &[String], name: &str) -> Option<Feat>
+/// The number of the feature of this name.
+pub fn feature(feats: &[String], name: &str) -> Option<Feat>
     ensures { IfSome result (λ f. f.0 < length feats.now) }
 {
     let place = feats.iter().position(|feat| feat.as_str() == name)?;
@@ -107,8 +107,8 @@ fn unify_all(
     Ok(tally)
 }
 
-// One unification more.
-fn add(tally: &mut Tally, found: Option<Graph>) {
+/// One unification more.
+pub fn add(tally: &mut Tally, found: Option<Graph>) {
     tally.all = tally.all.saturating_add(1);
     if let Some(graph) = found {
         tally.unified = tally.unified.saturating_add(1);
