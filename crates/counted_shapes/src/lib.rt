@@ -6,6 +6,7 @@
 mod covers;
 mod marks;
 mod shapes;
+mod sketched;
 
 pub use cover::NoMemory;
 pub use shapes::CountedShapes;

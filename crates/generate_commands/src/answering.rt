@@ -10,6 +10,7 @@ use crate::NoMemory;
 use crate::reports::{report_of, report_of_no_mrs};
 use book_signs::SignBook;
 use chart_core::Limits;
+use chart_workers::BySize;
 use endings::lines::{Answers, Share};
 use endings::pieces::Report;
 use grammar_shapes::GrammarShapes;
@@ -19,6 +20,7 @@ use mrs_generate::{Contributors, generate};
 use mrs_model::Mrs;
 use mrs_places::{MrsFeat, MrsPaths};
 use mrs_text::{MrsFault, read};
+use sieve::{Sieve, TypesMeet};
 use spelling_rules::Spelling;
 use std::alloc::Global;
 use std::sync::Wait;
@@ -68,6 +70,8 @@ impl Generator<'_, '_, '_, '_, '_, '_, '_, '_> {
         requires valid { IsValid (meaning_of mrs.now) }
         ensures { IfOk result (λ r. IsReportOf self.now number (meaning_of mrs.now) (map (λ l. l.items) r.lines.items) r.refused) }
     {
+        // one sieve, the quick test of types at paths; and smaller hosts first
+        let sieves = [Sieve::new(TypesMeet)];
         let mut desk = self.desks.take(rt, alloc, share);
         let answer = generate(
             rt,
@@ -83,6 +87,8 @@ impl Generator<'_, '_, '_, '_, '_, '_, '_, '_> {
             self.c_cont,
             mrs,
             &self.limits,
+            &sieves,
+            &BySize,
             gate,
         )?;
         self.desks.give_back(rt, share, desk);

@@ -23,16 +23,16 @@ ghost use Rattle.grammar_rules.specs.Views.{item_answer};
 
 use crate::{ItemAnswer, NoMemory};
 use chart_core::{Leaf, Limits};
-use chart_workers::{BySize, Crew};
+use chart_workers::{Crew, Rank};
 use cover::Span;
 use fs_unify::Scratch;
 use grammar_shapes::{GrammarShapes, Place};
 use lexical_items::{LexTree, LexTrees, LexicalFulls, lexical_trees};
 use lexicon::Lexicon;
 use morph_analysis::{Feeds, Lattice};
-use packed_items::answer_leaves;
+use packed_items::answer_sieved;
 use rule_trees::{FullStructure, LineFulls, SignBook, SignFulls};
-use shape_memo::RememberedShapes;
+use sieve::{Filter, Sieve};
 use spelling_rules::Spelling;
 use std::alloc::Global;
 use std::sync::{Arc, Wait};
@@ -78,17 +78,14 @@ fn shape_of(
     Ok(shape)
 }
 
-// The shapes of a line, which remember what rules made of equal ones.
-type LineShapes<'m, 's> = RememberedShapes<'m, GrammarShapes<'s>>;
-
 // Adds a lexical tree with its shape to the leaves of a chart, named by its number.
-fn add_leaf<'m, 's>(
+fn add_leaf<'s>(
     alloc: Global,
     work: &mut Scratch,
     signs: &SignBook<'_>,
     shapes: &GrammarShapes<'s>,
     tree: &LexTree<FullStructure>,
-    leaves: &mut Vec<Leaf<LineShapes<'m, 's>>>,
+    leaves: &mut Vec<Leaf<GrammarShapes<'s>>>,
 ) -> Result<(), NoMemory>
     requires shapes { AreShapesOf signs.now shapes.now }
     requires forward { tree.now.from < tree.now.to }
@@ -106,13 +103,13 @@ fn add_leaf<'m, 's>(
 }
 
 // The leaves of a chart over these lexical trees.
-fn leaves_of<'m, 's>(
+fn leaves_of<'s>(
     alloc: Global,
     work: &mut Scratch,
     signs: &SignBook<'_>,
     shapes: &GrammarShapes<'s>,
     trees: &[LexTree<FullStructure>],
-) -> Result<Vec<Leaf<LineShapes<'m, 's>>>, NoMemory>
+) -> Result<Vec<Leaf<GrammarShapes<'s>>>, NoMemory>
     requires shapes { AreShapesOf signs.now shapes.now }
     requires forward { All (λ t. t.from < t.to) trees.now }
     requires sound { All (λ t. AreConsistent (signs_of signs.now).system (Meant (rule_system (signs_of signs.now)) (view_in signs.now t.full.graph))) trees.now }
@@ -137,19 +134,21 @@ pub struct LineWork {
 }
 
 // What chart and unpacking find over these lexical trees.
-fn answer_trees<'a, 's, R: Wait + Threads + Sync>(
+fn answer_trees<'a, R: Wait + Threads + Sync, F: Filter + Send + Sync, P: Rank + Sync>(
     rt: &R,
     alloc: Global,
     work: &mut LineWork,
     crew: &mut Crew<Scratch>,
     signs: &'a SignBook<'a>,
-    shapes: &GrammarShapes<'s>,
+    shapes: &GrammarShapes<'_>,
     _lexicon: &Lexicon,
     _spelling: &Spelling,
     _lattice: &Lattice,
     trees: &'a [LexTree<FullStructure>],
     end: u32,
     limits: &Limits,
+    sieves: &[Sieve<F>],
+    priority: &P,
     gate: &dyn Gate,
 ) -> Result<ItemAnswer, NoMemory>
     requires shapes { AreShapesOf signs.now shapes.now }
@@ -161,21 +160,21 @@ fn answer_trees<'a, 's, R: Wait + Threads + Sync>(
 {
     let lexical = SignFulls { signs };
     lexical.laws();
-    let remembered = RememberedShapes::new(alloc, shapes)?;
     let leaves = leaves_of(alloc, &mut work.chart, signs, shapes, trees)?;
     let fulls = LineFulls {
         signs,
         leaves: trees,
         end,
     };
-    let found = answer_leaves(
+    let found = answer_sieved(
         rt,
         alloc,
-        &remembered,
+        shapes,
+        sieves,
         &mut work.chart,
         &mut work.trees,
         crew,
-        &BySize,
+        priority,
         leaves,
         &fulls,
         limits,
@@ -197,10 +196,12 @@ fn answer_trees<'a, 's, R: Wait + Threads + Sync>(
 /// they, each once, in the order of trees, with the number of packed classes.
 ///
 /// `shapes` and `feeds`, which says what lexical rule may apply to what, are made of the signs, once for a grammar; lexicon
-/// and spelling have its entries and lexical rules by number. The workers of `crew` make the edges, smaller ones first; how many
-/// they are, and the gate, change no answer.
-/// `NoMemory` may come in place of any answer.
-pub fn parse_words<'a, R: Wait + Threads + Sync>(
+/// and spelling have its entries and lexical rules by number.
+///
+/// `sieves` are asked before anything is unified; with none, types are compared at the paths of `shapes`. The workers of `crew` make
+/// the edges, in the order of `priority`. No sieve, no priority, the number of workers nor the gate changes an answer: none of them
+/// occurs in what is answered. `NoMemory` may come in place of any answer.
+pub fn parse_words<'a, R: Wait + Threads + Sync, F: Filter + Send + Sync, P: Rank + Sync>(
     rt: &R,
     alloc: Global,
     work: &mut LineWork,
@@ -212,6 +213,8 @@ pub fn parse_words<'a, R: Wait + Threads + Sync>(
     spelling: &Spelling,
     lattice: &Lattice,
     limits: &Limits,
+    sieves: &[Sieve<F>],
+    priority: &P,
     gate: &dyn Gate,
 ) -> Result<ItemAnswer, NoMemory>
     requires shapes { AreShapesOf signs.now shapes.now }
@@ -248,6 +251,8 @@ pub fn parse_words<'a, R: Wait + Threads + Sync>(
                 &trees,
                 lattice.end,
                 limits,
+                sieves,
+                priority,
                 gate,
             )
         }

@@ -14,6 +14,7 @@ use crate::lattices::lattice_of_line;
 use crate::reports::{report_of, report_of_no_lattice, report_of_no_text, report_with_mrs};
 use book_signs::SignBook;
 use chart_core::Limits;
+use chart_workers::BySize;
 use endings::lines::{Answers, Share};
 use endings::pieces::Report;
 use fs_unify::Scratch;
@@ -23,6 +24,7 @@ use lexicon::Lexicon;
 use morph_analysis::{Feeds, Lattice, LatticeFault};
 use mrs_lines::TreeLines;
 use mrs_places::MrsPaths;
+use sieve::{Sieve, TypesMeet};
 use spelling_rules::Spelling;
 use std::alloc::Global;
 use std::sync::Wait;
@@ -108,6 +110,8 @@ impl Parser<'_, '_, '_, '_, '_, '_, '_> {
         ensures { IfOk result (λ r. IsReportOf self.now number (lattice_of lattice.now) (map (λ l. l.items) r.lines.items) r.refused) }
     {
         self.signs.laws();
+        // one sieve, the quick test of types at paths; and smaller edges first
+        let sieves = [Sieve::new(TypesMeet)];
         let mut desk = self.desks.take(rt, alloc, share);
         let answer = parse_words(
             rt,
@@ -121,6 +125,8 @@ impl Parser<'_, '_, '_, '_, '_, '_, '_> {
             self.spelling,
             lattice,
             &self.limits,
+            &sieves,
+            &BySize,
             gate,
         )?;
         let report = self.reported(alloc, &mut desk.work.trees, number, &answer);

@@ -21,7 +21,7 @@ use crate::putting::put_together;
 use crate::{GenAnswer, NoMemory};
 use book_signs::SignBook;
 use chart_core::Limits;
-use chart_workers::{BySize, Crew};
+use chart_workers::{Crew, Rank};
 use counted_shapes::CountedShapes;
 use cover::{Counts, Cover};
 use fs_unify::Scratch;
@@ -32,13 +32,13 @@ use lexical_items::LexicalFulls;
 use lexicon::Lexicon;
 use mrs_model::Mrs;
 use mrs_places::{MrsFeat, MrsPaths};
-use packed_items::answer_leaves;
+use packed_items::answer_sieved;
 use pruned_trees::{PrunedFulls, pruned_laws, sieve_of};
 use realized_trees::{RealizedFulls, realized_laws};
 use relation_fit::RelationList;
 use rule_contributions::rule_laws;
 use rule_trees::SignFulls;
-use shape_memo::RememberedShapes;
+use sieve::{Filter, Sieve};
 use spelling_rules::Spelling;
 use std::alloc::Global;
 use std::sync::Wait;
@@ -48,7 +48,7 @@ use worker_gate::Gate;
 
 /// The answer to an MRS whose leaves are known, with what each rule contributes by its number. Structures are dropped by `list`, where the
 /// grammar has one.
-pub(crate) fn answer_over<'a, R: Wait + Threads + Sync>(
+pub(crate) fn answer_over<'a, R: Wait + Threads + Sync, F: Filter + Send + Sync, P: Rank + Sync>(
     rt: &R,
     alloc: Global,
     work: &mut LineWork,
@@ -65,6 +65,8 @@ pub(crate) fn answer_over<'a, R: Wait + Threads + Sync>(
     bound: &'a Counts,
     own: Vec<Option<Counts>>,
     limits: &Limits,
+    sieves: &[Sieve<F>],
+    priority: &P,
     gate: &dyn Gate,
 ) -> Result<GenAnswer, NoMemory>
     requires shapes { AreShapesOf signs.now shapes.now }
@@ -83,7 +85,6 @@ pub(crate) fn answer_over<'a, R: Wait + Threads + Sync>(
     lexical.laws();
     let again = bound.share(alloc)?;
     let counted = CountedShapes::make(signs.system(), shapes, again, own);
-    let remembered = RememberedShapes::new(alloc, &counted)?;
     let into = chart_leaves(alloc, &mut work.chart, signs, shapes, bound, leaves)?;
     pruned_laws();
     let sieve = sieve_of(alloc, signs, list, paths, mrs, leaves)?;
@@ -98,14 +99,15 @@ pub(crate) fn answer_over<'a, R: Wait + Threads + Sync>(
         fulls: &realized,
         sieve: &sieve,
     };
-    let found = answer_leaves(
+    let found = answer_sieved(
         rt,
         alloc,
-        &remembered,
+        &counted,
+        sieves,
         &mut work.chart,
         &mut work.trees,
         crew,
-        &BySize,
+        priority,
         into,
         &fulls,
         limits,

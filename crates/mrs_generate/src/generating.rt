@@ -17,7 +17,7 @@ use crate::contributors::Contributors;
 use crate::{GenAnswer, NoMemory};
 use book_signs::SignBook;
 use chart_core::Limits;
-use chart_workers::Crew;
+use chart_workers::{Crew, Rank};
 use fs_unify::Scratch;
 use generated_leaves::{GenLeaves, leaves_of};
 use grammar_rules::LineWork;
@@ -28,6 +28,7 @@ use mrs_model::Mrs;
 use mrs_places::{MrsFeat, MrsPaths};
 use rule_contributions::rule_laws;
 use rule_trees::SignFulls;
+use sieve::{Filter, Sieve};
 use spelling_rules::Spelling;
 use std::alloc::Global;
 use std::sync::Wait;
@@ -42,10 +43,13 @@ use worker_gate::Gate;
 /// predicates, with at most `limits.empty` words that contribute none.
 ///
 /// `shapes` and `contributors` are made of the signs, once for a grammar; `contributors` by this lexicon, spelling and `c_cont`, which are
-/// named here so that it can be said what they are. The workers of `crew` make the edges, smaller ones first; how many they are, and the
-/// gate, change no answer. An MRS with more predicates than a `u32` can number counts as want of memory.
+/// named here so that it can be said what they are.
+///
+/// `sieves` are asked before anything is unified; with none, types are compared at the paths of `shapes`. The workers of `crew` make
+/// the edges, in the order of `priority`. No sieve, no priority, the number of workers nor the gate changes an answer: none of them
+/// occurs in what is answered. An MRS with more predicates than a `u32` can number counts as want of memory.
 /// `NoMemory` may come in place of any answer.
-pub fn generate<'a, R: Wait + Threads + Sync>(
+pub fn generate<'a, R: Wait + Threads + Sync, F: Filter + Send + Sync, P: Rank + Sync>(
     rt: &R,
     alloc: Global,
     work: &mut LineWork,
@@ -59,6 +63,8 @@ pub fn generate<'a, R: Wait + Threads + Sync>(
     c_cont: &[MrsFeat],
     mrs: &'a Mrs,
     limits: &Limits,
+    sieves: &[Sieve<F>],
+    priority: &P,
     gate: &dyn Gate,
 ) -> Result<GenAnswer, NoMemory>
     requires shapes { AreShapesOf signs.now shapes.now }
@@ -95,6 +101,8 @@ pub fn generate<'a, R: Wait + Threads + Sync>(
                 &bound,
                 own,
                 limits,
+                sieves,
+                priority,
                 gate,
             )
         }

@@ -24,12 +24,8 @@ use fs_unify::Scratch;
 use generated_leaves::GenLeaf;
 use grammar_shapes::{GrammarShapes, Place};
 use rule_trees::FullStructure;
-use shape_memo::RememberedShapes;
 use std::alloc::Global;
 use std::sync::Arc;
-
-/// The shapes of an input, which remember what rules made of equal ones.
-pub(crate) type GenShapes<'m, 'g, 's> = RememberedShapes<'m, CountedShapes<'g, 's>>;
 
 // A number of leaves as a name. More than a `u32` can number count as want of memory.
 fn name_of(count: usize) -> Result<u32, NoMemory>
@@ -62,14 +58,14 @@ fn shape_of(
 }
 
 // Adds a lexical tree with its shape to the leaves of a chart, named by its number.
-fn add_leaf<'m, 'g, 's>(
+fn add_leaf<'g, 's>(
     alloc: Global,
     work: &mut Scratch,
     signs: &SignBook<'_>,
     shapes: &GrammarShapes<'s>,
     _bound: &Counts,
     leaf: &GenLeaf,
-    into: &mut Vec<Leaf<GenShapes<'m, 'g, 's>>>,
+    into: &mut Vec<Leaf<CountedShapes<'g, 's>>>,
 ) -> Result<(), NoMemory>
     requires shapes { AreShapesOf signs.now shapes.now }
     requires sound { AreConsistent (signs_of signs.now).system (Meant (rule_system (signs_of signs.now)) (view_in signs.now (arc_value leaf.now.full).graph)) }
@@ -86,14 +82,14 @@ fn add_leaf<'m, 'g, 's>(
 }
 
 /// The leaves of a chart over these lexical trees, which are those of an input.
-pub(crate) fn chart_leaves<'m, 'g, 's>(
+pub(crate) fn chart_leaves<'g, 's>(
     alloc: Global,
     work: &mut Scratch,
     signs: &SignBook<'_>,
     shapes: &GrammarShapes<'s>,
     bound: &Counts,
     leaves: &[GenLeaf],
-) -> Result<Vec<Leaf<GenShapes<'m, 'g, 's>>>, NoMemory>
+) -> Result<Vec<Leaf<CountedShapes<'g, 's>>>, NoMemory>
     requires shapes { AreShapesOf signs.now shapes.now }
     requires sound { All (λ l. AreConsistent (signs_of signs.now).system (Meant (rule_system (signs_of signs.now)) (leaf_seen signs.now l).full)) leaves.now }
     requires proper { All (λ l. IsCount bound.now l.cover) leaves.now }

@@ -15,7 +15,7 @@ ghost use Rattle.self_tests.specs.Inner.Ready.{IsReady, AreCountedBy, IsFew, wor
 use crate::NoMemory;
 use book_signs::SignBook;
 use chart_core::Limits;
-use chart_workers::Crew;
+use chart_workers::{BySize, Crew};
 use fs_unify::Scratch;
 use grammar_rules::{ItemAnswer, LineWork, parse_words};
 use grammar_shapes::GrammarShapes;
@@ -23,6 +23,7 @@ use item_counts::Count;
 use item_reports::words_of_line;
 use lexicon::Lexicon;
 use morph_analysis::{Feeds, Lattice};
+use sieve::{Sieve, TypesMeet};
 use spelling_rules::Spelling;
 use std::alloc::Global;
 use std::sync::Wait;
@@ -90,6 +91,8 @@ fn count_text<Rt: Threads + Wait + Sync>(
         × (count ≡ count_of answer)) }
 {
     let lattice = lattice_of_line(alloc, line)?;
+    // one sieve, the quick test of types at paths; and smaller edges first, as `parse` has them
+    let sieves = [Sieve::new(TypesMeet)];
     let answer = parse_words(
         rt,
         alloc,
@@ -102,6 +105,8 @@ fn count_text<Rt: Threads + Wait + Sync>(
         ready.spelling,
         &lattice,
         &ready.limits,
+        &sieves,
+        &BySize,
         gate,
     )?;
     Ok(count_of(&answer))

@@ -1,4 +1,4 @@
-use Rattle.std.proofs.Common.{◌<◌, map}
+use Rattle.std.proofs.Common.{◌<◌}
 use Rattle.fs_model.specs.Closure.{AreConsistent}
 use Rattle.rule_model.specs.Mothers.{Meant}
 use Rattle.item_model.specs.Signs.{rule_system}
@@ -10,7 +10,7 @@ use Rattle.lexical_items.specs.Said.{words_said}
 use Rattle.lexical_items.specs.Seen.{lattice_seen}
 use Rattle.lexical_items.specs.Views.{lexeme_seen}
 use Rattle.grammar_rules.specs.Views.{item_answer}
-use Rattle.grammar_rules.proofs.Calls.{all_lexemes, lexeme_sound, call_fit, call_answer, same_signs, same_lined, same_belong}
+use Rattle.grammar_rules.proofs.Calls.{all_lexemes, lexeme_sound, call_fit, call_answer}
 use Rattle.grammar_rules.proofs.parsing.answer_trees.Goals as goal
 
 pub leaves_of-requires-clause-forward : goal.leaves_of-requires-clause-forward
@@ -25,24 +25,16 @@ leaves_of-requires-clause-sound g c =
     all_lexemes (lexeme_seen (λ full. view_in c.args.signs.now full.graph)) g words (lattice_seen (lattice_of c.args._lattice.now)) c.args.limits.now.lexical (λ x. AreConsistent g.system (Meant (rule_system g) x.full)) c.args.trees.now
     (lexeme_sound g words (lattice_seen (lattice_of c.args._lattice.now)) c.args.limits.now.lexical) c.requires.known.1
 
-pub answer_leaves-found-requires-clause-leaves : goal.answer_leaves-found-requires-clause-leaves
-answer_leaves-found-requires-clause-leaves g c κs within =
-    same_belong c.args.shapes.now c.in_ok-remembered.remembered c.in_ok-remembered.ensures c.in_ok-leaves.leaves.items c.in_ok-leaves.ensures.belong
-
-pub answer_leaves-found-requires-clause-fit : goal.answer_leaves-found-requires-clause-fit
-answer_leaves-found-requires-clause-fit g c κs within =
+pub answer_sieved-found-requires-clause-fit : goal.answer_sieved-found-requires-clause-fit
+answer_sieved-found-requires-clause-fit g c κs within =
     let g = signs_of c.args.signs.now in
-    let s = c.in_ok-remembered.remembered in
-    let e = c.in_ok-remembered.ensures in
-    call_fit c.args.signs.now s (same_signs c.args.shapes.now s e c.args.signs.now c.requires.shapes) (meaning_of s) (words_said (entries_of g) (lexical_rules_of g) c.args._lexicon.now c.args._spelling.now) (lattice_seen (lattice_of c.args._lattice.now)) c.args.limits.now c.laws.ensures.order
-    (lexeme_seen (λ full. view_in c.args.signs.now full.graph)) c.args.trees.now c.in_ok-leaves.leaves.items c.requires.known
-    (same_lined c.args.shapes.now s e g (map (lexeme_seen (λ full. view_in c.args.signs.now full.graph)) c.args.trees.now) c.in_ok-leaves.leaves.items c.in_ok-leaves.ensures.lined) c.args.end c.requires.end
+    let s = c.args.shapes.now in
+    call_fit c.args.signs.now s c.requires.shapes (meaning_of s) (words_said (entries_of g) (lexical_rules_of g) c.args._lexicon.now c.args._spelling.now) (lattice_seen (lattice_of c.args._lattice.now)) c.args.limits.now c.laws.ensures.order
+    (lexeme_seen (λ full. view_in c.args.signs.now full.graph)) c.args.trees.now c.in_ok-leaves.leaves.items c.requires.known c.in_ok-leaves.ensures.lined c.args.end c.requires.end
 
 pub returns-in-Ok : goal.returns-in-Ok
 returns-in-Ok g c =
     let g = signs_of c.args.signs.now in
-    let s = c.in_ok-remembered.remembered in
-    let e = c.in_ok-remembered.ensures in
-    call_answer c.args.signs.now s (same_signs c.args.shapes.now s e c.args.signs.now c.requires.shapes) (meaning_of s) (words_said (entries_of g) (lexical_rules_of g) c.args._lexicon.now c.args._spelling.now) (lattice_seen (lattice_of c.args._lattice.now)) c.args.limits.now c.laws.ensures.order
-    (lexeme_seen (λ full. view_in c.args.signs.now full.graph)) c.args.trees.now c.in_ok-leaves.leaves.items c.requires.known
-    (same_lined c.args.shapes.now s e g (map (lexeme_seen (λ full. view_in c.args.signs.now full.graph)) c.args.trees.now) c.in_ok-leaves.leaves.items c.in_ok-leaves.ensures.lined) c.args.end c.requires.end c.in-Ok.found (item_answer c.of_found.result) c.in-Ok.ensures c.of_found.ensures
+    let s = c.args.shapes.now in
+    call_answer c.args.signs.now s c.requires.shapes (meaning_of s) (words_said (entries_of g) (lexical_rules_of g) c.args._lexicon.now c.args._spelling.now) (lattice_seen (lattice_of c.args._lattice.now)) c.args.limits.now c.laws.ensures.order
+    (lexeme_seen (λ full. view_in c.args.signs.now full.graph)) c.args.trees.now c.in_ok-leaves.leaves.items c.requires.known c.in_ok-leaves.ensures.lined c.args.end c.requires.end c.in-Ok.found (item_answer c.of_found.result) c.in-Ok.ensures c.of_found.ensures

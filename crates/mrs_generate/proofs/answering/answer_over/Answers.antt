@@ -6,7 +6,6 @@ use Rattle.rule_model.specs.Mothers.{RuleSystem}
 use Rattle.packed_items.specs.Answers.{limits_in}
 use Rattle.counted_shapes.proofs.SumLemmas.{if_ok}
 use Rattle.book_signs.specs.Trees.{signs_of}
-use Rattle.counted_shapes.specs.Views.{shapes_in, bound_in, own_in}
 use Rattle.generated_leaves.specs.Views.{leaf_seen}
 use Rattle.rule_contributions.specs.Given.{input_of}
 use Rattle.mrs_generate.specs.Answers.{words_by, IsSentenceAnswer}
@@ -41,35 +40,32 @@ chart_leaves-requires-clause-proper g c =
 pub invariant_of-realized : goal.invariant_of-realized
 invariant_of-realized g c = record { paths_are = c.requires.paths; feats = c.requires.feats; valid = ∣ c.requires.valid ∣₁ }
 
-pub answer_leaves-found-requires-clause-leaves : goal.answer_leaves-found-requires-clause-leaves
-answer_leaves-found-requires-clause-leaves g c κs within =
-    let r = c.in_ok-remembered.remembered in
-    let e = c.in_ok-remembered.ensures in
+pub answer_sieved-found-requires-clause-leaves : goal.answer_sieved-found-requires-clause-leaves
+answer_sieved-found-requires-clause-leaves g c κs within =
+    let r = c.make-counted.result in
     call_belong c.args.signs.now c.args.shapes.now c.requires.shapes c.args.bound.now c.args.own.items r
-    (record { shapes = ap shapes_in e ∙ c.make-counted.ensures.shapes; bound_is = ap bound_in e ∙ c.make-counted.ensures.bound ∙ c.in_ok-again.ensures; own_is = ap own_in e ∙ c.make-counted.ensures.own }) c.in_ok-into.into.items c.in_ok-into.ensures.stand
+    (record { shapes = c.make-counted.ensures.shapes; bound_is = c.make-counted.ensures.bound ∙ c.in_ok-again.ensures; own_is = c.make-counted.ensures.own }) c.in_ok-into.into.items c.in_ok-into.ensures.stand
 
-pub answer_leaves-found-requires-clause-fit : goal.answer_leaves-found-requires-clause-fit
-answer_leaves-found-requires-clause-fit g c κs within =
+pub answer_sieved-found-requires-clause-fit : goal.answer_sieved-found-requires-clause-fit
+answer_sieved-found-requires-clause-fit g c κs within =
     let t = c.args.signs.now in
-    let r = c.in_ok-remembered.remembered in
-    let e = c.in_ok-remembered.ensures in
+    let r = c.make-counted.result in
     sifted_fit t c.args.shapes.now c.requires.shapes c.laws.ensures.order (words_by t c.args._lexicon.now c.args._spelling.now) (paths_of c.args.paths.now) (map feature_of c.args._c_cont.now) (meaning_of c.args.mrs.now) c.args.limits.now c.args.own.items c.args.bound.now (map (leaf_seen t) c.args.leaves.now) c.requires.known
     c.rule_laws.ensures.agree c.realized_laws.ensures c.in_ok-into.into.items c.in_ok-into.ensures.lined r
-    (record { shapes = ap shapes_in e ∙ c.make-counted.ensures.shapes; bound_is = ap bound_in e ∙ c.make-counted.ensures.bound ∙ c.in_ok-again.ensures; own_is = ap own_in e ∙ c.make-counted.ensures.own })
+    (record { shapes = c.make-counted.ensures.shapes; bound_is = c.make-counted.ensures.bound ∙ c.in_ok-again.ensures; own_is = c.make-counted.ensures.own })
     c.pruned_laws.ensures c.requires.paths c.in_ok-sieve.sieve c.in_ok-sieve.ensures
 
 pub put_together-requires : goal.put_together-requires
 put_together-requires g c =
     let t = c.args.signs.now in
     let input = input_of t.book.system.types (paths_of c.args.paths.now) (map feature_of c.args._c_cont.now) (meaning_of c.args.mrs.now) in
-    let r = c.in_ok-remembered.remembered in
-    let e = c.in_ok-remembered.ensures in
+    let r = c.make-counted.result in
     over_order t c.args.shapes.now c.requires.shapes c.laws.ensures.order (words_by t c.args._lexicon.now c.args._spelling.now) input c.args.limits.now c.args.own.items c.args.bound.now (map (leaf_seen t) c.args.leaves.now) c.requires.known
     c.rule_laws.ensures.agree c.realized_laws.ensures c.in_ok-into.into.items c.in_ok-into.ensures.lined r
-    (record { shapes = ap shapes_in e ∙ c.make-counted.ensures.shapes; bound_is = ap bound_in e ∙ c.make-counted.ensures.bound ∙ c.in_ok-again.ensures; own_is = ap own_in e ∙ c.make-counted.ensures.own })
+    (record { shapes = c.make-counted.ensures.shapes; bound_is = c.make-counted.ensures.bound ∙ c.in_ok-again.ensures; own_is = c.make-counted.ensures.own })
     c.in-Ok.found (unsifted t c.args.shapes.now c.requires.shapes c.laws.ensures.order (words_by t c.args._lexicon.now c.args._spelling.now) (paths_of c.args.paths.now) (map feature_of c.args._c_cont.now) (meaning_of c.args.mrs.now) c.args.limits.now c.args.own.items c.args.bound.now (map (leaf_seen t) c.args.leaves.now) c.requires.known
     c.rule_laws.ensures.agree c.realized_laws.ensures c.in_ok-into.into.items c.in_ok-into.ensures.lined r
-    (record { shapes = ap shapes_in e ∙ c.make-counted.ensures.shapes; bound_is = ap bound_in e ∙ c.make-counted.ensures.bound ∙ c.in_ok-again.ensures; own_is = ap own_in e ∙ c.make-counted.ensures.own })
+    (record { shapes = c.make-counted.ensures.shapes; bound_is = c.make-counted.ensures.bound ∙ c.in_ok-again.ensures; own_is = c.make-counted.ensures.own })
     c.pruned_laws.ensures c.requires.paths c.in_ok-sieve.sieve c.in_ok-sieve.ensures c.in-Ok.found c.in-Ok.ensures)
 
 pub returns-in-Ok : goal.returns-in-Ok
@@ -77,15 +73,14 @@ returns-in-Ok g c =
     let t = c.args.signs.now in
     let words = words_by t c.args._lexicon.now c.args._spelling.now in
     let input = input_of t.book.system.types (paths_of c.args.paths.now) (map feature_of c.args._c_cont.now) (meaning_of c.args.mrs.now) in
-    let r = c.in_ok-remembered.remembered in
-    let e = c.in_ok-remembered.ensures in
+    let r = c.make-counted.result in
     if_ok (λ a. IsPut c.in-Ok.found (answer_seen a)) (λ a. IsSentenceAnswer (signs_of t) words input c.args.limits.now.lexical c.args.limits.now.empty (limits_in c.args.limits.now) (answer_seen a)) c.put_together.result
     (λ a put.
     over_answer t c.args.shapes.now c.requires.shapes c.laws.ensures.order words input c.args.limits.now c.args.own.items c.args.bound.now (map (leaf_seen t) c.args.leaves.now) c.requires.known
     c.rule_laws.ensures.agree c.realized_laws.ensures c.in_ok-into.into.items c.in_ok-into.ensures.lined r
-    (record { shapes = ap shapes_in e ∙ c.make-counted.ensures.shapes; bound_is = ap bound_in e ∙ c.make-counted.ensures.bound ∙ c.in_ok-again.ensures; own_is = ap own_in e ∙ c.make-counted.ensures.own })
+    (record { shapes = c.make-counted.ensures.shapes; bound_is = c.make-counted.ensures.bound ∙ c.in_ok-again.ensures; own_is = c.make-counted.ensures.own })
     c.in-Ok.found (answer_seen a) (unsifted t c.args.shapes.now c.requires.shapes c.laws.ensures.order (words_by t c.args._lexicon.now c.args._spelling.now) (paths_of c.args.paths.now) (map feature_of c.args._c_cont.now) (meaning_of c.args.mrs.now) c.args.limits.now c.args.own.items c.args.bound.now (map (leaf_seen t) c.args.leaves.now) c.requires.known
     c.rule_laws.ensures.agree c.realized_laws.ensures c.in_ok-into.into.items c.in_ok-into.ensures.lined r
-    (record { shapes = ap shapes_in e ∙ c.make-counted.ensures.shapes; bound_is = ap bound_in e ∙ c.make-counted.ensures.bound ∙ c.in_ok-again.ensures; own_is = ap own_in e ∙ c.make-counted.ensures.own })
+    (record { shapes = c.make-counted.ensures.shapes; bound_is = c.make-counted.ensures.bound ∙ c.in_ok-again.ensures; own_is = c.make-counted.ensures.own })
     c.pruned_laws.ensures c.requires.paths c.in_ok-sieve.sieve c.in_ok-sieve.ensures c.in-Ok.found c.in-Ok.ensures) put)
     c.put_together.ensures
