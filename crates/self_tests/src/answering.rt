@@ -37,14 +37,14 @@ pub(crate) struct Desk {
     pub(crate) crew: Crew<Scratch>,
 }
 
-/// What lines are parsed with.
+/// What lines are parsed with. Each thing that is lent has a lifetime of its own, since it is lent to threads.
 #[derive(Clone, Copy)]
-pub struct Ready<'a> {
-    pub signs: &'a SignBook<'a>,
-    pub shapes: &'a GrammarShapes<'a>,
-    pub feeds: &'a Feeds,
-    pub lexicon: &'a Lexicon,
-    pub spelling: &'a Spelling,
+pub struct Ready<'g, 's, 'b, 'h, 'r, 'f> {
+    pub signs: &'s SignBook<'b>,
+    pub shapes: &'h GrammarShapes<'r>,
+    pub feeds: &'f Feeds,
+    pub lexicon: &'g Lexicon,
+    pub spelling: &'g Spelling,
     pub limits: Limits,
 }
 
@@ -82,7 +82,7 @@ fn count_text<Rt: Threads + Wait + Sync>(
     rt: &Rt,
     alloc: Global,
     desk: &mut Desk,
-    ready: &Ready<'_>,
+    ready: &Ready<'_, '_, '_, '_, '_, '_>,
     line: &str,
     gate: &dyn Gate,
 ) -> Result<Count, NoMemory>
@@ -117,7 +117,7 @@ fn count_line<Rt: Threads + Wait + Sync>(
     rt: &Rt,
     alloc: Global,
     desk: &mut Desk,
-    ready: &Ready<'_>,
+    ready: &Ready<'_, '_, '_, '_, '_, '_>,
     line: &[u8],
     gate: &dyn Gate,
 ) -> Result<Count, NoMemory>
@@ -142,7 +142,7 @@ pub(crate) fn count_lines<Rt: Threads + Wait + Sync>(
     rt: &Rt,
     alloc: Global,
     desk: &mut Desk,
-    ready: &Ready<'_>,
+    ready: &Ready<'_, '_, '_, '_, '_, '_>,
     lines: &[Vec<u8>],
     gate: &dyn Gate,
 ) -> Result<Vec<Count>, NoMemory>

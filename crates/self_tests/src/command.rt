@@ -20,7 +20,7 @@ pub struct SelfTest {
     /// How many lines there are: 1 to 1,000 where the program asks.
     pub size: u32,
     pub limits: Limits,
-    /// How many workers fill a chart, 1 to 64. It changes no answer.
+    /// How many workers share the lines, 1 to 64. It changes no answer.
     pub workers: u32,
     ghost in_range: { InRange limits },
     ghost crew: { IsCrewSize workers },

@@ -4,6 +4,7 @@
 mod answering;
 mod command;
 pub mod laws;
+mod parts;
 mod testing;
 
 pub use command::SelfTest;

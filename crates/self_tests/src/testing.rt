@@ -21,18 +21,16 @@ ghost use Rattle.self_tests.specs.Items.{AreCounted};
 ghost use Rattle.self_tests.specs.SelfTests.{shelved, workload_files, workload_name, IsSummed, self_test_meaning};
 ghost use Rattle.self_tests.specs.Inner.Ready.{AreCountedWith, IsWorkloadFault};
 
-use crate::answering::{Desk, Ready, count_lines};
+use crate::answering::Ready;
+use crate::parts::count_by;
 use crate::{NoMemory, SelfTest};
 use book_signs::SignBook;
 use book_signs::laws::whole_book;
-use chart_workers::Crew;
 use command_grammars::laws::grammar_laws;
 use command_grammars::load_grammar;
 use endings::pieces::Report;
 use endings::{Fault, Stop};
-use fs_unify::Scratch;
 use grammar_load::Grammar;
-use grammar_rules::LineWork;
 use grammar_shapes::GrammarShapes;
 use item_counts::{Count, some_refused, summary};
 use line_commands::{rule_feeds, shapes_of};
@@ -102,14 +100,7 @@ fn count_with_shapes<Rt: Threads + Wait + Sync>(
         spelling: &grammar.spelling,
         limits: test.limits,
     };
-    let mut desk = Desk {
-        work: LineWork {
-            chart: Scratch::new(alloc),
-            trees: Scratch::new(alloc),
-        },
-        crew: Crew::new(alloc, test.workers),
-    };
-    count_lines(rt, alloc, &mut desk, &ready, lines, gate)
+    count_by(rt, alloc, test.workers, &ready, lines, gate)
 }
 
 // What is counted of the answers to lines, by the signs of a grammar.

@@ -5,8 +5,8 @@ use Rattle.grammar_load.specs.Views.{grammar_of}
 use Rattle.line_commands.proofs.Counts.{numbered}
 use Rattle.self_tests.proofs.testing.count_with_shapes.Goals as goal
 
-pub count_lines-requires-clause-ready : goal.count_lines-requires-clause-ready
-count_lines-requires-clause-ready g c κs bound =
+pub count_by-requires-clause-ready : goal.count_by-requires-clause-ready
+count_by-requires-clause-ready g c κs bound =
     let signs = signs_of c.args.signs.now in
     let is : IsSignsOf c.args.grammar.now.book signs = subst (λ b. IsSignsOf b signs) c.requires.book c.laws.ensures.signs in
     record {
