@@ -2,6 +2,7 @@
 
 ghost use Rattle.std.specs.Prelude.{◌≡◌, ◌≢◌, ℕ, ◌+◌, ◌<◌, ◌≤◌, ◌⊎◌, length, List, [], ◌∷◌, ◌++◌, IfOk, OnOk, MatchOption, IfSome, Some, None, true, slice_index_or};
 ghost use Rattle.type_hierarchy.specs.Table.{count_of, is_below, meet_of};
+ghost use Rattle.type_hierarchy.specs.Laws.{HasTypeLaws};
 ghost use Rattle.fs_model.specs.Claims.{Path, IsBare, IsOrder};
 ghost use Rattle.fs_model.specs.Table.{NodeClaim, is_same, is_under};
 ghost use Rattle.fs_closing.specs.Cells.{chain};
@@ -34,6 +35,45 @@ fn arc_of(nodes: &Nodes<'_>, n: u32, feat: u32) -> Option<u32>
     own_arc(nodes.parts, n, feat)
 }
 
+// The meet of two types. It costs no test of types where one is the top type, as that of a new node is, or both are one.
+fn meet(system: &TypeSystem, a: u32, b: u32) -> Option<u32>
+    requires a_in { a < count_of system.now.types }
+    requires b_in { b < count_of system.now.types }
+    ensures value { result ≡ meet_of system.now.types a b }
+    ensures within { IfSome result (λ m. m < count_of system.now.types) }
+    ensures laws { HasTypeLaws system.now.types }
+{
+    let types = system.types();
+    types.laws();
+    if a == 0 {
+        return Some(b);
+    }
+    if a == b {
+        return Some(b);
+    }
+    if b == 0 {
+        return Some(a);
+    }
+    let Some(met) = types.meet(Ty(a), Ty(b)) else {
+        return None;
+    };
+    Some(met.0)
+}
+
+// Whether the facts of a rule hold at a type already. None is told of the top type, so no test is spent on it.
+fn holds(system: &TypeSystem, ty: u32, rule: u32) -> bool
+    requires ty_in { ty < count_of system.now.types }
+    requires rule_in { rule < length system.now.rules }
+    ensures { result ≡ true → is_below system.now.types ty (slice_index_or system.now.rules rule no_rule).ty ≡ true }
+{
+    if ty == 0 {
+        return false;
+    }
+    system
+        .types()
+        .at_or_below(Ty(ty), Ty(system.rule_type(rule)))
+}
+
 // The facts of a rule are to hold at a node, unless they hold at one of two types already.
 fn push_rule(
     tasks: &mut Tasks,
@@ -49,12 +89,10 @@ fn push_rule(
     ensures work { OnOk result ((IsHeld system.now old other (slice_index_or system.now.rules rule no_rule).ty × (tasks.new ≡ tasks.old)) ⊎ IsJoined (entry_claims system.now.rules (record { node = node; rule = rule; from = 0 })) (work_of system.now.rules tasks.old) (work_of system.now.rules tasks.new)) }
     ensures ready { OnOk result ((size types : ℕ) → node < size → AreReady size types (length system.now.rules) tasks.old → AreReady size types (length system.now.rules) tasks.new) }
 {
-    let ty = Ty(system.rule_type(rule));
-    let types = system.types();
-    if types.at_or_below(Ty(old), ty) {
+    if holds(system, old, rule) {
         return Ok(());
     }
-    if types.at_or_below(Ty(other), ty) {
+    if other != old && holds(system, other, rule) {
         return Ok(());
     }
     tasks.push_entry(node, rule, 0)?;
@@ -89,23 +127,24 @@ pub fn push_rules(
     Ok(())
 }
 
-// A node's type becomes its meet with another type.
+// A node's type becomes its meet with another type. `old` is its type.
 fn lower(
     nodes: &mut Nodes<'_>,
     tasks: &mut Tasks,
     system: &TypeSystem,
     n: u32,
+    old: u32,
     ty: u32,
 ) -> Result<(), NoMemory>
     requires order { IsOrder (system_of system.now) }
     requires sound { AreSound system.now nodes.old tasks.old }
     requires node { n < nodes.old.size }
+    requires type_is { old ≡ (table_of nodes.old).type_of n }
     requires ty_in { ty < count_of system.now.types }
     ensures leads { OnOk result ((m u : ℕ) → (table_of nodes.old).live m ≡ n → meet_of system.now.types ((table_of nodes.old).type_of n) u ≡ Some ty → Leads system.now nodes.old (is_under m [] u ∷ work_of system.now.rules tasks.old) nodes.new (work_of system.now.rules tasks.new)) }
     ensures arcs { OnOk result (KeepsArcs nodes.old nodes.new) }
     ensures sound { OnOk result (AreSound system.now nodes.new tasks.new) }
 {
-    let old = ty_of(nodes, n);
     set_type(nodes, n, ty);
     push_rules(tasks, system, n, ty, old, old)?;
     Ok(())
@@ -126,16 +165,14 @@ pub fn put_under(
     ensures arcs { OnOk result (KeepsArcs nodes.old nodes.new) }
 {
     let n = live(nodes, node);
-    let old = Ty(ty_of(nodes, n));
-    let types = system.types();
-    if types.at_or_below(old, Ty(ty)) {
-        return Ok(true);
-    }
-    types.laws();
-    let Some(met) = types.meet(old, Ty(ty)) else {
+    let old = ty_of(nodes, n);
+    let Some(met) = meet(system, old, ty) else {
         return Ok(false);
     };
-    lower(nodes, tasks, system, n, met.0)?;
+    if met == old {
+        return Ok(true);
+    }
+    lower(nodes, tasks, system, n, old, met)?;
     Ok(true)
 }
 
@@ -266,14 +303,12 @@ pub fn merge(
     }
     let old = ty_of(nodes, a);
     let other = ty_of(nodes, b);
-    let types = system.types();
-    types.laws();
-    let Some(met) = types.meet(Ty(old), Ty(other)) else {
+    let Some(met) = meet(system, old, other) else {
         return Ok(false);
     };
     let first = first_of(nodes, b);
-    unite(nodes, a, b, met.0);
-    push_rules(tasks, system, a, met.0, old, other)?;
+    unite(nodes, a, b, met);
+    push_rules(tasks, system, a, met, old, other)?;
     let ok = attach_all(nodes, tasks, system, a, first, b)?;
     Ok(ok)
 }

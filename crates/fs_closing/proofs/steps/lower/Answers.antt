@@ -16,7 +16,7 @@ returns-clause-leads c = λ m u e meet.
     let s = system_of c.args.system.now in
     let work = work_of c.args.system.now.rules c.args.tasks.now in
     let work' = work_of c.args.system.now.rules c.push_rules.new.tasks in
-    let pushed = subst (λ t. PushesFacts s c.args.n c.args.ty t t work work') c.ty_of-old.ensures c.in_ok-push_rules.ensures.work in
+    let pushed = subst (λ t. PushesFacts s c.args.n c.args.ty t t work work') c.requires.type_is c.in_ok-push_rules.ensures.work in
     let after = table_of c.set_type.new.nodes in
     let lowers = λ (extra : List NodeClaim).
     subst (λ k. Lowers s (table_of nodes) after (work ++ extra) (work' ++ extra) k u c.args.ty) (sym e)

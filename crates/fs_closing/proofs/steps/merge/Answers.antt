@@ -1,6 +1,5 @@
-use Rattle.std.proofs.Common.{◌≢◌, ◌<◌, List, [], ◌∷◌, ◌++◌, length, refl, sym, ◌∙◌, ap, subst, arith}
-use Rattle.type_hierarchy.specs.Table.{TypeTable, count_of, meet_of}
-use Rattle.type_hierarchy.specs.Laws.{HasTypeLaws}
+use Rattle.std.proofs.Common.{◌≡◌, ◌≢◌, ◌<◌, None, List, [], ◌∷◌, ◌++◌, length, refl, sym, ◌∙◌, ap, subst, arith}
+use Rattle.type_hierarchy.specs.Table.{count_of, meet_of}
 use Rattle.fs_model.specs.Table.{NodeClaim, is_same}
 use Rattle.fs_model.specs.Steps.{Joins}
 use Rattle.fs_closing.specs.Cells.{chain}
@@ -18,12 +17,12 @@ pub meet-requires-clause-a_in : goal.meet-requires-clause-a_in
 meet-requires-clause-a_in c =
     let a_in = c.requires.a_in in
     let old = c.ty_of-old.ensures in
-    omega (arith, old, c.requires.sound.within.type_in c.args.a a_in, ap count_of c.types-types.ensures)
+    omega (arith, old, c.requires.sound.within.type_in c.args.a a_in)
 
 pub meet-requires-clause-b_in : goal.meet-requires-clause-b_in
 meet-requires-clause-b_in c =
     let other = c.ty_of-other.ensures in
-    omega (arith, other, c.requires.sound.within.type_in c.args.b c.requires.b_in, ap count_of c.types-types.ensures)
+    omega (arith, other, c.requires.sound.within.type_in c.args.b c.requires.b_in)
 
 -- the types of the two nodes, as code reads them, and their meet
 pub push_rules-requires-clause-old_in : goal.push_rules-requires-clause-old_in
@@ -37,34 +36,13 @@ push_rules-requires-clause-other_in c =
     let other = c.ty_of-other.ensures in
     omega (arith, other, c.requires.sound.within.type_in c.args.b c.requires.b_in)
 
-pub push_rules-requires-clause-ty_in : goal.push_rules-requires-clause-ty_in
-push_rules-requires-clause-ty_in c =
-    let a_in = c.requires.a_in in
-    let old = c.ty_of-old.ensures in
-    let other = c.ty_of-other.ensures in
-    let same = ap count_of c.types-types.ensures in
-    let old_in : c.ty_of-old.result < count_of c.types-types.result.now =
-    omega (arith, old, c.requires.sound.within.type_in c.args.a a_in, same) in
-    let other_in : c.ty_of-other.result < count_of c.types-types.result.now =
-    omega (arith, other, c.requires.sound.within.type_in c.args.b c.requires.b_in, same) in
-    omega (arith, c.laws.ensures.meet_in c.ty_of-old.result c.ty_of-other.result c.in-Some.met.0 old_in other_in (sym c.in-Some.ensures), same)
-
 pub attach_all-requires-clause-sound : goal.attach_all-requires-clause-sound
 attach_all-requires-clause-sound c =
     let g = c.args.system.now in
     let a_in = c.requires.a_in in
-    let old = c.ty_of-old.ensures in
-    let other = c.ty_of-other.ensures in
-    let same = ap count_of c.types-types.ensures in
-    let old_in : c.ty_of-old.result < count_of c.types-types.result.now =
-    omega (arith, old, c.requires.sound.within.type_in c.args.a a_in, same) in
-    let other_in : c.ty_of-other.result < count_of c.types-types.result.now =
-    omega (arith, other, c.requires.sound.within.type_in c.args.b c.requires.b_in, same) in
-    let met_in : c.in-Some.met.0 < count_of c.args.system.now.types =
-    omega (arith, c.laws.ensures.meet_in c.ty_of-old.result c.ty_of-other.result c.in-Some.met.0 old_in other_in (sym c.in-Some.ensures), same) in
     record {
       whole = c.unite.ensures.whole;
-      within = c.unite.ensures.within (count_of g.types) (length g.introducers) met_in c.requires.sound.within;
+      within = c.unite.ensures.within (count_of g.types) (length g.introducers) c.in-Some.ensures.within c.requires.sound.within;
       ready = subst (λ n. AreReady n (count_of g.types) (length g.rules) c.push_rules.new.tasks) (sym c.unite.ensures.unites.size_is)
           (c.in_ok-push_rules.ensures.ready c.args.nodes.now.size (count_of g.types) a_in c.requires.sound.ready);
     }
@@ -79,10 +57,9 @@ returns-in_default c = λ n m en em.
     let a_in = c.requires.a_in in
     let old = c.ty_of-old.ensures in
     let other = c.ty_of-other.ensures in
+    let is : None ≡ meet_of g.types c.ty_of-old.result c.ty_of-other.result = cc (c.in_default.is, c.in_default.ensures.value) in
     let none = ap (λ t. meet_of g.types t ((table_of c.args.nodes.now).type_of c.args.b)) (sym old)
-    ∙ ap (meet_of g.types c.ty_of-old.result) (sym other)
-    ∙ ap (λ (t : TypeTable). meet_of t c.ty_of-old.result c.ty_of-other.result) (sym c.types-types.ensures)
-    ∙ sym c.in_default.ensures in
+    ∙ ap (meet_of g.types c.ty_of-old.result) (sym other) ∙ sym is in
     Refutes-meet (system_of g) (deep_of c.args.nodes.now) n m c.args.a c.args.b (work_of g.rules c.args.tasks.now) en em none
 
 pub returns : goal.returns
@@ -99,21 +76,19 @@ returns c = λ n m en em.
     let old = c.ty_of-old.ensures in
     let other = c.ty_of-other.ensures in
     let met = ap (λ t. meet_of g.types t ((table_of nodes).type_of b)) (sym old)
-    ∙ ap (meet_of g.types c.ty_of-old.result) (sym other)
-    ∙ ap (λ (t : TypeTable). meet_of t c.ty_of-old.result c.ty_of-other.result) (sym c.types-types.ensures)
-    ∙ sym c.in-Some.ensures in
-    let pushes = subst (λ t. PushesFacts s a c.in-Some.met.0 t ((table_of nodes).type_of b) work pushed) old
-    (subst (λ t. PushesFacts s a c.in-Some.met.0 c.ty_of-old.result t work pushed) other c.in_ok-push_rules.ensures.work) in
+    ∙ ap (meet_of g.types c.ty_of-old.result) (sym other) ∙ sym c.in-Some.ensures.value in
+    let pushes = subst (λ t. PushesFacts s a c.in-Some.met t ((table_of nodes).type_of b) work pushed) old
+    (subst (λ t. PushesFacts s a c.in-Some.met c.ty_of-old.result t work pushed) other c.in_ok-push_rules.ensures.work) in
     let first = c.first_of-first.ensures in
     let apart : x.table.live n ≢ x.table.live m = λ e. c.requires.apart (sym en ∙ e ∙ em) in
     let row = row_of nodes b in
     let joins = λ (extra : List NodeClaim).
-    subst (λ k. Joins s x.table y.table (work ++ extra) ((arc_claims a row ++ pushed) ++ extra) k (x.table.live m) c.in-Some.met.0) (sym en)
-    (subst (λ k. Joins s x.table y.table (work ++ extra) ((arc_claims a row ++ pushed) ++ extra) a k c.in-Some.met.0) (sym em)
-    (joins_by s x.table y.table a b c.in-Some.met.0 row work pushed extra c.unite.ensures.unites met (λ f. refl)
+    subst (λ k. Joins s x.table y.table (work ++ extra) ((arc_claims a row ++ pushed) ++ extra) k (x.table.live m) c.in-Some.met) (sym en)
+    (subst (λ k. Joins s x.table y.table (work ++ extra) ((arc_claims a row ++ pushed) ++ extra) a k c.in-Some.met) (sym em)
+    (joins_by s x.table y.table a b c.in-Some.met row work pushed extra c.unite.ensures.unites met (λ f. refl)
     (c.requires.sound.whole.stands.once b c.requires.b_in) pushes)) in
-    let order = order_of_laws g (subst HasTypeLaws c.types-types.ensures c.laws.ensures) in
-    let leads = Turns-joins s order x y n m c.in-Some.met.0 work (arc_claims a row ++ pushed) apart joins
+    let order = order_of_laws g c.in-Some.ensures.laws in
+    let leads = Turns-joins s order x y n m c.in-Some.met work (arc_claims a row ++ pushed) apart joins
     c.unite.ensures.depths in
     let cells = ap (λ l. arc_claims a (chain l c.first_of-first.result ++ own_row c.unite.new.nodes b) ++ pushed) c.unite.ensures.cells
     ∙ ap (λ l. arc_claims a (chain nodes.cells.items c.first_of-first.result ++ l) ++ pushed) (c.unite.ensures.own b)
