@@ -5,7 +5,7 @@ ghost use Rattle.fs_model.specs.Claims.{Has};
 ghost use Rattle.fs_graph.specs.GraphMap.{arc_to};
 ghost use Rattle.fs_closing.specs.declared.nodes.Cell.{Cell as CellValue};
 ghost use Rattle.fs_closing.specs.Cells.{find_arc};
-ghost use Rattle.fs_closing.specs.Beside.{holds, home, row_in, type_in};
+ghost use Rattle.fs_closing.specs.Beside.{cells_from, holds, home, row_in, type_in};
 
 use crate::nodes::Cell;
 use fs_graph::{Graph, GraphArc, Node};
@@ -51,26 +51,37 @@ pub fn own_count(parts: &[Based<'_>], n: u32) -> usize
     }
 }
 
-/// An arc that a node has from its graph.
-pub fn own_cell(parts: &[Based<'_>], n: u32, i: usize) -> Cell
-    requires place { i < length (row_in parts.now n) }
-    requires small { (c : CellValue) → Has c (row_in parts.now n) → c.to < 2 ^ 32 }
-    ensures { (d : CellValue) → result ≡ slice_index_or (row_in parts.now n) i d }
+/// Arcs that a node has from its graph, by rising feature. Their ends are numbered from `base` on.
+#[derive(Clone, Copy)]
+pub struct OwnArcs<'a> {
+    pub base: u32,
+    pub arcs: &'a [GraphArc],
+}
+
+/// The arcs that a node has from its graph, which is looked for once for all of them; none for a node of no graph.
+pub fn own_arcs<'a>(parts: &'a [Based<'a>], n: u32) -> OwnArcs<'a>
+    ensures { cells_from result.base result.arcs.now ≡ row_in parts.now n }
 {
     match home(parts, n) {
-        Some(part) => {
-            let arc = part.graph.arcs(Node(n - part.base))[i];
-            Cell {
-                feat: arc.feat.0,
-                to: part.base + arc.to.0,
-                next: 0,
-            }
-        }
-        None => Cell {
-            feat: 0,
-            to: 0,
-            next: 0,
+        Some(part) => OwnArcs {
+            base: part.base,
+            arcs: part.graph.arcs(Node(n - part.base)),
         },
+        None => OwnArcs { base: 0, arcs: &[] },
+    }
+}
+
+/// An arc that a node has from its graph, whose nodes have the numbers from `base` on.
+pub fn own_cell(base: u32, arcs: &[GraphArc], i: usize) -> Cell
+    requires place { i < length arcs.now }
+    requires small { (c : CellValue) → Has c (cells_from base arcs.now) → c.to < 2 ^ 32 }
+    ensures { (d : CellValue) → result ≡ slice_index_or (cells_from base arcs.now) i d }
+{
+    let arc = arcs[i];
+    Cell {
+        feat: arc.feat.0,
+        to: base + arc.to.0,
+        next: 0,
     }
 }
 

@@ -17,7 +17,7 @@ use crate::fault::NoMemory;
 use crate::nodes::{
     Nodes, add_arc, depth_of, first_of, grow, live, look_up, set_type, ty_of, unite,
 };
-use crate::parts::{own_arc, own_cell, own_count};
+use crate::parts::{own_arc, own_arcs, own_cell};
 use crate::system::TypeSystem;
 use crate::tasks::Tasks;
 use type_hierarchy::Ty;
@@ -244,8 +244,9 @@ pub fn attach_own(
     requires stays { (table_of nodes.old).live n ≡ n }
     ensures { IfOk result (StepsTo system.now nodes.old (arc_claims n (own_row nodes.old of) ++ work_of system.now.rules tasks.old) nodes.new tasks.new) }
 {
-    for i in 0..own_count(nodes.parts, of) {
-        let cell = own_cell(nodes.parts, of, i);
+    let own = own_arcs(nodes.parts, of);
+    for i in 0..own.arcs.len() {
+        let cell = own_cell(own.base, own.arcs, i);
         match attach(nodes, tasks, system, n, cell.feat, cell.to)? {
             true => {}
             false => return Ok(false),

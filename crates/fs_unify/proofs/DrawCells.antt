@@ -1,18 +1,14 @@
 -- The arcs of a node are drawn one by one.
-use Rattle.std.proofs.Common.{ℕ, suc, ◌≡◌, ◌≢◌, ◌<◌, ◌+◌, ◌⊎◌, inl, inr, Option, Some, None, List, [], ◌∷◌, ◌++◌, length, drop, slice_index_or, refl, sym, ◌∙◌, ap, subst, arith}
+use Rattle.std.proofs.Common.{ℕ, ◌≡◌, ◌≢◌, ◌⊎◌, inl, inr, Option, Some, None, List, [], ◌∷◌, ◌++◌, refl, sym, ◌∙◌, ap, subst}
 use Rattle.std.specs.Option.{option_map}
-use Rattle.std.proofs.Math.Seq.{drop-cons}
 use Rattle.fs_model.proofs.StepLemmas.{same_or_other}
 use Rattle.fs_closing.specs.declared.nodes.Cell.{Cell}
-use Rattle.fs_closing.specs.Cells.{find_arc, no_cell, AreOnce}
+use Rattle.fs_closing.specs.Cells.{find_arc, AreOnce}
 use Rattle.fs_closing.proofs.ChainLemmas.{find_arc-here, find_arc-past, find_left, find_right}
 
 -- a feature is drawn, or is left
 pub record DrawsCells (live : ℕ → ℕ) (all left : List Cell) (arc : ℕ → Option ℕ) : Type 0 where
   pub each : (f : ℕ) → ((find_arc left f ≡ None) × (arc f ≡ option_map live (find_arc all f))) ⊎ ((arc f ≡ None) × (find_arc left f ≡ find_arc all f))
-
-pub draws_begin : (live : ℕ → ℕ) (all : List Cell) (arc : ℕ → Option ℕ) → ((f : ℕ) → arc f ≡ None) → DrawsCells live all all arc
-draws_begin live all arc none = record { each = λ f. inr (none f, refl) }
 
 left_free : (xs ys : List Cell) (f : ℕ) → find_arc (xs ++ ys) f ≡ None → find_arc xs f ≡ None
 left_free xs ys f e = go (find_arc xs f) refl
@@ -24,19 +20,6 @@ left_free xs ys f e = go (find_arc xs f) refl
 pub once_left : (xs ys : List Cell) → AreOnce (xs ++ ys) → AreOnce xs
 once_left [] ys once = tt
 once_left (x ∷ xs) ys once = (left_free xs ys x.feat once.0, once_left xs ys once.1)
-
-pub once_right : (xs ys : List Cell) → AreOnce (xs ++ ys) → AreOnce ys
-once_right [] ys once = once
-once_right (x ∷ xs) ys once = once_right xs ys once.1
-
-pub drop_zero : (xs : List Cell) → drop 0 xs ≡ xs
-drop_zero [] = refl
-drop_zero (x ∷ xs) = refl
-
--- the cells from a place on begin with the one at this place
-pub drop_step : (xs : List Cell) (i : ℕ) (c : Cell) → i < length xs → c ≡ slice_index_or xs i no_cell → drop i xs ≡ c ∷ drop (i + 1) xs
-drop_step xs i c h is =
-    drop-cons xs i no_cell h ∙ ap (λ x. x ∷ drop (suc i) xs) (sym is) ∙ ap (λ j. c ∷ drop j xs) (let e : suc i ≡ i + 1 = omega arith in e)
 
 -- what is found in the first list is not in the second one
 right_free : (xs ys : List Cell) (f m : ℕ) → AreOnce (xs ++ ys) → find_arc xs f ≡ Some m → find_arc ys f ≡ None

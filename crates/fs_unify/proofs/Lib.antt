@@ -1,5 +1,6 @@
 pub mod DrawLemmas
 pub mod DrawCells
+pub mod DrawOwn
 pub mod DrawRows
 pub mod GivenLemmas
 pub mod EnterLemmas

@@ -1,5 +1,5 @@
 -- Graphs of closed nodes.
-use Rattle.std.specs.Prelude.{ℕ, ◌≡◌, ◌≢◌, ◌<◌, ◌≤◌, Bool, true, false, Option, Some, None, option_map, List, [], length, slice_index, slice_index_or}
+use Rattle.std.specs.Prelude.{ℕ, ◌≡◌, ◌≢◌, ◌<◌, ◌≤◌, Bool, true, false, Option, Some, None, option_map, List, [], ◌++◌, length, map, slice_index, slice_index_or}
 use Rattle.fs_model.specs.Claims.{Path, System, IsOrder}
 use Rattle.fs_model.specs.Sources.{Reader, Source, Told, IsUnified}
 use Rattle.fs_model.specs.Table.{Table, walk}
@@ -10,6 +10,7 @@ use Rattle.fs_graph.specs.Orders.{ArePlan, IsOrderOf}
 use Rattle.fs_unify.specs.declared.draw.Picture.{Picture}
 use Rattle.fs_graph.specs.Visits.{targets_of}
 use Rattle.fs_closing.specs.Keeps.{Deep, Stands, deep_of}
+use Rattle.fs_closing.specs.declared.nodes.Cell.{Cell}
 use Rattle.fs_closing.specs.declared.nodes.Nodes.{Nodes}
 use Rattle.fs_closing.specs.NodeTable.{table_of as nodes_table}
 
@@ -30,6 +31,14 @@ pub record DrawsRow (t : Table) (n : ℕ) (arcs : List GraphArc) : Type 0 where
   pub rises : Rises arcs
   pub here : (f : ℕ) → t.live n ≡ n → arc_to arcs f ≡ option_map t.live (t.arc n f)
   pub to_in : (k : ℕ) → k < length arcs → slice_index (targets_of arcs) k < t.size
+
+-- arcs as they are drawn, each to the node that stands for its end
+abbrev pub ended_row : (ℕ → ℕ) → List Cell → List GraphArc
+ended_row live cells = map (λ c. record { feat = record { 0 = c.feat }; to = record { 0 = live c.to } }) cells
+
+-- a node's row comes behind others
+abbrev pub AddsRow : Table → ℕ → List GraphArc → List GraphArc → Type 0
+AddsRow t n old new = (r : List GraphArc) × (new ≡ old ++ r) × DrawsRow t n r
 
 -- the rows of a table's first nodes
 pub record DrawsRows (t : Table) (count : ℕ) (starts : List ℕ) (arcs : List GraphArc) : Type 0 where

@@ -1,17 +1,17 @@
 //! The graph of closed nodes.
 
-ghost use Rattle.std.specs.Prelude.{◌≡◌, ℕ, ◌<◌, ◌≤◌, ◌∷◌, [], length, map, None, Some, IfOk, OnOk, option_map, slice_index};
+ghost use Rattle.std.specs.Prelude.{◌≡◌, ℕ, ◌<◌, ◌≤◌, ◌∷◌, ◌++◌, [], length, map, None, Some, IfOk, OnOk, option_map, slice_index};
 ghost use Rattle.fs_graph.specs.GraphMap.{arc_to, Rises, reader_of};
 ghost use Rattle.fs_graph.specs.Visits.{feats_of, targets_of};
 ghost use Rattle.fs_closing.specs.Cells.{find_arc};
 ghost use Rattle.fs_closing.specs.NodeTable.{table_of, own_row, IsWhole, IsWithin};
 ghost use Rattle.fs_closing.specs.Keeps.{deep_of};
 ghost use Rattle.fs_unify.specs.Entering.{IsGraphIn};
-ghost use Rattle.fs_unify.specs.Drawing.{PutsArc, DrawsTypes, DrawsRow, DrawsRows, IsPictureIn, Shows, Answers};
+ghost use Rattle.fs_unify.specs.Drawing.{PutsArc, ended_row, DrawsTypes, AddsRow, DrawsRows, IsPictureIn, Shows, Answers};
 
 use crate::NoMemory;
 use fs_closing::nodes::{Nodes, first_of, live, ty_of};
-use fs_closing::parts::{own_cell, own_count};
+use fs_closing::parts::{own_arcs, own_cell};
 use fs_graph::{Clash, Graph, GraphArc, Node, Order, graph_of, order_in};
 use fs_paths::Feat;
 use std::alloc::Global;
@@ -45,19 +45,20 @@ fn put_arc(row: &mut Vec<GraphArc>, feat: Feat, to: Node) -> Result<(), NoMemory
     Ok(())
 }
 
-// An empty row gets the arcs that a node has from its graph.
-fn draw_own(row: &mut Vec<GraphArc>, nodes: &Nodes<'_>, n: u32) -> Result<(), NoMemory>
+// Adds the arcs that a node has from its graph, which stand in order there.
+fn draw_own(arcs: &mut Vec<GraphArc>, nodes: &Nodes<'_>, n: u32) -> Result<(), NoMemory>
     requires whole { IsWhole nodes.now }
     requires node { n < nodes.now.size }
-    requires empty { row.old.items ≡ [] }
-    ensures rises { OnOk result (Rises row.new.items) }
-    ensures here { OnOk result ((f : ℕ) → arc_to row.new.items f ≡ option_map (table_of nodes.now).live (find_arc (own_row nodes.now n) f)) }
-    ensures to_in { OnOk result ((k : ℕ) → k < length row.new.items → slice_index (targets_of row.new.items) k < nodes.now.size) }
+    ensures { OnOk result (arcs.new.items ≡ arcs.old.items ++ ended_row (table_of nodes.now).live (own_row nodes.now n)) }
 {
-    for i in 0..own_count(nodes.parts, n) {
-        let cell = own_cell(nodes.parts, n, i);
+    let own = own_arcs(nodes.parts, n);
+    for i in 0..own.arcs.len() {
+        let cell = own_cell(own.base, own.arcs, i);
         let to = live(nodes, cell.to);
-        put_arc(row, Feat(cell.feat), Node(to))?;
+        arcs.push(GraphArc {
+            feat: Feat(cell.feat),
+            to: Node(to),
+        })?;
     }
     Ok(())
 }
@@ -97,16 +98,43 @@ fn draw_arcs(row: &mut Vec<GraphArc>, nodes: &Nodes<'_>, n: u32) -> Result<(), N
     Ok(())
 }
 
-// A row becomes that of a node: its arcs, and none where it was merged.
-fn draw_row(row: &mut Vec<GraphArc>, nodes: &Nodes<'_>, n: u32) -> Result<(), NoMemory>
+// Adds the arcs of a node that isn't merged. They are put in order in `row`.
+fn draw_sorted(
+    nodes: &Nodes<'_>,
+    row: &mut Vec<GraphArc>,
+    arcs: &mut Vec<GraphArc>,
+    n: u32,
+) -> Result<(), NoMemory>
     requires whole { IsWhole nodes.now }
     requires node { n < nodes.now.size }
-    ensures { OnOk result (DrawsRow (table_of nodes.now) n row.new.items) }
+    ensures { OnOk result (AddsRow (table_of nodes.now) n arcs.old.items arcs.new.items) }
 {
     row.clear();
-    if live(nodes, n) == n {
-        draw_arcs(row, nodes, n)?;
+    draw_arcs(row, nodes, n)?;
+    arcs.extend_from_slice(row)?;
+    Ok(())
+}
+
+// Adds the arcs of a node, and none where it was merged. Where none was added to those from its graph, these are in order
+// already, and `row` isn't needed.
+fn draw_row(
+    nodes: &Nodes<'_>,
+    row: &mut Vec<GraphArc>,
+    arcs: &mut Vec<GraphArc>,
+    n: u32,
+) -> Result<(), NoMemory>
+    requires whole { IsWhole nodes.now }
+    requires node { n < nodes.now.size }
+    ensures { OnOk result (AddsRow (table_of nodes.now) n arcs.old.items arcs.new.items) }
+{
+    if live(nodes, n) != n {
+        return Ok(());
     }
+    if first_of(nodes, n) == 0 {
+        draw_own(arcs, nodes, n)?;
+        return Ok(());
+    }
+    draw_sorted(nodes, row, arcs, n)?;
     Ok(())
 }
 
@@ -130,8 +158,7 @@ fn draw_rows(
     ensures { OnOk result (DrawsRows (table_of nodes.now) nodes.now.size starts.new.items arcs.new.items) }
 {
     for n in 0..nodes.size {
-        draw_row(row, nodes, n)?;
-        arcs.extend_from_slice(row)?;
+        draw_row(nodes, row, arcs, n)?;
         starts.push(place(arcs)?)?;
     }
     Ok(())

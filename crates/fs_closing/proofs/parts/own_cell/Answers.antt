@@ -1,22 +1,20 @@
-use Rattle.std.proofs.Common.{slice_index_or, sym, ap, arith}
+use Rattle.std.proofs.Common.{◌<◌, length, slice_index_or, refl, sym, ap, arith}
 use Rattle.fs_closing.specs.Cells.{no_cell}
-use Rattle.fs_closing.specs.Beside.{row_in}
+use Rattle.fs_closing.specs.Beside.{cells_from}
 use Rattle.fs_closing.proofs.HasLemmas.{Has-at}
-use Rattle.fs_closing.proofs.BesideLemmas.{home_holds, row_home, cell_at, no_arc}
+use Rattle.fs_closing.proofs.BesideLemmas.{row_size, cell_at, no_arc}
 use Rattle.fs_closing.proofs.parts.own_cell.Goals as goal
-
-pub overflow_sub-n : goal.overflow_sub-n
-overflow_sub-n c = (home_holds c.args.n c.args.parts.now c.in-Some.part.now (sym c.in-Some.ensures)).0
-
-pub arcs-requires : goal.arcs-requires
-arcs-requires c = (home_holds c.args.n c.args.parts.now c.in-Some.part.now (sym c.in-Some.ensures)).1
 
 pub overflow_add-result : goal.overflow_add-result
 overflow_add-result c =
-    let parts = c.args.parts.now in
-    let p = c.in-Some.part.now in
-    let row = row_in parts c.args.n in
-    let is = row_home parts c.args.n p c.arcs.result.now (sym c.in-Some.ensures) c.arcs.ensures in
-    let low = c.requires.small (slice_index_or row c.args.i no_cell) (Has-at row c.args.i no_cell c.requires.place) in
-    let to = ap (λ x. x.to) (cell_at p.base c.arcs.result.now row c.args.i no_cell no_arc is c.requires.place) in
+    let row = cells_from c.args.base c.args.arcs.now in
+    let place : c.args.i < length row = omega (arith, c.requires.place, row_size c.args.base c.args.arcs.now row refl) in
+    let low = c.requires.small (slice_index_or row c.args.i no_cell) (Has-at row c.args.i no_cell place) in
+    let to = ap (λ x. x.to) (cell_at c.args.base c.args.arcs.now row c.args.i no_cell no_arc refl place) in
     omega (arith, low, to)
+
+pub returns : goal.returns
+returns c = λ d.
+    let row = cells_from c.args.base c.args.arcs.now in
+    let place : c.args.i < length row = omega (arith, c.requires.place, row_size c.args.base c.args.arcs.now row refl) in
+    sym (cell_at c.args.base c.args.arcs.now row c.args.i d no_arc refl place)

@@ -7,32 +7,30 @@ use Rattle.fs_closing.specs.Rules.{system_of}
 use Rattle.fs_closing.specs.Work.{work_of}
 use Rattle.fs_closing.specs.Keeps.{Turns, StepsTo, deep_of, arc_claims}
 use Rattle.fs_closing.proofs.HasLemmas.{Has-at}
+use Rattle.fs_closing.proofs.BesideLemmas.{row_size}
 use Rattle.fs_closing.proofs.StepLemmas.{Turns-none, turn_one, refute_one, claims_step, claims_all, claims_none}
 use Rattle.fs_closing.proofs.steps.attach_own.Goals as goal
 
-pub own_cell-cell-requires-clause-place : goal.own_cell-cell-requires-clause-place
-own_cell-cell-requires-clause-place c =
-    let i_in : c.loop-i.i < length (own_row c.args.nodes.now c.args.of) = omega (arith, c.loop-i-test.true, c.own_count-i-end.ensures) in
-    subst (λ l. c.loop-i.i < length l) (sym c.loop-i.invariant.own) i_in
-
 pub own_cell-cell-requires-clause-small : goal.own_cell-cell-requires-clause-small
 own_cell-cell-requires-clause-small c = λ x h.
-    omega (arith, c.loop-i.invariant.sound.whole.stands.own_in c.args.of x h, c.loop-i.invariant.sound.whole.stands.small)
+    omega (arith, c.requires.sound.whole.stands.own_in c.args.of x (subst (Has x) c.own_arcs-own.ensures h), c.requires.sound.whole.stands.small)
 
 pub attach-requires-clause-to_in : goal.attach-requires-clause-to_in
 attach-requires-clause-to_in c =
-    let i_in : c.loop-i.i < length (own_row c.args.nodes.now c.args.of) = omega (arith, c.loop-i-test.true, c.own_count-i-end.ensures) in
-    let here = subst (λ l. c.loop-i.i < length l) (sym c.loop-i.invariant.own) i_in in
-    let at = subst (λ x. Has x (own_row c.loop-i.nodes c.args.of)) (sym (c.own_cell-cell.ensures no_cell))
-    (Has-at (own_row c.loop-i.nodes c.args.of) c.loop-i.i no_cell here) in
+    let i_in : c.loop-i.i < length (own_row c.args.nodes.now c.args.of) =
+    omega (arith, c.loop-i-test.true, c.loop-i.auto.i-end, row_size c.own_arcs-own.result.base c.own_arcs-own.result.arcs.now _ c.own_arcs-own.ensures) in
+    let row = own_row c.args.nodes.now c.args.of in
+    let is = c.own_cell-cell.ensures no_cell ∙ ap (λ l. slice_index_or l c.loop-i.i no_cell) c.own_arcs-own.ensures in
+    let at = subst (Has c.own_cell-cell.result) (sym c.loop-i.invariant.own) (subst (λ x. Has x row) (sym is) (Has-at row c.loop-i.i no_cell i_in)) in
     c.loop-i.invariant.sound.whole.stands.own_in c.args.of c.own_cell-cell.result at
 
 pub attach-requires-clause-feat_in : goal.attach-requires-clause-feat_in
 attach-requires-clause-feat_in c =
-    let i_in : c.loop-i.i < length (own_row c.args.nodes.now c.args.of) = omega (arith, c.loop-i-test.true, c.own_count-i-end.ensures) in
-    let here = subst (λ l. c.loop-i.i < length l) (sym c.loop-i.invariant.own) i_in in
-    let at = subst (λ x. Has x (own_row c.loop-i.nodes c.args.of)) (sym (c.own_cell-cell.ensures no_cell))
-    (Has-at (own_row c.loop-i.nodes c.args.of) c.loop-i.i no_cell here) in
+    let i_in : c.loop-i.i < length (own_row c.args.nodes.now c.args.of) =
+    omega (arith, c.loop-i-test.true, c.loop-i.auto.i-end, row_size c.own_arcs-own.result.base c.own_arcs-own.result.arcs.now _ c.own_arcs-own.ensures) in
+    let row = own_row c.args.nodes.now c.args.of in
+    let is = c.own_cell-cell.ensures no_cell ∙ ap (λ l. slice_index_or l c.loop-i.i no_cell) c.own_arcs-own.ensures in
+    let at = subst (Has c.own_cell-cell.result) (sym c.loop-i.invariant.own) (subst (λ x. Has x row) (sym is) (Has-at row c.loop-i.i no_cell i_in)) in
     c.loop-i.invariant.sound.within.own_feat c.args.of c.own_cell-cell.result at
 
 pub loop-i-init : goal.loop-i-init
@@ -55,9 +53,10 @@ loop-i-preserved c =
     let s = system_of c.args.system.now in
     let n = c.args.n in
     let row = own_row c.args.nodes.now c.args.of in
-    let i_in : c.loop-i.i < length (own_row c.args.nodes.now c.args.of) = omega (arith, c.loop-i-test.true, c.own_count-i-end.ensures) in
+    let i_in : c.loop-i.i < length (own_row c.args.nodes.now c.args.of) =
+    omega (arith, c.loop-i-test.true, c.loop-i.auto.i-end, row_size c.own_arcs-own.result.base c.own_arcs-own.result.arcs.now _ c.own_arcs-own.ensures) in
     let cell = c.own_cell-cell.result in
-    let is = c.own_cell-cell.ensures no_cell ∙ ap (λ l. slice_index_or l c.loop-i.i no_cell) c.loop-i.invariant.own in
+    let is = c.own_cell-cell.ensures no_cell ∙ ap (λ l. slice_index_or l c.loop-i.i no_cell) c.own_arcs-own.ensures in
     let start = arc_claims n row ++ work_of c.args.system.now.rules c.args.tasks.now in
     let work = work_of c.args.system.now.rules c.loop-i.tasks in
     let before = subst (λ l. Turns s (deep_of c.args.nodes.now) start (deep_of c.loop-i.nodes) (l ++ work))
@@ -79,9 +78,10 @@ returns-in-false c =
     let s = system_of c.args.system.now in
     let n = c.args.n in
     let row = own_row c.args.nodes.now c.args.of in
-    let i_in : c.loop-i.i < length (own_row c.args.nodes.now c.args.of) = omega (arith, c.loop-i-test.true, c.own_count-i-end.ensures) in
+    let i_in : c.loop-i.i < length (own_row c.args.nodes.now c.args.of) =
+    omega (arith, c.loop-i-test.true, c.loop-i.auto.i-end, row_size c.own_arcs-own.result.base c.own_arcs-own.result.arcs.now _ c.own_arcs-own.ensures) in
     let cell = c.own_cell-cell.result in
-    let is = c.own_cell-cell.ensures no_cell ∙ ap (λ l. slice_index_or l c.loop-i.i no_cell) c.loop-i.invariant.own in
+    let is = c.own_cell-cell.ensures no_cell ∙ ap (λ l. slice_index_or l c.loop-i.i no_cell) c.own_arcs-own.ensures in
     let start = arc_claims n row ++ work_of c.args.system.now.rules c.args.tasks.now in
     let work = work_of c.args.system.now.rules c.loop-i.tasks in
     let before = subst (λ l. Turns s (deep_of c.args.nodes.now) start (deep_of c.loop-i.nodes) (l ++ work))
@@ -96,7 +96,8 @@ returns c =
     let s = system_of c.args.system.now in
     let row = own_row c.args.nodes.now c.args.of in
     let start = arc_claims c.args.n row ++ work_of c.args.system.now.rules c.args.tasks.now in
-    let past : length (own_row c.args.nodes.now c.args.of) ≤ c.loop-i.i = omega (arith, c.loop-i-test.false, c.own_count-i-end.ensures) in (
+    let past : length (own_row c.args.nodes.now c.args.of) ≤ c.loop-i.i =
+    omega (arith, c.loop-i-test.false, c.loop-i.auto.i-end, row_size c.own_arcs-own.result.base c.own_arcs-own.result.arcs.now _ c.own_arcs-own.ensures) in (
       subst (λ l. Turns s (deep_of c.args.nodes.now) start (deep_of c.loop-i.nodes) (l ++ work_of c.args.system.now.rules c.loop-i.tasks))
           (claims_none c.args.n c.loop-i.i row past) c.loop-i.invariant.leads,
       c.loop-i.invariant.sound,

@@ -1,4 +1,4 @@
-use Rattle.std.proofs.Common.{◌≡◌, ◌≢◌, ◌<◌, None, List, [], ◌∷◌, ◌++◌, length, refl, sym, ◌∙◌, ap, subst, arith}
+use Rattle.std.proofs.Common.{◌≡◌, ◌≢◌, None, List, [], ◌∷◌, ◌++◌, length, refl, sym, ◌∙◌, ap, subst, arith}
 use Rattle.type_hierarchy.specs.Table.{count_of, meet_of}
 use Rattle.fs_model.specs.Table.{NodeClaim, is_same}
 use Rattle.fs_model.specs.Steps.{Joins}

@@ -1,6 +1,5 @@
-use Rattle.std.proofs.Common.{◌<◌, ◌≡◌, None, Some, sym, ◌∙◌, ap, subst, arith}
-use Rattle.type_hierarchy.specs.Table.{count_of, is_below, meet_of}
-use Rattle.fs_closing.specs.NodeTable.{table_of}
+use Rattle.std.proofs.Common.{◌≡◌, None, sym, ◌∙◌, ap, arith}
+use Rattle.type_hierarchy.specs.Table.{is_below, meet_of}
 use Rattle.fs_closing.specs.Rules.{system_of}
 use Rattle.fs_closing.specs.Keeps.{deep_of}
 use Rattle.fs_closing.proofs.OrderLemmas.{order_of_laws}
