@@ -3,7 +3,7 @@ use Rattle.std.proofs.Common.{ℕ, ◌≡◌, ◌≢◌, ◌≤◌, ◌<◌, ◌
 use Rattle.std.specs.Global.{Global}
 use Rattle.std.proofs.lemmas.Bool.{cases_lt}
 use Rattle.type_hierarchy.specs.Bits.{has_bit, IsRow}
-use Rattle.type_hierarchy.specs.Table.{TypeTable, set_of, has_member, intersection, common}
+use Rattle.type_hierarchy.specs.Table.{TypeTable, set_of, has_member, intersection}
 use Rattle.type_hierarchy.specs.Laws.{IsHierarchy}
 use Rattle.type_hierarchy.specs.Inner.Tables.{sets_of, row_items}
 use Rattle.type_hierarchy.proofs.SetLemmas.{differ, bool_cases, and_left, and_right, and_both, or_cases, or_left, or_right, member_bits, member_intersection, not_empty}

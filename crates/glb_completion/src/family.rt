@@ -10,8 +10,10 @@ ghost use Rattle.glb_completion.specs.Completion.{IsCompleteFault};
 ghost use Rattle.glb_completion.specs.Inner.Growing.{IsGrowing, Adds, IsFull};
 
 use crate::fault::CompleteFault;
+use crate::row_hash::RowHasher;
 use indexmap::IndexSet;
 use std::alloc::{AllocError, Global};
+use std::hash::BuildHasherDefault;
 use type_hierarchy::Hierarchy;
 
 /// At most so many completed types.
@@ -20,7 +22,7 @@ pub const MOST_COMPLETED: usize = 65_535;
 /// Sets of types as rows of bits, and for each the types that were seen to be above all its members.
 #[derive(Drop)]
 pub struct Family {
-    pub sets: IndexSet<Vec<u64>>,
+    pub sets: IndexSet<Vec<u64>, BuildHasherDefault<RowHasher>>,
     pub above: Vec<Vec<u64>>,
 }
 
@@ -31,7 +33,7 @@ impl Family {
         ensures laws { OnOk result (IsHierarchy h.now) }
     {
         let above = h.rows_above(alloc)?;
-        let mut sets = IndexSet::new(alloc);
+        let mut sets = IndexSet::with_hasher(alloc, BuildHasherDefault::new());
         for t in 0..h.count() {
             let row = Vec::from_slice(alloc, h.row(t))?;
             sets.insert(row)?;
@@ -44,13 +46,13 @@ impl Family {
         ensures added { OnOk result (Adds self.old.sets.keys self.old.above.items self.new.sets.keys self.new.above.items row.items above.items) }
         ensures full { IfErr result (IsFull self.old.sets.keys row.items) }
     {
-        if self.sets.contains(row.as_slice()) {
+        let is_new = self.sets.insert(row)?;
+        if !is_new {
             return Ok(());
         }
-        if self.sets.len() >= MOST_COMPLETED {
+        if self.sets.len() > MOST_COMPLETED {
             return Err(CompleteFault::TooManyTypes);
         }
-        self.sets.insert(row)?;
         self.above.push(above)?;
         Ok(())
     }

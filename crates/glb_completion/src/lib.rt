@@ -5,6 +5,7 @@ mod completion;
 mod crossing;
 mod family;
 mod fault;
+mod row_hash;
 mod spread;
 
 pub use completion::complete;

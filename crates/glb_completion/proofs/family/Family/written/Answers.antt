@@ -5,7 +5,7 @@ use Rattle.glb_completion.proofs.GrowingLemmas.{begins, begins_new, begins_more,
 use Rattle.glb_completion.proofs.family.Family.written.Goals as goal
 
 pub loop-t-init : goal.loop-t-init
-loop-t-init c = begins c.args.h.now _ c.in_ok-above.above.items c.new-sets.ensures.empty c.in_ok-above.ensures.rows c.in_ok-above.ensures.size c.in_ok-above.ensures.members
+loop-t-init c = begins c.args.h.now _ c.in_ok-above.above.items c.with_hasher-sets.ensures.empty c.in_ok-above.ensures.rows c.in_ok-above.ensures.size c.in_ok-above.ensures.members
 
 pub loop-t-preserved : goal.loop-t-preserved
 loop-t-preserved c =
