@@ -10,7 +10,7 @@ use Rattle.type_hierarchy.specs.Inner.Tables.{row_items}
 use Rattle.type_hierarchy.proofs.SetLemmas.{differ, bool_cases, eq_true, eq_of, and_left, and_right, and_both, member_bits, member_intersection, rising_filter, rising_below, some_member}
 use Rattle.type_hierarchy.proofs.TypeLemmas.{set_row}
 use Rattle.type_hierarchy.proofs.FamilyLemmas.{member_common}
-use Rattle.glb_completion.specs.Inner.Growing.{IsUpRow, set_at, IsGrowing, IsMet, HasNear}
+use Rattle.glb_completion.specs.Inner.Growing.{IsUpRow, set_at, IsGrowing, IsMet, IsSpread, HasNear}
 use Rattle.glb_completion.specs.Inner.Crossings.{IsRowUnder, IsUnder, HasCrossings}
 use Rattle.glb_completion.proofs.GrowingLemmas.{inner_met, whole_met}
 
@@ -53,9 +53,9 @@ under_all h x p u (t ∷ ts) r a b y c = go (bool_cases (has_member (set_of h t)
     go (inr q) (inl e) ih = subst (λ z. has_member (set_of h z) y ≡ true) (eq_of t x e) (and_left (has_member (set_of h t) y) _ c)
     go (inr q) (inr e) ih = absurd (differ _ (u.only t (r 0 0 (omega arith)) (λ same. differ _ (ap (λ z. z == x) same ∙ eq_true x) e) (and_left (has_member (set_of h t) x) _ a)) q)
 
--- a type that isn't near is met: from a member in common one goes up to a crossing one, to the type itself, or past the set
-module _ (h : TypeTable) (laws : IsHierarchy h) (keys above : List (Vec ℕ Global)) (at t : ℕ) (cross shared near : List ℕ) (g : IsGrowing h keys above) (in_at : at < length keys) (in_t : t < h.written) (crossed : HasCrossings h cross)
-    (shares : (x : ℕ) → has_bit shared x ≡ (has_bit (row_items keys at) x && has_bit cross x)) (n : HasNear h shared near) (none : has_bit near t ≡ false) where
+-- a type that shares no crossing member is met: from a member in common one goes up to a crossing one, to the type itself, or past the set
+module _ (h : TypeTable) (laws : IsHierarchy h) (keys above : List (Vec ℕ Global)) (at t : ℕ) (cross : List ℕ) (g : IsGrowing h keys above) (in_at : at < length keys) (in_t : t < h.written) (crossed : HasCrossings h cross)
+    (far : (x : ℕ) → x < h.written → has_bit (row_items keys at) x ≡ true → has_bit cross x ≡ true → has_member (set_of h t) x ≡ true → ⊥) where
   i : IsIntersection h (set_at h keys at)
   i = g.intersections at in_at
 
@@ -77,13 +77,25 @@ module _ (h : TypeTable) (laws : IsHierarchy h) (keys above : List (Vec ℕ Glob
 
       go : (has_bit cross x ≡ true) ⊎ (has_bit cross x ≡ false) →
           ((q : ℕ) → q < fuel → q < h.written → has_bit (row_items keys at) q ≡ true → has_member (set_of h t) q ≡ true → IsMet h keys at t) → IsMet h keys at t
-      go (inl c) ih = absurd (differ _ (n x t x_in in_t (shares x ∙ and_both (has_bit (row_items keys at) x) (has_bit cross x) a c) m) none)
+      go (inl c) ih = absurd (far x x_in a c m)
       go (inr c) ih = let u = crossed x x_in c in up u.0 u.1 (bool_cases (t == x)) (bool_cases (has_bit (row_items keys at) u.0)) ih
 
-  pub near_met : IsMet h keys at t
-  near_met ne =
+  pub far_met : IsMet h keys at t
+  far_met ne =
       let s = some_member _ ne in
       let both = sym (member_intersection (set_at h keys at) (set_of h t) s.0) ∙ s.1 in
       let in_key = ap (λ q. has_member q s.0) (sym (set_row h.written keys at in_at)) ∙ and_right (has_member (set_of h t) s.0) _ both in
       let x_in = rising_below h.written _ s.0 (rising_filter (λ y. has_bit (row_items keys at) y) h.written) in_key in
       climb (s.0 + 1) s.0 (omega arith) x_in (sym (member_bits h.written (row_items keys at) s.0 x_in) ∙ in_key) (and_left (has_member (set_of h t) s.0) _ both) ne
+
+-- a type that isn't near is met
+pub near_met : (h : TypeTable) (laws : IsHierarchy h) (keys above : List (Vec ℕ Global)) (at t : ℕ) (cross shared near : List ℕ) → IsGrowing h keys above → at < length keys → t < h.written → HasCrossings h cross →
+    ((x : ℕ) → has_bit shared x ≡ (has_bit (row_items keys at) x && has_bit cross x)) → HasNear h shared near → has_bit near t ≡ false → IsMet h keys at t
+near_met h laws keys above at t cross shared near g in_at in_t crossed shares n none =
+    far_met h laws keys above at t cross g in_at in_t crossed (λ x x_in a c m. differ _ (n x t x_in in_t (shares x ∙ and_both (has_bit (row_items keys at) x) (has_bit cross x) a c) m) none)
+
+-- where no member is a crossing one, all types are met
+pub apart_spread : (h : TypeTable) (laws : IsHierarchy h) (keys above : List (Vec ℕ Global)) (at : ℕ) (set cross : List ℕ) → IsGrowing h keys above → at < length keys → HasCrossings h cross → set ≡ row_items keys at →
+    ((x : ℕ) → (has_bit set x && has_bit cross x) ≡ false) → IsSpread h keys at
+apart_spread h laws keys above at set cross g in_at crossed seen apart t in_t =
+    far_met h laws keys above at t cross g in_at in_t crossed (λ x x_in a c m. differ _ (and_both (has_bit set x) (has_bit cross x) (ap (λ q. has_bit q x) seen ∙ a) c) (apart x))

@@ -2,7 +2,8 @@
 use Rattle.std.proofs.Common.{ℕ, ◌≡◌, ◌≢◌, ◌≤◌, ◌<◌, ◌+◌, ◌-◌, ◌*◌, ◌/◌, ◌&&◌, ◌||◌, not, ◌⊎◌, inl, inr, Bool, true, false, List, [], length, Vec, Contains, sym, ◌∙◌, ap, subst, arith}
 use Rattle.std.specs.Global.{Global}
 use Rattle.std.proofs.lemmas.Bool.{cases_lt}
-use Rattle.type_hierarchy.specs.Bits.{has_bit, IsRow}
+use Rattle.std.proofs.lemmas.List.{length-map, get_or_default}
+use Rattle.type_hierarchy.specs.Bits.{has_bit, bits_below, IsRow}
 use Rattle.type_hierarchy.specs.Table.{TypeTable, set_of, has_member, intersection}
 use Rattle.type_hierarchy.specs.Laws.{IsHierarchy}
 use Rattle.type_hierarchy.specs.Inner.Tables.{sets_of, row_items}
@@ -12,7 +13,7 @@ use Rattle.glb_completion.specs.Completion.{most_completed, HasTooMany, IsComple
 use Rattle.glb_completion.specs.declared.fault.CompleteFault.{CompleteFault}
 use Rattle.glb_completion.specs.declared.fault.CompleteFault.TheVariants.{TooManyTypes, NoMemory}
 use Rattle.glb_completion.specs.Inner.Growing.{IsUpRow, set_at, IsGrowing, StartsWith, IsMet, HasNear, IsFull}
-use Rattle.glb_completion.proofs.GrowingLemmas.{split, HasGrown, apart_met, inner_met, outer_met, still_in, set_kept, starts_on, met_on}
+use Rattle.glb_completion.proofs.GrowingLemmas.{split, common_set, HasGrown, apart_met, inner_met, outer_met, still_in, set_kept, starts_on, met_on}
 
 -- one more type from which the near ones are reached
 pub record IsNearing (h : TypeTable) (set near : List ℕ) (x : ℕ) : Type 0 where
@@ -90,6 +91,19 @@ pub disjoint_met : (h : TypeTable) (laws : IsHierarchy h) (keys : List (Vec ℕ 
     ((x : ℕ) → x < h.written → has_bit other x ≡ has_member (set_of h t) x) → ((x : ℕ) → (has_bit set x && has_bit other x) ≡ false) → IsMet h keys at t
 disjoint_met h laws keys at t set other in_at is e apart =
     apart_met h laws keys at t in_at (λ x l a m. differ _ (and_both (has_bit set x) (has_bit other x) (ap (λ q. has_bit q x) is ∙ a) (e x l ∙ m)) (apart x))
+
+-- what is in common is in the list already
+pub known_met : (h : TypeTable) (laws : IsHierarchy h) (keys : List (Vec ℕ Global)) (at t k : ℕ) (row other : List ℕ) → at < length keys → t < h.written → k < length keys → row_items keys k ≡ row →
+    ((x : ℕ) → has_bit row x ≡ (has_bit (row_items keys at) x && has_bit other x)) → ((x : ℕ) → x < h.written → has_bit other x ≡ has_member (set_of h t) x) → IsMet h keys at t
+known_met h laws keys at t k row other in_at in_t l same e f ne = (
+  k,
+  size,
+  get_or_default (sets_of h.written keys) k _ [] size ∙ set_row h.written keys k l ∙ ap (bits_below h.written) same ∙ common_set h laws row (row_items keys at) other t in_t e f
+      ∙ ap (λ s. intersection s (set_of h t)) (sym (set_row h.written keys at in_at)),
+)
+  where
+    size : k < length (sets_of h.written keys)
+    size = omega (arith, l, length-map keys (λ x. bits_below h.written x.items))
 
 pub met_of_grown : (h : TypeTable) (keys above keys' above' : List (Vec ℕ Global)) (at t : ℕ) → at < length keys → HasGrown h keys above keys' above' (intersection (set_at h keys at) (set_of h t)) → IsMet h keys' at t
 met_of_grown h keys above keys' above' at t in_at g _ =

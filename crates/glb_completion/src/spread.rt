@@ -66,15 +66,16 @@ fn meet_with(
         return Ok(());
     }
     let common = bits::common(alloc, set, h.row(t))?;
+    if family.sets.contains(common.as_slice()) {
+        return Ok(());
+    }
     let more = bits::united(alloc, &family.above[at], &family.above[t as usize])?;
     family.add(common, more)
 }
 
-/// Adds what the set at a place has in common with each written type.
-///
-/// Only types that are neither in the set nor known to be above all of it can give a set that isn't there, and these
-/// share a member with it that doesn't stand immediately below one type alone.
-pub fn spread(
+// Adds what the set at a place has in common with each written type. Only types that share a member with it which
+// doesn't stand immediately below one type alone are looked at.
+fn spread_near(
     alloc: Global,
     h: &Hierarchy,
     family: &mut Family,
@@ -101,6 +102,33 @@ pub fn spread(
         t = bits::next(&near, t + 1, count);
     }
     Ok(())
+}
+
+/// Adds what the set at a place has in common with each written type.
+///
+/// Only types that are neither in the set nor known to be above all of it can give a set that isn't there, and these
+/// share a member with it that doesn't stand immediately below one type alone. Most sets have no such member.
+pub fn spread(
+    alloc: Global,
+    h: &Hierarchy,
+    family: &mut Family,
+    crossing: &[u64],
+    at: usize,
+) -> Result<(), CompleteFault>
+    requires laws { IsHierarchy h.now }
+    requires growing { IsGrowing h.now family.old.sets.keys family.old.above.items }
+    requires crossing_row { IsRow h.now.written crossing.now }
+    requires crossings { HasCrossings h.now crossing.now }
+    requires at_in { at < length family.old.sets.keys }
+    ensures growing { OnOk result (IsGrowing h.now family.new.sets.keys family.new.above.items) }
+    ensures more { OnOk result (StartsWith family.new.sets.keys family.old.sets.keys) }
+    ensures spread { OnOk result (IsSpread h.now family.new.sets.keys at) }
+    ensures fault { IfErr result (IsCompleteFault h.now) }
+{
+    if bits::are_disjoint(&family.sets.as_slice()[at], crossing) {
+        return Ok(());
+    }
+    spread_near(alloc, h, family, crossing, at)
 }
 
 // Whether a type is neither in the set at a place nor known to be above all of it.

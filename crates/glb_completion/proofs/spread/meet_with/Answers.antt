@@ -1,18 +1,29 @@
 use Rattle.std.proofs.Common.{◌≡◌, ◌∙◌, ◌<◌, ◌&&◌, ◌||◌, ℕ, length, ap, subst, sym, refl, arith}
+use Rattle.std.specs.List.{list_any}
+use Rattle.std.specs.Str.{bytes_eq}
 use Rattle.std.proofs.lemmas.Result.{on_ok_weaker, MatchResult-weaker}
 use Rattle.type_hierarchy.specs.Bits.{has_bit, IsRow}
 use Rattle.type_hierarchy.specs.Table.{intersection, set_of}
 use Rattle.type_hierarchy.specs.Inner.Tables.{row_items}
 use Rattle.type_hierarchy.proofs.TypeLemmas.{row_at_is}
 use Rattle.glb_completion.specs.Inner.Growing.{set_at, Adds}
-use Rattle.glb_completion.proofs.GrowingLemmas.{grown, too_many, row_seen, HasGrown}
-use Rattle.glb_completion.proofs.SpreadLemmas.{have_common, disjoint_met, met_of_grown, full_fault}
+use Rattle.glb_completion.proofs.GrowingLemmas.{is_among, grown, too_many, row_seen, HasGrown}
+use Rattle.glb_completion.proofs.SpreadLemmas.{known_met, have_common, disjoint_met, met_of_grown, full_fault}
 use Rattle.glb_completion.proofs.spread.meet_with.Goals as goal
 
 pub returns-then-are_disjoint-clause-met : goal.returns-then-are_disjoint-clause-met
 returns-then-are_disjoint-clause-met c =
     let seen = row_seen c.args.family.now.sets.keys c.as_slice.result.now c.args.at c.index-as_slice-at.result c.as_slice-set.result.now c.as_slice.ensures.keys c.requires.at_in c.index-as_slice-at.is c.as_slice-set.ensures.value in
     disjoint_met c.args.h.now c.requires.laws c.args.family.now.sets.keys c.args.at c.args.t c.as_slice-set.result.now c.row.result.now c.requires.at_in seen c.row.ensures.members (c.are_disjoint.ensures.0 c.if-are_disjoint.true)
+
+pub returns-then-contains-clause-met : goal.returns-then-contains-clause-met
+returns-then-contains-clause-met c =
+    let h = c.args.h.now in
+    let keys = c.args.family.now.sets.keys in
+    let seen = row_seen keys c.as_slice.result.now c.args.at c.index-as_slice-at.result c.as_slice-set.result.now c.as_slice.ensures.keys c.requires.at_in c.index-as_slice-at.is c.as_slice-set.ensures.value in
+    let found = is_among keys c.in_ok-common.common.items (ap (λ q. list_any (λ k. bytes_eq q k.items) keys) (sym c.as_slice-2.ensures.value) ∙ sym c.contains.ensures ∙ c.if-contains.true) in
+    known_met h c.requires.laws keys c.args.at c.args.t found.0 c.in_ok-common.common.items c.row-2.result.now c.requires.at_in c.requires.t_in found.1 found.2
+    (λ x. c.in_ok-common.ensures.has x ∙ ap (λ q. has_bit q x && has_bit c.row-2.result.now x) seen) c.row-2.ensures.members
 
 pub returns : goal.returns
 returns c =

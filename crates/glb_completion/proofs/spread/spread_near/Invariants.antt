@@ -1,6 +1,6 @@
 use Rattle.std.proofs.Common.{◌≤◌, ◌-◌}
 use Rattle.glb_completion.proofs.SpreadLemmas.{IsSpreading}
-use Rattle.glb_completion.proofs.spread.spread.Given as goal
+use Rattle.glb_completion.proofs.spread.spread_near.Given as goal
 
 abbrev pub invariant-loop-t : goal.invariant-loop-t
 invariant-loop-t l =
