@@ -99,3 +99,10 @@ pub apart_spread : (h : TypeTable) (laws : IsHierarchy h) (keys above : List (Ve
     ((x : ℕ) → (has_bit set x && has_bit cross x) ≡ false) → IsSpread h keys at
 apart_spread h laws keys above at set cross g in_at crossed seen apart t in_t =
     far_met h laws keys above at t cross g in_at in_t crossed (λ x x_in a c m. differ _ (and_both (has_bit set x) (has_bit cross x) (ap (λ q. has_bit q x) seen ∙ a) c) (apart x))
+
+-- where no crossing member is below a written type, all types are met
+pub over_spread : (h : TypeTable) (laws : IsHierarchy h) (keys above : List (Vec ℕ Global)) (at : ℕ) (cross over : List ℕ) → IsGrowing h keys above → at < length keys → at < h.written → HasCrossings h cross → HasNear h cross over →
+    has_bit over at ≡ false → IsSpread h keys at
+over_spread h laws keys above at cross over g in_at at_written crossed n none t in_t =
+    far_met h laws keys above at t cross g in_at in_t crossed (λ x x_in a c m. differ _ (n x at x_in at_written c (ap (λ s. has_member s x) (sym (g.written at at_written))
+    ∙ ap (λ s. has_member s x) (set_row h.written keys at in_at) ∙ member_bits h.written (row_items keys at) x x_in ∙ a)) none)

@@ -15,7 +15,7 @@ ghost use Rattle.glb_completion.specs.Inner.Growing.{IsGrowing};
 use crate::crossing::crossings;
 use crate::family::Family;
 use crate::fault::CompleteFault;
-use crate::spread::spread;
+use crate::spread::{near, spread};
 use std::alloc::{AllocError, Global};
 use type_hierarchy::{Hierarchy, Types, bits};
 
@@ -27,9 +27,10 @@ fn closed(alloc: Global, h: &Hierarchy) -> Result<Family, CompleteFault>
 {
     let mut family = Family::written(alloc, h)?;
     let crossing = crossings(alloc, h, &family.above)?;
+    let over = near(alloc, h, &family.above, &crossing)?;
     let mut at = 0;
     while at < family.sets.len() {
-        spread(alloc, h, &mut family, &crossing, at)?;
+        spread(alloc, h, &mut family, &crossing, &over, at)?;
         at += 1;
     }
     Ok(family)

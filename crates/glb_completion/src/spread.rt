@@ -1,6 +1,6 @@
 //! What the set at one place has in common with written types.
 
-ghost use Rattle.std.specs.Prelude.{◌≡◌, ℕ, ◌<◌, ◌≤◌, ◌*◌, ◌&&◌, ◌||◌, not, length, IfOk, IfErr, OnOk, All};
+ghost use Rattle.std.specs.Prelude.{◌≡◌, ℕ, ◌<◌, ◌≤◌, ◌*◌, ◌&&◌, ◌||◌, not, length, IfOk, IfErr, OnOk, IsTrue, All};
 ghost use Rattle.type_hierarchy.specs.Bits.{has_bit, IsRow};
 ghost use Rattle.type_hierarchy.specs.Inner.Tables.{row_items};
 ghost use Rattle.type_hierarchy.specs.Laws.{IsHierarchy};
@@ -13,9 +13,9 @@ use crate::fault::CompleteFault;
 use std::alloc::{AllocError, Global};
 use type_hierarchy::{Hierarchy, bits};
 
-// The types that have a member in common with a set: those above its members. The lowest members are taken first,
-// since what is above them is above the others, too. Words whose members are all there are passed over.
-fn near(
+/// The types that have a member in common with a set: those above its members. The lowest members are taken first,
+/// since what is above them is above the others, too. Words whose members are all there are passed over.
+pub fn near(
     alloc: Global,
     h: &Hierarchy,
     above: &[Vec<u64>],
@@ -104,28 +104,48 @@ fn spread_near(
     Ok(())
 }
 
+// Whether the set at a place is seen to have no crossing member. Of a written type the row of what is over these says
+// so.
+fn is_apart(h: &Hierarchy, family: &Family, crossing: &[u64], over: &[u64], at: usize) -> bool
+    requires growing { IsGrowing h.now family.now.sets.keys family.now.above.items }
+    requires crossing_row { IsRow h.now.written crossing.now }
+    requires crossings { HasCrossings h.now crossing.now }
+    requires over_row { IsRow h.now.written over.now }
+    requires over { HasNear h.now crossing.now over.now }
+    requires at_in { at < length family.now.sets.keys }
+    ensures { IsTrue result → IsSpread h.now family.now.sets.keys at }
+{
+    if at < h.count() as usize {
+        return !bits::has(over, at as u32);
+    }
+    bits::are_disjoint(&family.sets.as_slice()[at], crossing)
+}
+
 /// Adds what the set at a place has in common with each written type.
 ///
 /// Only types that are neither in the set nor known to be above all of it can give a set that isn't there, and these
-/// share a member with it that doesn't stand immediately below one type alone. Most sets have no such member.
+/// share a crossing member with it, one that doesn't stand immediately below one type alone. Most sets have none.
+/// `over` has the types at or above one.
 pub fn spread(
     alloc: Global,
     h: &Hierarchy,
     family: &mut Family,
     crossing: &[u64],
+    over: &[u64],
     at: usize,
 ) -> Result<(), CompleteFault>
-    requires laws { IsHierarchy h.now }
     requires growing { IsGrowing h.now family.old.sets.keys family.old.above.items }
     requires crossing_row { IsRow h.now.written crossing.now }
     requires crossings { HasCrossings h.now crossing.now }
+    requires over_row { IsRow h.now.written over.now }
+    requires over { HasNear h.now crossing.now over.now }
     requires at_in { at < length family.old.sets.keys }
     ensures growing { OnOk result (IsGrowing h.now family.new.sets.keys family.new.above.items) }
     ensures more { OnOk result (StartsWith family.new.sets.keys family.old.sets.keys) }
     ensures spread { OnOk result (IsSpread h.now family.new.sets.keys at) }
     ensures fault { IfErr result (IsCompleteFault h.now) }
 {
-    if bits::are_disjoint(&family.sets.as_slice()[at], crossing) {
+    if is_apart(h, family, crossing, over, at) {
         return Ok(());
     }
     spread_near(alloc, h, family, crossing, at)
