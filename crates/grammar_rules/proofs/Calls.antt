@@ -10,7 +10,7 @@ use Rattle.cover.specs.declared.span.Span.{Span}
 use Rattle.chart_model.specs.At.{At, here, there, at_found, to_get}
 use Rattle.chart_core.specs.declared.Leaf.{Leaf}
 use Rattle.chart_core.specs.declared.Limits.{Limits}
-use Rattle.chart_core.specs.Leaves.{leaf_seen}
+use Rattle.chart_core.specs.Leaves.{leaf_seen, LeafBelongs}
 use Rattle.chart_core.proofs.Grows.{all_snoc}
 use Rattle.derivation.specs.Trees.{Derivation, lexical}
 use Rattle.rule_model.specs.Structures.{Structure}
@@ -29,7 +29,8 @@ use Rattle.packed_items.specs.declared.Found.{Found}
 use Rattle.morph_analysis.proofs.Lists.{map_take_next, all_taken}
 use Rattle.book_signs.specs.Trees.{SignTree, signs_of}
 use Rattle.grammar_shapes.specs.declared.shapes.GrammarShapes.{GrammarShapes}
-use Rattle.grammar_shapes.specs.Systems.{grammar_of, rules_of}
+use Rattle.grammar_shapes.specs.Shaped.{Shape}
+use Rattle.grammar_shapes.specs.Systems.{grammar_of, rules_of, meaning_of, Belongs}
 use Rattle.grammar_shapes.specs.Ruled.{paths_in}
 use Rattle.grammar_shapes.specs.Spanned.{span_calculus}
 use Rattle.rule_trees.specs.Wholes.{wholes_of, IsLexicalAt, IsRuled}
@@ -115,3 +116,11 @@ module _ {X T W B A : Type 0} (t : SignTree) (s : GrammarShapes) (are : AreShape
       (line_answer (signs_of t) meaning words lattice limits o (map f trees) leaves known lined found
       (subst (λ k. IsFound (span_calculus (rule_system (signs_of t))) (rules_full (rule_system (signs_of t))) (Agrees (rule_system (signs_of t))) (wholes_of (signs_of t) (map f trees) k) limits (map (leaf_seen meaning) leaves) found) end_is
       (subst (λ (k : RuleSystem). IsFound (span_calculus k) (rules_full k) (Agrees k) (wholes_of (signs_of t) (map f trees) end) limits (map (leaf_seen meaning) leaves) found) are.rules h)))
+
+-- The leaves over shapes are leaves over shapes that are these in contracts, of which more is remembered.
+module _ (s r : GrammarShapes) (e : r ≡ s) where
+  pub same_lined : {X W B : Type 0} (g : Signs) (xs : List Lexeme) (leaves : List (Leaf X Shape Span W B)) → AreLined g (meaning_of s) xs leaves → AreLined g (meaning_of r) xs leaves
+  same_lined g xs leaves h = subst (λ k. AreLined g (meaning_of k) xs leaves) (sym e) h
+
+  pub same_belong : {X W B : Type 0} (leaves : List (Leaf X Shape Span W B)) → All (LeafBelongs (span_calculus (rules_of s)) (Belongs s)) leaves → All (LeafBelongs (span_calculus (rules_of r)) (Belongs r)) leaves
+  same_belong leaves h = subst (λ k. All (LeafBelongs (span_calculus (rules_of k)) (Belongs k)) leaves) (sym e) h

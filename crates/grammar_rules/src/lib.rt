@@ -6,10 +6,12 @@
 ghost use Rattle.grammar_rules.specs.Laws.{LexemesAreLeaves, FullsFit, FoundIsAnswer, LinesAreAnswered};
 
 mod parsing;
+mod remembered;
 
 use derivation::Tree;
 use packed_items::Found;
 pub use parsing::{LineWork, parse_words};
+pub use remembered::{LineShapes, run_shapes};
 use std::alloc::{AllocError, AllocFailed};
 
 /// The answer to a line.

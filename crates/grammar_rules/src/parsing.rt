@@ -21,6 +21,7 @@ ghost use Rattle.grammar_rules.specs.Lined.{AreLined};
 ghost use Rattle.grammar_rules.specs.Lines.{AreShapesOf, AreFeedsOf, HaveAll, IsLineAnswer};
 ghost use Rattle.grammar_rules.specs.Views.{item_answer};
 
+use crate::remembered::LineShapes;
 use crate::{ItemAnswer, NoMemory};
 use chart_core::{Leaf, Limits};
 use chart_workers::{Crew, Rank};
@@ -30,7 +31,7 @@ use grammar_shapes::{GrammarShapes, Place};
 use lexical_items::{LexTree, LexTrees, LexicalFulls, lexical_trees};
 use lexicon::Lexicon;
 use morph_analysis::{Feeds, Lattice};
-use packed_items::answer_sieved;
+use packed_items::answer_remembered;
 use rule_trees::{FullStructure, LineFulls, SignBook, SignFulls};
 use sieve::{Filter, Sieve};
 use spelling_rules::Spelling;
@@ -140,7 +141,7 @@ fn answer_trees<'a, R: Wait + Threads + Sync, F: Filter + Send + Sync, P: Rank +
     work: &mut LineWork,
     crew: &mut Crew<Scratch>,
     signs: &'a SignBook<'a>,
-    shapes: &GrammarShapes<'_>,
+    shapes: &LineShapes<'_, '_>,
     _lexicon: &Lexicon,
     _spelling: &Spelling,
     _lattice: &Lattice,
@@ -160,13 +161,14 @@ fn answer_trees<'a, R: Wait + Threads + Sync, F: Filter + Send + Sync, P: Rank +
 {
     let lexical = SignFulls { signs };
     lexical.laws();
-    let leaves = leaves_of(alloc, &mut work.chart, signs, shapes, trees)?;
+    let plain = shapes.shapes();
+    let leaves = leaves_of(alloc, &mut work.chart, signs, plain, trees)?;
     let fulls = LineFulls {
         signs,
         leaves: trees,
         end,
     };
-    let found = answer_sieved(
+    let found = answer_remembered(
         rt,
         alloc,
         shapes,
@@ -196,18 +198,19 @@ fn answer_trees<'a, R: Wait + Threads + Sync, F: Filter + Send + Sync, P: Rank +
 /// they, each once, in the order of trees, with the number of packed classes.
 ///
 /// `shapes` and `feeds`, which says what lexical rule may apply to what, are made of the signs, once for a grammar; lexicon
-/// and spelling have its entries and lexical rules by number.
+/// and spelling have its entries and lexical rules by number. What a phrase rule made of shapes for one line needn't be made again for
+/// the next: `shapes` remember it, and a line for which they have no room any more remembers by itself.
 ///
 /// `sieves` are asked before anything is unified; with none, types are compared at the paths of `shapes`. The workers of `crew` make
-/// the edges, in the order of `priority`. No sieve, no priority, the number of workers nor the gate changes an answer: none of them
-/// occurs in what is answered. `NoMemory` may come in place of any answer.
+/// the edges, in the order of `priority`. Nothing that is remembered, no sieve, no priority, the number of workers nor the gate changes
+/// an answer: none of them occurs in what is answered. `NoMemory` may come in place of any answer.
 pub fn parse_words<'a, R: Wait + Threads + Sync, F: Filter + Send + Sync, P: Rank + Sync>(
     rt: &R,
     alloc: Global,
     work: &mut LineWork,
     crew: &mut Crew<Scratch>,
     signs: &'a SignBook<'a>,
-    shapes: &GrammarShapes<'_>,
+    shapes: &LineShapes<'_, '_>,
     feeds: &Feeds,
     lexicon: &Lexicon,
     spelling: &Spelling,

@@ -18,8 +18,7 @@ use chart_workers::BySize;
 use endings::lines::{Answers, Share};
 use endings::pieces::Report;
 use fs_unify::Scratch;
-use grammar_rules::{ItemAnswer, parse_words};
-use grammar_shapes::GrammarShapes;
+use grammar_rules::{ItemAnswer, LineShapes, parse_words};
 use lexicon::Lexicon;
 use morph_analysis::{Feeds, Lattice, LatticeFault};
 use mrs_lines::TreeLines;
@@ -34,9 +33,10 @@ use worker_gate::Gate;
 /// What answers lines by the trees that a grammar licenses for them. Each thing that is lent has a lifetime of its own, since it is lent
 /// to threads.
 #[derive(Drop)]
-pub(crate) struct Parser<'g, 's, 'b, 'h, 'r, 'f, 'p> {
+pub(crate) struct Parser<'g, 's, 'b, 'h, 'm, 'r, 'f, 'p> {
     pub(crate) signs: &'s SignBook<'b>,
-    pub(crate) shapes: &'h GrammarShapes<'r>,
+    // what phrase rules made of equal shapes is remembered from one line to the next
+    pub(crate) shapes: &'h LineShapes<'m, 'r>,
     pub(crate) feeds: &'f Feeds,
     pub(crate) lexicon: &'g Lexicon,
     pub(crate) spelling: &'g Spelling,
@@ -57,7 +57,7 @@ pub(crate) struct Parser<'g, 's, 'b, 'h, 'r, 'f, 'p> {
     ghost paths_are: { ArePathsOf signs.now (paths_of paths.now) } by { Prim.hlevel list_props },
 }
 
-impl Parser<'_, '_, '_, '_, '_, '_, '_> {
+impl Parser<'_, '_, '_, '_, '_, '_, '_, '_> {
     ghost use Rattle.std.specs.Prelude.{◌≡◌, ◌<◌, ◌^◌, length, map, IfOk};
     ghost use Rattle.std.specs.Thread.{IsSync};
     ghost use Rattle.std.specs.Str.{chars, IsUtf8};
@@ -179,7 +179,7 @@ impl Parser<'_, '_, '_, '_, '_, '_, '_> {
     }
 }
 
-impl Answers for Parser<'_, '_, '_, '_, '_, '_, '_> {
+impl Answers for Parser<'_, '_, '_, '_, '_, '_, '_, '_> {
     ghost use Rattle.line_commands.specs.Answers.{IsAnswer};
     ghost use Rattle.line_commands.specs.Inner.Parsers.{speech_of, asked_of};
 

@@ -27,7 +27,7 @@ use endings::lines::serve;
 use endings::{Fault, Stop};
 use grammar_load::Grammar;
 use grammar_names::loaded_paths;
-use grammar_shapes::GrammarShapes;
+use grammar_rules::{LineShapes, run_shapes};
 use lkb_io::{Shelf, Sink, Source};
 use morph_analysis::Feeds;
 use mrs_paths::mrs_paths;
@@ -52,14 +52,15 @@ pub struct Parse<'a> {
     pub mrs: bool,
 }
 
-// Answers all lines of the source with the signs of a grammar, its phrase rules and what its lexical rules may apply to.
+// Answers all lines of the source with the signs of a grammar, its phrase rules, which remember what they made, and what its lexical
+// rules may apply to.
 fn parse_with_shapes<I: Source, O: Sink, Rt: Threads + Wait + Sync>(
     rt: &Rt,
     alloc: Global,
     command: &Parse<'_>,
     grammar: &Grammar,
     signs: &SignBook<'_>,
-    shapes: &GrammarShapes<'_>,
+    shapes: &LineShapes<'_, '_>,
     feeds: &Feeds,
     paths: &MrsPaths,
     input: &mut I,
@@ -119,6 +120,9 @@ fn parse_with_signs<I: Source, O: Sink, Rt: Threads + Wait + Sync>(
     let Ok(shapes) = shapes_of(alloc, signs) else {
         return Err(Fault::Stopped(Stop::NoMemory));
     };
+    let Ok(remembered) = run_shapes(alloc, &shapes) else {
+        return Err(Fault::Stopped(Stop::NoMemory));
+    };
     let Ok(feeds) = rule_feeds(alloc, signs) else {
         return Err(Fault::Stopped(Stop::NoMemory));
     };
@@ -127,7 +131,17 @@ fn parse_with_signs<I: Source, O: Sink, Rt: Threads + Wait + Sync>(
         return Err(Fault::Stopped(Stop::NoMemory));
     };
     parse_with_shapes(
-        rt, alloc, command, grammar, signs, &shapes, &feeds, &paths, input, out, gate,
+        rt,
+        alloc,
+        command,
+        grammar,
+        signs,
+        &remembered,
+        &feeds,
+        &paths,
+        input,
+        out,
+        gate,
     )
 }
 

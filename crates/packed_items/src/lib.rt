@@ -19,7 +19,7 @@ use chart_workers::{Crew, Rank, saturate};
 use cover::Shapes;
 use derivation::Tree;
 use forest_unpack::{Fulls, UnpackFault, unpack};
-pub use sieving::answer_sieved;
+pub use sieving::{answer_remembered, answer_sieved};
 use std::alloc::Global;
 use std::sync::Wait;
 use std::thread::Threads;

@@ -80,7 +80,7 @@ where
 }
 
 // What is found over leaves of shapes that remember, by those that ask sieves before.
-fn answer_remembered<
+fn answer_over<
     R: Wait + Threads + Sync,
     S: Sketched + Send + Sync,
     G: Fulls<Cover = S::Cover>,
@@ -117,8 +117,8 @@ where
 }
 
 /// What `answer_leaves` finds, over shapes that remember what rules made of equal daughters and ask sieves before anything is
-/// unified; with no sieve their own quick test is asked. The workers of `crew` take tasks in the order of `priority`. No sieve and
-/// no priority occurs in what is found.
+/// unified; with no sieve their own quick test is asked. What is remembered is this item's alone. The workers of `crew` take tasks in
+/// the order of `priority`. No sieve and no priority occurs in what is found.
 pub fn answer_sieved<
     R: Wait + Threads + Sync,
     S: Sketched + Send + Sync,
@@ -151,7 +151,7 @@ where
     let Ok(remembered) = RememberedShapes::new(alloc, shapes) else {
         return Err(NoMemory);
     };
-    answer_remembered(
+    answer_over(
         rt,
         alloc,
         &remembered,
@@ -164,5 +164,48 @@ where
         fulls,
         limits,
         gate,
+    )
+}
+
+/// What `answer_sieved` finds, where items share what is remembered: `shapes` may remember from earlier items, and later ones find
+/// what this one adds. An item for which they have no room any more remembers by itself. Nothing that is remembered, no sieve and no
+/// priority occurs in what is found.
+pub fn answer_remembered<
+    R: Wait + Threads + Sync,
+    S: Sketched + Send + Sync,
+    G: Fulls<Cover = S::Cover>,
+    F: Filter + Send + Sync,
+    P: Rank + Sync,
+>(
+    rt: &R,
+    alloc: Global,
+    shapes: &RememberedShapes<'_, S>,
+    sieves: &[Sieve<F>],
+    work: &mut S::Work,
+    trees: &mut G::Work,
+    crew: &mut Crew<S::Work>,
+    priority: &P,
+    leaves: Vec<Leaf<S>>,
+    fulls: &G,
+    limits: &Limits,
+    gate: &dyn Gate,
+) -> Result<Found, NoMemory>
+where
+    S::Shape: Send + Sync,
+    S::Cover: Send + Sync,
+    S::Work: Send + Sync,
+    requires limits { InRange limits.now }
+    requires leaves { All (LeafBelongs (S.calculus shapes.now) (S.belongs shapes.now)) leaves.items }
+    requires fit { Fit (S.calculus shapes.now) (S.full shapes.now) (S.agrees shapes.now) (G.wholes fulls.now) (G.named fulls.now) (G.ruled fulls.now) (map (leaf_seen (S.meaning shapes.now)) leaves.items) }
+    ensures { IfOk result (IsFound (S.calculus shapes.now) (S.full shapes.now) (S.agrees shapes.now) (G.wholes fulls.now) limits.now (map (leaf_seen (S.meaning shapes.now)) leaves.items)) }
+{
+    if shapes.is_full() {
+        let plain = shapes.shapes();
+        return answer_sieved(
+            rt, alloc, plain, sieves, work, trees, crew, priority, leaves, fulls, limits, gate,
+        );
+    }
+    answer_over(
+        rt, alloc, shapes, sieves, work, trees, crew, priority, leaves, fulls, limits, gate,
     )
 }

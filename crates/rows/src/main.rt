@@ -11,8 +11,6 @@ use std::sync::Wait;
 use std::thread::Threads;
 
 mod held;
-mod kept;
-mod lent;
 mod row;
 
 // The word at the front of a line, and what stands after the blank that follows it.

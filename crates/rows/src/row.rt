@@ -1,7 +1,6 @@
 //! A row: words, the files of a shelf, the bytes of the input, and the calls that are to fail.
 use crate::front;
 use crate::held::HoldingGate;
-use crate::kept::{Asked, shown};
 use endings::Status;
 use lkb_io::{MemShelf, MemSink, MemSource, ShelfFile, Source};
 use std::alloc::{AllocError, AllocGlobal, Global};
@@ -280,9 +279,6 @@ impl Row {
             "each" => self.show_each(rt, counted(rest).0, out)?,
             "held" => self.show_held(rt, counted(rest).0, out)?,
             "times" => self.show_times(rt, counted(rest).0, out)?,
-            "filters" => self.show_kept(rt, Asked::Answers, out)?,
-            "asked" => self.show_kept(rt, Asked::Sieves, out)?,
-            "ranks" => self.show_kept(rt, Asked::Ranks, out)?,
             _ => {}
         }
         Ok(())
@@ -408,25 +404,6 @@ impl Row {
         let head = format!(in rt.alloc(); "{} {code} {came} {each}\n", self.name)?;
         out.extend_from_slice(head.as_bytes())?;
         out.extend_from_slice(ran.out.bytes())?;
-        Ok(())
-    }
-
-    // Has the input, a line, parsed with the grammar that the words name, with kept filters and priorities, and writes what is asked.
-    fn show_kept<R: AllocGlobal + Threads + Wait + Sync>(
-        &self,
-        rt: &R,
-        of: Asked,
-        out: &mut Vec<u8>,
-    ) -> io::Result<()> {
-        let alloc = rt.alloc();
-        let mut shelf = MemShelf::new(copies(alloc, &self.files)?, Vec::new(alloc));
-        let (Some(name), Ok(line)) = (self.words.first(), str::from_utf8(&self.input)) else {
-            return Ok(());
-        };
-        let text = shown(rt, alloc, &mut shelf, name.as_str(), line, of).map_err(|_| AllocError)?;
-        let head = format!(in alloc; "{} ", self.name)?;
-        out.extend_from_slice(head.as_bytes())?;
-        out.extend_from_slice(&text)?;
         Ok(())
     }
 

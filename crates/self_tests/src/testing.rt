@@ -31,7 +31,7 @@ use command_grammars::load_grammar;
 use endings::pieces::Report;
 use endings::{Fault, Stop};
 use grammar_load::Grammar;
-use grammar_shapes::GrammarShapes;
+use grammar_rules::{LineShapes, run_shapes};
 use item_counts::{Count, some_refused, summary};
 use line_commands::{rule_feeds, shapes_of};
 use lkb_io::{ShelfFile, WholeShelf};
@@ -71,14 +71,15 @@ fn load_workload(alloc: Global, files: Vec<WorkFile>) -> Result<Grammar, Fault>
     load_grammar(alloc, &mut shelf, "g.tdl", None)
 }
 
-// What is counted of the answers to lines, by the signs of a grammar, its phrase rules and what its lexical rules may apply to.
+// What is counted of the answers to lines, by the signs of a grammar, its phrase rules, which remember what they made, and what its
+// lexical rules may apply to.
 fn count_with_shapes<Rt: Threads + Wait + Sync>(
     rt: &Rt,
     alloc: Global,
     test: &SelfTest,
     grammar: &Grammar,
     signs: &SignBook<'_>,
-    shapes: &GrammarShapes<'_>,
+    shapes: &LineShapes<'_, '_>,
     feeds: &Feeds,
     lines: &[Vec<u8>],
     gate: &dyn Gate,
@@ -122,11 +123,22 @@ fn count_with_signs<Rt: Threads + Wait + Sync>(
     let Ok(shapes) = shapes_of(alloc, signs) else {
         return Err(NoMemory);
     };
+    let Ok(remembered) = run_shapes(alloc, &shapes) else {
+        return Err(NoMemory);
+    };
     let Ok(feeds) = rule_feeds(alloc, signs) else {
         return Err(NoMemory);
     };
     count_with_shapes(
-        rt, alloc, test, grammar, signs, &shapes, &feeds, lines, gate,
+        rt,
+        alloc,
+        test,
+        grammar,
+        signs,
+        &remembered,
+        &feeds,
+        lines,
+        gate,
     )
 }
 
