@@ -9,19 +9,40 @@ ghost use Rattle.glb_completion.specs.Inner.Crossings.{IsRowUnder, HasCrossings}
 use std::alloc::{AllocError, Global};
 use type_hierarchy::{Hierarchy, bits};
 
-// The last member before `x`, and `x` where there is none.
+// The last member from `from` on that is below `end`, and `end` where there is none.
+fn last_from(row: &[u64], from: u32, end: u32) -> u32
+    requires rising { from ≤ end }
+    requires within { end ≤ 64 * length row.now }
+    ensures within { result ≤ end }
+    ensures member { result < end → has_bit row.now result ≡ true }
+{
+    let mut last = end;
+    let mut at = bits::next(row, from, end);
+    while at < end {
+        last = at;
+        at = bits::next(row, at + 1, end);
+    }
+    last
+}
+
+// The last member before `x`, and `x` where there is none. Words are looked at from that of `x` down.
 fn last_before(row: &[u64], x: u32) -> u32
     requires { x ≤ 64 * length row.now }
     ensures within { result ≤ x }
     ensures member { result < x → has_bit row.now result ≡ true }
 {
-    let mut last = x;
-    let mut at = bits::next(row, 0, x);
-    while at < x {
-        last = at;
-        at = bits::next(row, at + 1, x);
+    let mut end = x;
+    while end > 0 {
+        let word = (end - 1) / 64;
+        if row[word as usize] != 0 {
+            let last = last_from(row, 64 * word, end);
+            if last < end {
+                return last;
+            }
+        }
+        end = 64 * word;
     }
-    last
+    x
 }
 
 // Whether what is above a type is one earlier type and what is above that. Only the last earlier one is tried: where
