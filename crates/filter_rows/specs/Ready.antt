@@ -24,6 +24,6 @@ pub record IsReady (r : Ready) : Type 0 where
   pub contributors : AreContributors r.signs.now r.lexicon.now r.spelling.now (paths_of r.paths.now) (map feature_of r.c_cont.now) r.limits.lexical r.contributors.now
 
 -- a valid lattice or a valid MRS
-pub IsFit : Asked → Type 0
+unfoldable pub IsFit : Asked → Type 0
 IsFit (Line lattice) = IsValid (lattice_of lattice.now)
 IsFit (Mrs mrs) = IsValidMrs (meaning_of mrs.now)

@@ -6,7 +6,9 @@ ghost use Rattle.book_signs.specs.Conditions.{IsWhole};
 ghost use Rattle.grammar_load.specs.Conditions.{IsLoaded};
 ghost use Rattle.grammar_load.specs.Views.{grammar_of};
 ghost use Rattle.grammar_names.specs.Fitting.{mrs_paths_of, HasMrsPaths};
-ghost use Rattle.mrs_places.specs.Paths.{paths_of};
+ghost use Rattle.mrs_places.specs.Paths.{feature_of, paths_of};
+ghost use Rattle.grammar_rules.specs.Lines.{AreShapesOf, AreFeedsOf};
+ghost use Rattle.mrs_generate.specs.Contributors.{AreContributors};
 
 use crate::NoMemory;
 use book_signs::SignBook;
@@ -57,6 +59,46 @@ fn defaults() -> Limits
     }
 }
 
+// What comes of steps, with all that is made of a grammar.
+fn show_made<R: Threads + Wait + Sync>(
+    rt: &R,
+    alloc: Global,
+    grammar: &Grammar,
+    signs: &SignBook<'_>,
+    shapes: &GrammarShapes<'_>,
+    feeds: &Feeds,
+    contributors: &Contributors,
+    paths: &MrsPaths,
+    c_cont: &[MrsFeat],
+    limits: Limits,
+    steps: &str,
+    out: &mut Vec<u8>,
+) -> Result<(), NoMemory>
+    requires limits { InRange limits }
+    requires loaded { IsLoaded (grammar_of grammar.now) }
+    requires fits { HasMrsPaths (grammar_of grammar.now) }
+    requires book { signs.now.book ≡ grammar.now.book }
+    requires shapes { AreShapesOf signs.now shapes.now }
+    requires feeds { AreFeedsOf signs.now feeds.now }
+    requires contributors { AreContributors signs.now grammar.now.lexicon grammar.now.spelling (paths_of paths.now) (map feature_of c_cont.now) limits.lexical contributors.now }
+    requires paths { paths_of paths.now ≡ mrs_paths_of (grammar_of grammar.now) }
+{
+    signs.laws();
+    let ready = Ready {
+        signs,
+        shapes,
+        feeds,
+        lexicon: &grammar.lexicon,
+        spelling: &grammar.spelling,
+        names: &grammar.names,
+        contributors,
+        paths,
+        c_cont,
+        limits,
+    };
+    ready.take_all(rt, alloc, steps, out)
+}
+
 // What comes of steps, with the signs of a grammar, and where MRSs and the relations of rules stand.
 fn show_at_paths<R: Threads + Wait + Sync>(
     rt: &R,
@@ -95,19 +137,20 @@ fn show_at_paths<R: Threads + Wait + Sync>(
     ) else {
         return Err(NoMemory);
     };
-    let ready = Ready {
+    show_made(
+        rt,
+        alloc,
+        grammar,
         signs,
-        shapes: &shapes,
-        feeds: &feeds,
-        lexicon: &grammar.lexicon,
-        spelling: &grammar.spelling,
-        names: &grammar.names,
-        contributors: &contributors,
+        &shapes,
+        &feeds,
+        &contributors,
         paths,
         c_cont,
         limits,
-    };
-    ready.take_all(rt, alloc, steps, out)
+        steps,
+        out,
+    )
 }
 
 // What comes of steps, with a grammar.
