@@ -11,7 +11,7 @@ use crate::grammars::Ready;
 use chart_workers::{Crew, Rank};
 use derivation::{Tree, is_named, write};
 use fs_unify::Scratch;
-use grammar_rules::{ItemAnswer, LineWork, parse_words, run_shapes};
+use grammar_rules::{ItemAnswer, LineWork, RunMemory, parse_words, run_shapes};
 use morph_analysis::Lattice;
 use mrs_generate::{GenAnswer, generate};
 use mrs_model::Mrs;
@@ -108,6 +108,9 @@ impl Ready<'_, '_, '_, '_, '_, '_, '_, '_, '_> {
         let Ok(shapes) = run_shapes(alloc, self.shapes) else {
             return Err(NoMemory);
         };
+        let Ok(shared) = RunMemory::new(alloc, self.signs, self.shapes) else {
+            return Err(NoMemory);
+        };
         let mut work = work(alloc);
         let mut crew = Crew::new(alloc, 1);
         match parse_words(
@@ -117,6 +120,7 @@ impl Ready<'_, '_, '_, '_, '_, '_, '_, '_, '_> {
             &mut crew,
             self.signs,
             &shapes,
+            &shared,
             self.feeds,
             self.lexicon,
             self.spelling,

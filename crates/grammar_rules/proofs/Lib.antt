@@ -4,3 +4,4 @@ pub mod Consistent
 pub mod Wholes
 pub mod Lined
 pub mod Calls
+pub mod Kept

@@ -3,3 +3,4 @@ pub mod Laws
 pub mod Views
 pub mod Lined
 pub mod Lines
+pub mod Remembered

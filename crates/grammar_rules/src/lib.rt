@@ -11,7 +11,7 @@ mod remembered;
 use derivation::Tree;
 use packed_items::Found;
 pub use parsing::{LineWork, parse_words};
-pub use remembered::{LineShapes, run_shapes};
+pub use remembered::{LineShapes, RunMemory, run_shapes};
 use std::alloc::{AllocError, AllocFailed};
 
 /// The answer to a line.
@@ -53,6 +53,24 @@ impl From<cover::NoMemory> for NoMemory {
 
 impl From<lexical_items::NoMemory> for NoMemory {
     fn from(_error: lexical_items::NoMemory) -> NoMemory {
+        NoMemory
+    }
+}
+
+impl From<answer_memo::NoMemory> for NoMemory {
+    fn from(_error: answer_memo::NoMemory) -> NoMemory {
+        NoMemory
+    }
+}
+
+impl From<mother_memo::NoMemory> for NoMemory {
+    fn from(_error: mother_memo::NoMemory) -> NoMemory {
+        NoMemory
+    }
+}
+
+impl From<rule_trees::NoMemory> for NoMemory {
+    fn from(_error: rule_trees::NoMemory) -> NoMemory {
         NoMemory
     }
 }

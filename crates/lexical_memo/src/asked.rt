@@ -5,14 +5,14 @@ use answer_memo::Asked;
 
 /// The full structures of entries, by the places of these.
 #[derive(Drop)]
-pub(crate) struct OfEntries<'a, L> {
-    pub(crate) fulls: &'a L,
+pub(crate) struct OfEntries<L> {
+    pub(crate) fulls: L,
 }
 
 /// What lexical rules make of full structures, by the places of the rules.
 #[derive(Drop)]
-pub(crate) struct UnderRules<'a, L> {
-    pub(crate) fulls: &'a L,
+pub(crate) struct UnderRules<L> {
+    pub(crate) fulls: L,
 }
 
 // The weight of a full structure, and none where there is none.
@@ -23,21 +23,21 @@ fn weight_of<L: MarkedFulls>(fulls: &L, full: &Option<L::Full>) -> u32 {
     }
 }
 
-impl<'a, L: MarkedFulls> Asked for OfEntries<'a, L> {
+impl<L: MarkedFulls> Asked for OfEntries<L> {
     ghost use Rattle.lexical_memo.specs.Known.{IsOfEntry};
 
     type Key = ();
 
     type Told = Option<L::Full>;
 
-    ghost right = { λ s place _ told. IsOfEntry (L.signs s.fulls.now) (L.value s.fulls.now) place told };
+    ghost right = { λ s place _ told. IsOfEntry (L.signs s.fulls) (L.value s.fulls) place told };
 
     fn mark(&self, _key: &()) -> u64 {
         0
     }
 
     fn weight(&self, _key: &(), told: &Option<L::Full>) -> u32 {
-        weight_of(self.fulls, told)
+        weight_of(&self.fulls, told)
     }
 
     fn same(&self, _key: &(), _other: &()) -> bool {
@@ -45,14 +45,14 @@ impl<'a, L: MarkedFulls> Asked for OfEntries<'a, L> {
     }
 }
 
-impl<'a, L: MarkedFulls> Asked for UnderRules<'a, L> {
+impl<L: MarkedFulls> Asked for UnderRules<L> {
     ghost use Rattle.lexical_memo.specs.Known.{IsUnder};
 
     type Key = L::Full;
 
     type Told = Option<L::Full>;
 
-    ghost right = { λ s place full told. IsUnder (L.signs s.fulls.now) (L.value s.fulls.now) place (L.value s.fulls.now full) told };
+    ghost right = { λ s place full told. IsUnder (L.signs s.fulls) (L.value s.fulls) place (L.value s.fulls full) told };
 
     fn mark(&self, full: &L::Full) -> u64 {
         self.fulls.mark(full)
@@ -61,7 +61,7 @@ impl<'a, L: MarkedFulls> Asked for UnderRules<'a, L> {
     fn weight(&self, full: &L::Full, told: &Option<L::Full>) -> u32 {
         self.fulls
             .weight(full)
-            .saturating_add(weight_of(self.fulls, told))
+            .saturating_add(weight_of(&self.fulls, told))
     }
 
     fn same(&self, full: &L::Full, other: &L::Full) -> bool {

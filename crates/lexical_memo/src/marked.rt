@@ -5,7 +5,7 @@ ghost use Rattle.std.specs.Prelude.{◌≡◌, IfOk, IsTrue};
 use lexical_items::{LexicalFulls, NoMemory};
 
 /// Full structures of entries and lexical rules that are told apart, and shared, without unification.
-pub trait MarkedFulls: LexicalFulls + Drop {
+pub trait MarkedFulls: LexicalFulls + Copy {
     /// A number by which a full structure is found: those that are the same have one number, and those that differ seldom have.
     /// Takes no memory.
     fn mark(&self, full: &Self::Full) -> u64;

@@ -20,22 +20,22 @@ const MOST_MADE: u64 = 393_216;
 ///
 /// One is made for a whole run: what is asked of it depends on the grammar alone. Threads may share it by reference.
 #[derive(Drop)]
-pub struct RememberedFulls<'a, L: MarkedFulls> {
-    fulls: &'a L,
-    entries: Memo<OfEntries<'a, L>>,
-    made: Memo<UnderRules<'a, L>>,
+pub struct RememberedFulls<L: MarkedFulls> {
+    fulls: L,
+    entries: Memo<OfEntries<L>>,
+    made: Memo<UnderRules<L>>,
 }
 
-impl<'a, L: MarkedFulls> Model for RememberedFulls<'a, L> {
+impl<L: MarkedFulls> Model for RememberedFulls<L> {
     ghost use Rattle.std.specs.Prelude.{◌≡◌};
 
     ghost Value = { L };
 
     ghost coded = { L.code };
 
-    ghost view = { λ s. s.fulls.now };
+    ghost view = { λ s. s.fulls };
 
-    ghost invariant = { λ s. (s.entries.fulls.now ≡ s.fulls.now) × (s.made.fulls.now ≡ s.fulls.now) };
+    ghost invariant = { λ s. (s.entries.fulls ≡ s.fulls) × (s.made.fulls ≡ s.fulls) };
 }
 
 /// One more of a full structure, where there is one.
@@ -67,10 +67,10 @@ fn both<A: Asked, B: Asked>(
     Ok((of_one, of_other))
 }
 
-impl<'a, L: MarkedFulls> RememberedFulls<'a, L> {
+impl<L: MarkedFulls> RememberedFulls<L> {
     /// These full structures, of which nothing is remembered yet.
-    pub fn new(alloc: Global, fulls: &'a L) -> Result<RememberedFulls<'a, L>, NoMemory>
-        ensures { IfOk result (λ s. s ≡ fulls.now) }
+    pub fn new(alloc: Global, fulls: L) -> Result<RememberedFulls<L>, NoMemory>
+        ensures { IfOk result (λ s. s ≡ fulls) }
     {
         let of_entries = OfEntries { fulls };
         let of_rules = UnderRules { fulls };
@@ -83,10 +83,10 @@ impl<'a, L: MarkedFulls> RememberedFulls<'a, L> {
     }
 
     /// The full structures without what is remembered.
-    pub fn fulls(&self) -> &'a L
+    pub fn fulls(&self) -> &L
         ensures { result.now ≡ self.now }
     {
-        self.fulls
+        &self.fulls
     }
 
     // Remembers the full structure of the entry at a place, or that there is none, where there is room.
@@ -96,7 +96,7 @@ impl<'a, L: MarkedFulls> RememberedFulls<'a, L> {
         if self.entries.is_full() {
             return Ok(());
         }
-        let copy = again(self.fulls, full)?;
+        let copy = again(&self.fulls, full)?;
         self.entries.keep(alloc, place, (), copy);
         Ok(())
     }
@@ -115,13 +115,13 @@ impl<'a, L: MarkedFulls> RememberedFulls<'a, L> {
             return Ok(());
         }
         let key = self.fulls.share(full)?;
-        let copy = again(self.fulls, made)?;
+        let copy = again(&self.fulls, made)?;
         self.made.keep(alloc, place, key, copy);
         Ok(())
     }
 }
 
-impl<L: MarkedFulls> LexicalFulls for RememberedFulls<'_, L> {
+impl<L: MarkedFulls> LexicalFulls for RememberedFulls<L> {
     type Full = L::Full;
 
     type Work = L::Work;
@@ -149,7 +149,7 @@ impl<L: MarkedFulls> LexicalFulls for RememberedFulls<'_, L> {
         place: u32,
     ) -> Result<Option<L::Full>, NoMemory> {
         if let Some(known) = self.entries.find(place, &()) {
-            let told = again(self.fulls, known)?;
+            let told = again(&self.fulls, known)?;
             return Ok(told);
         }
         let full = self.fulls.entry(alloc, work, place)?;
@@ -165,7 +165,7 @@ impl<L: MarkedFulls> LexicalFulls for RememberedFulls<'_, L> {
         full: &L::Full,
     ) -> Result<Option<L::Full>, NoMemory> {
         if let Some(known) = self.made.find(place, full) {
-            let told = again(self.fulls, known)?;
+            let told = again(&self.fulls, known)?;
             return Ok(told);
         }
         let made = self.fulls.under(alloc, work, place, full)?;

@@ -7,6 +7,7 @@ ghost use Rattle.chart_core.specs.Kept.{InRange};
 ghost use Rattle.book_signs.specs.Trees.{signs_of};
 ghost use Rattle.line_commands.specs.Inner.Props.{list_props};
 ghost use Rattle.grammar_rules.specs.Lines.{AreShapesOf, AreFeedsOf, HaveAll};
+ghost use Rattle.grammar_rules.specs.Remembered.{IsMemoryOf};
 
 use crate::NoMemory;
 use crate::desks::Desks;
@@ -18,7 +19,7 @@ use chart_workers::BySize;
 use endings::lines::{Answers, Share};
 use endings::pieces::Report;
 use fs_unify::Scratch;
-use grammar_rules::{ItemAnswer, LineShapes, parse_words};
+use grammar_rules::{ItemAnswer, LineShapes, RunMemory, parse_words};
 use lexicon::Lexicon;
 use morph_analysis::{Feeds, Lattice, LatticeFault};
 use mrs_lines::TreeLines;
@@ -33,10 +34,12 @@ use worker_gate::Gate;
 /// What answers lines by the trees that a grammar licenses for them. Each thing that is lent has a lifetime of its own, since it is lent
 /// to threads.
 #[derive(Drop)]
-pub(crate) struct Parser<'g, 's, 'b, 'h, 'm, 'r, 'f, 'p> {
+pub(crate) struct Parser<'g, 's, 'b, 'h, 'm, 'r, 'd, 'k, 'f, 'p> {
     pub(crate) signs: &'s SignBook<'b>,
     // what phrase rules made of equal shapes is remembered from one line to the next
     pub(crate) shapes: &'h LineShapes<'m, 'r>,
+    // and so are the full structures of lexical trees, their shapes, and what phrase rules made of full structures
+    pub(crate) shared: &'d RunMemory<'k>,
     pub(crate) feeds: &'f Feeds,
     pub(crate) lexicon: &'g Lexicon,
     pub(crate) spelling: &'g Spelling,
@@ -50,6 +53,7 @@ pub(crate) struct Parser<'g, 's, 'b, 'h, 'm, 'r, 'f, 'p> {
     // what lines are worked out with
     pub(crate) desks: Desks,
     ghost shapes_are: { AreShapesOf signs.now shapes.now },
+    ghost shared_are: { IsMemoryOf signs.now shapes.now shared.now },
     ghost feeds_are: { AreFeedsOf signs.now feeds.now } by { Prim.hlevel list_props },
     ghost have: { HaveAll signs.now lexicon.now spelling.now } by { Prim.hlevel list_props },
     ghost named: { length names.now ≡ length (signs_of signs.now).instances },
@@ -57,7 +61,7 @@ pub(crate) struct Parser<'g, 's, 'b, 'h, 'm, 'r, 'f, 'p> {
     ghost paths_are: { ArePathsOf signs.now (paths_of paths.now) } by { Prim.hlevel list_props },
 }
 
-impl Parser<'_, '_, '_, '_, '_, '_, '_, '_> {
+impl Parser<'_, '_, '_, '_, '_, '_, '_, '_, '_, '_> {
     ghost use Rattle.std.specs.Prelude.{◌≡◌, ◌<◌, ◌^◌, length, map, IfOk};
     ghost use Rattle.std.specs.Thread.{IsSync};
     ghost use Rattle.std.specs.Str.{chars, IsUtf8};
@@ -120,6 +124,7 @@ impl Parser<'_, '_, '_, '_, '_, '_, '_, '_> {
             &mut desk.crew,
             self.signs,
             self.shapes,
+            self.shared,
             self.feeds,
             self.lexicon,
             self.spelling,
@@ -179,7 +184,7 @@ impl Parser<'_, '_, '_, '_, '_, '_, '_, '_> {
     }
 }
 
-impl Answers for Parser<'_, '_, '_, '_, '_, '_, '_, '_> {
+impl Answers for Parser<'_, '_, '_, '_, '_, '_, '_, '_, '_, '_> {
     ghost use Rattle.line_commands.specs.Answers.{IsAnswer};
     ghost use Rattle.line_commands.specs.Inner.Parsers.{speech_of, asked_of};
 

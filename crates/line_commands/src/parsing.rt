@@ -5,6 +5,7 @@ ghost use Rattle.chart_core.specs.Kept.{InRange};
 ghost use Rattle.chart_workers.specs.Crews.{IsCrewSize};
 ghost use Rattle.book_signs.specs.Conditions.{IsWhole};
 ghost use Rattle.grammar_rules.specs.Lines.{AreShapesOf, AreFeedsOf};
+ghost use Rattle.grammar_rules.specs.Remembered.{IsMemoryOf};
 ghost use Rattle.grammar_load.specs.Conditions.{IsLoaded};
 ghost use Rattle.grammar_load.specs.Views.{grammar_of};
 ghost use Rattle.grammar_names.specs.Fitting.{mrs_paths_of, HasMrsPaths};
@@ -27,7 +28,8 @@ use endings::lines::serve;
 use endings::{Fault, Stop};
 use grammar_load::Grammar;
 use grammar_names::loaded_paths;
-use grammar_rules::{LineShapes, run_shapes};
+use grammar_rules::{LineShapes, RunMemory, run_shapes};
+use grammar_shapes::GrammarShapes;
 use lkb_io::{Shelf, Sink, Source};
 use morph_analysis::Feeds;
 use mrs_paths::mrs_paths;
@@ -52,17 +54,64 @@ pub struct Parse<'a> {
     pub mrs: bool,
 }
 
-// Answers all lines of the source with the signs of a grammar, its phrase rules, which remember what they made, and what its lexical
-// rules may apply to.
-fn parse_with_shapes<I: Source, O: Sink, Rt: Threads + Wait + Sync>(
+// Answers all lines of the source with the signs of a grammar, its phrase rules, which remember what they made, what lines share of
+// full structures, and what its lexical rules may apply to.
+fn parse_with_memory<I: Source, O: Sink, Rt: Threads + Wait + Sync>(
     rt: &Rt,
     alloc: Global,
     command: &Parse<'_>,
     grammar: &Grammar,
     signs: &SignBook<'_>,
     shapes: &LineShapes<'_, '_>,
+    shared: &RunMemory<'_>,
     feeds: &Feeds,
     paths: &MrsPaths,
+    input: &mut I,
+    out: &mut O,
+    gate: &dyn Gate,
+) -> Result<bool, Fault>
+    requires limits { InRange command.now.limits }
+    requires workers { IsCrewSize command.now.workers }
+    requires loaded { IsLoaded (grammar_of grammar.now) }
+    requires book { signs.now.book ≡ grammar.now.book }
+    requires shapes { AreShapesOf signs.now shapes.now }
+    requires shared { IsMemoryOf signs.now shapes.now shared.now }
+    requires feeds { AreFeedsOf signs.now feeds.now }
+    requires paths { paths_of paths.now ≡ mrs_paths_of (grammar_of grammar.now) }
+    requires fits { HasMrsPaths (grammar_of grammar.now) }
+    ensures { (h : Shelves) → HasGrammar h.files command.now.grammar.now (option_map (λ s. s.now) command.now.settings) (grammar_of grammar.now)
+        → Ended (parse_meaning command.now.grammar.now (option_map (λ s. s.now) command.now.settings) (asked_with command.now.limits command.now.lattice command.now.mrs)) h
+        (streams I.left I.faults O.written O.flushed O.faults input.old input.new out.old out.new) (input.new ≡ input.old) ((input.new ≡ input.old) × (out.new ≡ out.old)) result }
+{
+    signs.laws();
+    let parser = Parser {
+        signs,
+        shapes,
+        shared,
+        feeds,
+        lexicon: &grammar.lexicon,
+        spelling: &grammar.spelling,
+        names: &grammar.names,
+        limits: command.limits,
+        lattice: command.lattice,
+        paths,
+        mrs: command.mrs,
+        desks: Desks::new(alloc, command.workers),
+    };
+    let refused = serve(rt, alloc, &parser, input, out, gate)?;
+    Ok(refused)
+}
+
+// The same where what lines share is made here. What it is made of has one lifetime, so that it is let go as a whole.
+fn parse_with_shapes<'x, I: Source, O: Sink, Rt: Threads + Wait + Sync>(
+    rt: &Rt,
+    alloc: Global,
+    command: &Parse<'_>,
+    grammar: &'x Grammar,
+    signs: &'x SignBook<'x>,
+    shapes: &'x GrammarShapes<'x>,
+    feeds: &'x Feeds,
+    paths: &'x MrsPaths,
     input: &mut I,
     out: &mut O,
     gate: &dyn Gate,
@@ -79,31 +128,66 @@ fn parse_with_shapes<I: Source, O: Sink, Rt: Threads + Wait + Sync>(
         → Ended (parse_meaning command.now.grammar.now (option_map (λ s. s.now) command.now.settings) (asked_with command.now.limits command.now.lattice command.now.mrs)) h
         (streams I.left I.faults O.written O.flushed O.faults input.old input.new out.old out.new) (input.new ≡ input.old) ((input.new ≡ input.old) × (out.new ≡ out.old)) result }
 {
-    signs.laws();
-    let parser = Parser {
-        signs,
-        shapes,
-        feeds,
-        lexicon: &grammar.lexicon,
-        spelling: &grammar.spelling,
-        names: &grammar.names,
-        limits: command.limits,
-        lattice: command.lattice,
-        paths,
-        mrs: command.mrs,
-        desks: Desks::new(alloc, command.workers),
+    let Ok(remembered) = run_shapes(alloc, shapes) else {
+        return Err(Fault::Stopped(Stop::NoMemory));
     };
-    let refused = serve(rt, alloc, &parser, input, out, gate)?;
-    Ok(refused)
+    let Ok(shared) = RunMemory::new(alloc, signs, shapes) else {
+        return Err(Fault::Stopped(Stop::NoMemory));
+    };
+    parse_with_memory(
+        rt,
+        alloc,
+        command,
+        grammar,
+        signs,
+        &remembered,
+        &shared,
+        feeds,
+        paths,
+        input,
+        out,
+        gate,
+    )
 }
 
-// Answers all lines of the source with the signs of a grammar.
-fn parse_with_signs<I: Source, O: Sink, Rt: Threads + Wait + Sync>(
+// The same where what is lent was made at another lifetime.
+fn parse_with_lent<'x, 'y, I: Source, O: Sink, Rt: Threads + Wait + Sync>(
     rt: &Rt,
     alloc: Global,
     command: &Parse<'_>,
-    grammar: &Grammar,
-    signs: &SignBook<'_>,
+    grammar: &'x Grammar,
+    signs: &'x SignBook<'y>,
+    shapes: &'x GrammarShapes<'y>,
+    feeds: &'x Feeds,
+    paths: &'x MrsPaths,
+    input: &mut I,
+    out: &mut O,
+    gate: &dyn Gate,
+) -> Result<bool, Fault>
+    requires limits { InRange command.now.limits }
+    requires workers { IsCrewSize command.now.workers }
+    requires loaded { IsLoaded (grammar_of grammar.now) }
+    requires book { signs.now.book ≡ grammar.now.book }
+    requires shapes { AreShapesOf signs.now shapes.now }
+    requires feeds { AreFeedsOf signs.now feeds.now }
+    requires paths { paths_of paths.now ≡ mrs_paths_of (grammar_of grammar.now) }
+    requires fits { HasMrsPaths (grammar_of grammar.now) }
+    ensures { (h : Shelves) → HasGrammar h.files command.now.grammar.now (option_map (λ s. s.now) command.now.settings) (grammar_of grammar.now)
+        → Ended (parse_meaning command.now.grammar.now (option_map (λ s. s.now) command.now.settings) (asked_with command.now.limits command.now.lattice command.now.mrs)) h
+        (streams I.left I.faults O.written O.flushed O.faults input.old input.new out.old out.new) (input.new ≡ input.old) ((input.new ≡ input.old) × (out.new ≡ out.old)) result }
+{
+    parse_with_shapes(
+        rt, alloc, command, grammar, &*signs, &*shapes, feeds, paths, input, out, gate,
+    )
+}
+
+// Answers all lines of the source with the signs of a grammar.
+fn parse_with_signs<'x, I: Source, O: Sink, Rt: Threads + Wait + Sync>(
+    rt: &Rt,
+    alloc: Global,
+    command: &Parse<'_>,
+    grammar: &'x Grammar,
+    signs: &'x SignBook<'x>,
     input: &mut I,
     out: &mut O,
     gate: &dyn Gate,
@@ -120,9 +204,6 @@ fn parse_with_signs<I: Source, O: Sink, Rt: Threads + Wait + Sync>(
     let Ok(shapes) = shapes_of(alloc, signs) else {
         return Err(Fault::Stopped(Stop::NoMemory));
     };
-    let Ok(remembered) = run_shapes(alloc, &shapes) else {
-        return Err(Fault::Stopped(Stop::NoMemory));
-    };
     let Ok(feeds) = rule_feeds(alloc, signs) else {
         return Err(Fault::Stopped(Stop::NoMemory));
     };
@@ -130,18 +211,8 @@ fn parse_with_signs<I: Source, O: Sink, Rt: Threads + Wait + Sync>(
     let Ok(paths) = mrs_paths(alloc, &grammar.settings, book.system.types(), &book.feats) else {
         return Err(Fault::Stopped(Stop::NoMemory));
     };
-    parse_with_shapes(
-        rt,
-        alloc,
-        command,
-        grammar,
-        signs,
-        &remembered,
-        &feeds,
-        &paths,
-        input,
-        out,
-        gate,
+    parse_with_lent(
+        rt, alloc, command, grammar, &*signs, &shapes, &feeds, &paths, input, out, gate,
     )
 }
 

@@ -1,3 +1,4 @@
+pub mod Fulls
 pub mod Mothers
 pub mod Bounded
 pub mod Wholes

@@ -1,20 +1,34 @@
 //! The full structures of entries and lexical rules.
 
-ghost use Rattle.std.specs.Prelude.{◌≡◌};
+ghost use Rattle.std.specs.Prelude.{◌≡◌, IfOk};
+ghost use Rattle.rule_trees.specs.Mothers.{IsShortIn};
 
 use crate::copies::copied;
 use crate::following::may_follow;
 use crate::full::FullStructure;
 use crate::making::made;
 use book_signs::SignBook;
+use fs_graph::Graph;
 use fs_unify::Scratch;
 use lexical_items::{LexicalFulls, NoMemory};
+use lexical_memo::MarkedFulls;
 use std::alloc::Global;
 
 /// The full structures of entries and lexical rules of a grammar.
 #[derive(Clone, Copy)]
 pub struct SignFulls<'a> {
     pub signs: &'a SignBook<'a>,
+}
+
+// The full structure of a graph.
+fn kept(alloc: Global, signs: &SignBook<'_>, graph: Graph) -> Result<FullStructure, NoMemory>
+    requires { IsShortIn signs.now graph }
+    ensures { IfOk result (λ f. f.graph ≡ graph) }
+{
+    match FullStructure::of(alloc, signs, graph) {
+        Ok(full) => Ok(full),
+        Err(_) => Err(NoMemory),
+    }
 }
 
 impl<'a> LexicalFulls for SignFulls<'a> {
@@ -51,7 +65,8 @@ impl<'a> LexicalFulls for SignFulls<'a> {
         let Ok(graph) = copied(alloc, self.signs, self.signs.structure(place)) else {
             return Err(NoMemory);
         };
-        Ok(Some(FullStructure::of(self.signs, graph)))
+        let full = kept(alloc, self.signs, graph)?;
+        Ok(Some(full))
     }
 
     fn under(
@@ -65,8 +80,11 @@ impl<'a> LexicalFulls for SignFulls<'a> {
         if !full.is_within(self.signs) {
             return Err(NoMemory);
         }
-        match made(alloc, work, self.signs, place, &[&full.graph]) {
-            Ok(Some(graph)) => Ok(Some(FullStructure::of(self.signs, graph))),
+        match made(alloc, work, self.signs, place, &[full.graph()]) {
+            Ok(Some(graph)) => {
+                let full = kept(alloc, self.signs, graph)?;
+                Ok(Some(full))
+            }
             Ok(None) => Ok(None),
             Err(_) => Err(NoMemory),
         }
@@ -88,5 +106,26 @@ impl<'a> LexicalFulls for SignFulls<'a> {
 
     fn laws(&self) {
         self.signs.laws();
+    }
+}
+
+impl<'a> MarkedFulls for SignFulls<'a> {
+    fn mark(&self, full: &FullStructure) -> u64 {
+        full.mark()
+    }
+
+    fn weight(&self, full: &FullStructure) -> u32 {
+        full.graph().nodes()
+    }
+
+    fn same(&self, full: &FullStructure, other: &FullStructure) -> bool {
+        full.same(other, self.signs)
+    }
+
+    fn share(&self, full: &FullStructure) -> Result<FullStructure, NoMemory> {
+        match full.share() {
+            Ok(again) => Ok(again),
+            Err(_) => Err(NoMemory),
+        }
     }
 }

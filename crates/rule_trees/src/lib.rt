@@ -10,6 +10,7 @@ mod line;
 mod making;
 mod mothers;
 mod roots;
+mod whole;
 
 pub use book_signs::SignBook;
 pub use full::FullStructure;

@@ -1,6 +1,9 @@
 //! The full structures of the trees over a line's lexical trees.
 
-ghost use Rattle.std.specs.Prelude.{◌≡◌};
+ghost use Rattle.std.specs.Prelude.{◌≡◌, ◌↔◌, IfOk, IsTrue};
+ghost use Rattle.item_model.specs.Trees.{IsRooted};
+ghost use Rattle.book_signs.specs.Trees.{signs_of};
+ghost use Rattle.rule_trees.specs.Mothers.{IsMade, view_in};
 
 use crate::full::FullStructure;
 use crate::mothers::mother_of;
@@ -21,6 +24,25 @@ pub struct LineFulls<'a> {
     pub leaves: &'a [LexTree<FullStructure>],
     /// the last node of the line
     pub end: u32,
+}
+
+// Whether some root unifies with a full structure.
+fn is_rooted(
+    alloc: Global,
+    work: &mut Scratch,
+    signs: &SignBook<'_>,
+    full: &FullStructure,
+) -> Result<bool, NoMemory>
+    requires { IsMade (signs_of signs.now) (view_in signs.now full.now.graph) }
+    ensures { IfOk result (λ yes. IsTrue yes ↔ IsRooted (signs_of signs.now) (view_in signs.now full.now.graph)) }
+{
+    if !full.is_within(signs) {
+        return Err(NoMemory);
+    }
+    match rooted(alloc, work, signs, full.graph()) {
+        Ok(yes) => Ok(yes),
+        Err(_) => Err(NoMemory),
+    }
 }
 
 impl<'a> Fulls for LineFulls<'a> {
@@ -50,7 +72,7 @@ impl<'a> Fulls for LineFulls<'a> {
 
     fn leaf(&self, alloc: Global, name: u32) -> Result<(Arc<FullStructure>, Tree), NoMemory> {
         let leaf = &self.leaves[name as usize];
-        let Ok(full) = leaf.full.copy(alloc, self.signs) else {
+        let Ok(full) = leaf.full.copy(alloc) else {
             return Err(NoMemory);
         };
         let tree = leaf.tree.copy()?;
@@ -90,13 +112,8 @@ impl<'a> Fulls for LineFulls<'a> {
         if cover.from != 0 || cover.to != self.end {
             return Ok(false);
         }
-        if !full.is_within(self.signs) {
-            return Err(NoMemory);
-        }
-        match rooted(alloc, work, self.signs, &full.graph) {
-            Ok(yes) => Ok(yes),
-            Err(_) => Err(NoMemory),
-        }
+        let yes = is_rooted(alloc, work, self.signs, full)?;
+        Ok(yes)
     }
 
     fn wants(&self, cover: &Span) -> bool {

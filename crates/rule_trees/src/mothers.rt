@@ -30,7 +30,7 @@ fn add<'x>(
         if !full.is_within(signs) {
             return Err(NoMemory);
         }
-        daughters.push(&full.graph)?;
+        daughters.push(full.graph())?;
     }
     Ok(())
 }
@@ -71,7 +71,10 @@ pub fn mother_of(
 {
     let daughters = in_order(alloc, signs, parts)?;
     match made(alloc, work, signs, place, &daughters)? {
-        Some(graph) => Ok(Some(FullStructure::of(signs, graph))),
+        Some(graph) => {
+            let full = FullStructure::of(alloc, signs, graph)?;
+            Ok(Some(full))
+        }
         None => Ok(None),
     }
 }

@@ -17,7 +17,7 @@ use book_signs::SignBook;
 use chart_core::Limits;
 use chart_workers::{BySize, Crew};
 use fs_unify::Scratch;
-use grammar_rules::{ItemAnswer, LineShapes, LineWork, parse_words};
+use grammar_rules::{ItemAnswer, LineShapes, LineWork, RunMemory, parse_words};
 use item_counts::Count;
 use item_reports::words_of_line;
 use lexicon::Lexicon;
@@ -38,10 +38,12 @@ pub(crate) struct Desk {
 
 /// What lines are parsed with. Each thing that is lent has a lifetime of its own, since it is lent to threads.
 #[derive(Clone, Copy)]
-pub struct Ready<'g, 's, 'b, 'h, 'm, 'r, 'f> {
+pub struct Ready<'g, 's, 'b, 'h, 'm, 'r, 'd, 'k, 'f> {
     pub signs: &'s SignBook<'b>,
     /// what phrase rules made of equal shapes is remembered from one line to the next
     pub shapes: &'h LineShapes<'m, 'r>,
+    /// and so are the full structures of lexical trees, their shapes, and what phrase rules made of full structures
+    pub shared: &'d RunMemory<'k>,
     pub feeds: &'f Feeds,
     pub lexicon: &'g Lexicon,
     pub spelling: &'g Spelling,
@@ -82,7 +84,7 @@ fn count_text<Rt: Threads + Wait + Sync>(
     rt: &Rt,
     alloc: Global,
     desk: &mut Desk,
-    ready: &Ready<'_, '_, '_, '_, '_, '_, '_>,
+    ready: &Ready<'_, '_, '_, '_, '_, '_, '_, '_, '_>,
     line: &str,
     gate: &dyn Gate,
 ) -> Result<Count, NoMemory>
@@ -100,6 +102,7 @@ fn count_text<Rt: Threads + Wait + Sync>(
         &mut desk.crew,
         ready.signs,
         ready.shapes,
+        ready.shared,
         ready.feeds,
         ready.lexicon,
         ready.spelling,
@@ -117,7 +120,7 @@ fn count_line<Rt: Threads + Wait + Sync>(
     rt: &Rt,
     alloc: Global,
     desk: &mut Desk,
-    ready: &Ready<'_, '_, '_, '_, '_, '_, '_>,
+    ready: &Ready<'_, '_, '_, '_, '_, '_, '_, '_, '_>,
     line: &[u8],
     gate: &dyn Gate,
 ) -> Result<Count, NoMemory>
@@ -142,7 +145,7 @@ pub(crate) fn count_lines<Rt: Threads + Wait + Sync>(
     rt: &Rt,
     alloc: Global,
     desk: &mut Desk,
-    ready: &Ready<'_, '_, '_, '_, '_, '_, '_>,
+    ready: &Ready<'_, '_, '_, '_, '_, '_, '_, '_, '_>,
     lines: &[Vec<u8>],
     gate: &dyn Gate,
 ) -> Result<Vec<Count>, NoMemory>

@@ -42,7 +42,7 @@ fn add(counts: &mut Vec<Count>, mut more: Vec<Count>) -> Result<(), NoMemory>
 fn count_part<Rt: Threads + Wait + Sync>(
     rt: &Rt,
     alloc: Global,
-    ready: &Ready<'_, '_, '_, '_, '_, '_, '_>,
+    ready: &Ready<'_, '_, '_, '_, '_, '_, '_, '_, '_>,
     lines: &[Vec<u8>],
     gate: &dyn Gate,
 ) -> Result<Vec<Count>, NoMemory>
@@ -59,7 +59,7 @@ fn count_apart<Rt: Threads + Wait + Sync>(
     rt: &Rt,
     alloc: Global,
     workers: u32,
-    ready: &Ready<'_, '_, '_, '_, '_, '_, '_>,
+    ready: &Ready<'_, '_, '_, '_, '_, '_, '_, '_, '_>,
     lines: &[Vec<u8>],
     gate: &dyn Gate,
 ) -> Result<Vec<Count>, NoMemory>
@@ -95,7 +95,7 @@ pub(crate) fn count_by<Rt: Threads + Wait + Sync>(
     rt: &Rt,
     alloc: Global,
     workers: u32,
-    ready: &Ready<'_, '_, '_, '_, '_, '_, '_>,
+    ready: &Ready<'_, '_, '_, '_, '_, '_, '_, '_, '_>,
     lines: &[Vec<u8>],
     gate: &dyn Gate,
 ) -> Result<Vec<Count>, NoMemory>

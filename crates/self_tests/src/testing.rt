@@ -9,6 +9,7 @@ ghost use Rattle.lexical_items.specs.Said.{words_said};
 ghost use Rattle.packed_items.specs.Answers.{limits_in};
 ghost use Rattle.grammar_load.specs.Conditions.{IsLoaded};
 ghost use Rattle.grammar_rules.specs.Lines.{AreShapesOf, AreFeedsOf};
+ghost use Rattle.grammar_rules.specs.Remembered.{IsMemoryOf};
 ghost use Rattle.grammar_load.specs.Views.{grammar_of};
 ghost use Rattle.command_grammars.specs.Grammars.{HasGrammar};
 ghost use Rattle.endings.specs.Meanings.{Shelves};
@@ -31,7 +32,8 @@ use command_grammars::load_grammar;
 use endings::pieces::Report;
 use endings::{Fault, Stop};
 use grammar_load::Grammar;
-use grammar_rules::{LineShapes, run_shapes};
+use grammar_rules::{LineShapes, RunMemory, run_shapes};
+use grammar_shapes::GrammarShapes;
 use item_counts::{Count, some_refused, summary};
 use line_commands::{rule_feeds, shapes_of};
 use lkb_io::{ShelfFile, WholeShelf};
@@ -71,16 +73,51 @@ fn load_workload(alloc: Global, files: Vec<WorkFile>) -> Result<Grammar, Fault>
     load_grammar(alloc, &mut shelf, "g.tdl", None)
 }
 
-// What is counted of the answers to lines, by the signs of a grammar, its phrase rules, which remember what they made, and what its
-// lexical rules may apply to.
-fn count_with_shapes<Rt: Threads + Wait + Sync>(
+// What is counted of the answers to lines, by the signs of a grammar, its phrase rules, which remember what they made, what lines share of
+// full structures, and what its lexical rules may apply to.
+fn count_with_memory<Rt: Threads + Wait + Sync>(
     rt: &Rt,
     alloc: Global,
     test: &SelfTest,
     grammar: &Grammar,
     signs: &SignBook<'_>,
     shapes: &LineShapes<'_, '_>,
+    shared: &RunMemory<'_>,
     feeds: &Feeds,
+    lines: &[Vec<u8>],
+    gate: &dyn Gate,
+) -> Result<Vec<Count>, NoMemory>
+    requires loaded { IsLoaded (grammar_of grammar.now) }
+    requires book { signs.now.book ≡ grammar.now.book }
+    requires shapes { AreShapesOf signs.now shapes.now }
+    requires shared { IsMemoryOf signs.now shapes.now shared.now }
+    requires feeds { AreFeedsOf signs.now feeds.now }
+    requires text { All (λ l. IsUtf8 l.items) lines.now }
+    ensures { IfOk result (λ counts. AreCounted (signs_of signs.now) (words_said (entries_of (signs_of signs.now)) (lexical_rules_of (signs_of signs.now)) grammar.now.lexicon grammar.now.spelling)
+        (limits_in test.now.limits) test.now.limits.lexical (map (λ l. l.items) lines.now) counts.items) }
+{
+    signs.laws();
+    let ready = Ready {
+        signs,
+        shapes,
+        shared,
+        feeds,
+        lexicon: &grammar.lexicon,
+        spelling: &grammar.spelling,
+        limits: test.limits,
+    };
+    count_by(rt, alloc, test.workers, &ready, lines, gate)
+}
+
+// The same where what lines share is made here. What it is made of has one lifetime, so that it is let go as a whole.
+fn count_with_shapes<'x, Rt: Threads + Wait + Sync>(
+    rt: &Rt,
+    alloc: Global,
+    test: &SelfTest,
+    grammar: &'x Grammar,
+    signs: &'x SignBook<'x>,
+    shapes: &'x GrammarShapes<'x>,
+    feeds: &'x Feeds,
     lines: &[Vec<u8>],
     gate: &dyn Gate,
 ) -> Result<Vec<Count>, NoMemory>
@@ -92,25 +129,58 @@ fn count_with_shapes<Rt: Threads + Wait + Sync>(
     ensures { IfOk result (λ counts. AreCounted (signs_of signs.now) (words_said (entries_of (signs_of signs.now)) (lexical_rules_of (signs_of signs.now)) grammar.now.lexicon grammar.now.spelling)
         (limits_in test.now.limits) test.now.limits.lexical (map (λ l. l.items) lines.now) counts.items) }
 {
-    signs.laws();
-    let ready = Ready {
-        signs,
-        shapes,
-        feeds,
-        lexicon: &grammar.lexicon,
-        spelling: &grammar.spelling,
-        limits: test.limits,
+    let Ok(remembered) = run_shapes(alloc, shapes) else {
+        return Err(NoMemory);
     };
-    count_by(rt, alloc, test.workers, &ready, lines, gate)
+    let Ok(shared) = RunMemory::new(alloc, signs, shapes) else {
+        return Err(NoMemory);
+    };
+    count_with_memory(
+        rt,
+        alloc,
+        test,
+        grammar,
+        signs,
+        &remembered,
+        &shared,
+        feeds,
+        lines,
+        gate,
+    )
 }
 
-// What is counted of the answers to lines, by the signs of a grammar.
-fn count_with_signs<Rt: Threads + Wait + Sync>(
+// The same where what is lent was made at another lifetime.
+fn count_with_lent<'x, 'y, Rt: Threads + Wait + Sync>(
     rt: &Rt,
     alloc: Global,
     test: &SelfTest,
-    grammar: &Grammar,
-    signs: &SignBook<'_>,
+    grammar: &'x Grammar,
+    signs: &'x SignBook<'y>,
+    shapes: &'x GrammarShapes<'y>,
+    feeds: &'x Feeds,
+    lines: &[Vec<u8>],
+    gate: &dyn Gate,
+) -> Result<Vec<Count>, NoMemory>
+    requires loaded { IsLoaded (grammar_of grammar.now) }
+    requires book { signs.now.book ≡ grammar.now.book }
+    requires shapes { AreShapesOf signs.now shapes.now }
+    requires feeds { AreFeedsOf signs.now feeds.now }
+    requires text { All (λ l. IsUtf8 l.items) lines.now }
+    ensures { IfOk result (λ counts. AreCounted (signs_of signs.now) (words_said (entries_of (signs_of signs.now)) (lexical_rules_of (signs_of signs.now)) grammar.now.lexicon grammar.now.spelling)
+        (limits_in test.now.limits) test.now.limits.lexical (map (λ l. l.items) lines.now) counts.items) }
+{
+    count_with_shapes(
+        rt, alloc, test, grammar, &*signs, &*shapes, feeds, lines, gate,
+    )
+}
+
+// What is counted of the answers to lines, by the signs of a grammar.
+fn count_with_signs<'x, Rt: Threads + Wait + Sync>(
+    rt: &Rt,
+    alloc: Global,
+    test: &SelfTest,
+    grammar: &'x Grammar,
+    signs: &'x SignBook<'x>,
     lines: &[Vec<u8>],
     gate: &dyn Gate,
 ) -> Result<Vec<Count>, NoMemory>
@@ -123,22 +193,11 @@ fn count_with_signs<Rt: Threads + Wait + Sync>(
     let Ok(shapes) = shapes_of(alloc, signs) else {
         return Err(NoMemory);
     };
-    let Ok(remembered) = run_shapes(alloc, &shapes) else {
-        return Err(NoMemory);
-    };
     let Ok(feeds) = rule_feeds(alloc, signs) else {
         return Err(NoMemory);
     };
-    count_with_shapes(
-        rt,
-        alloc,
-        test,
-        grammar,
-        signs,
-        &remembered,
-        &feeds,
-        lines,
-        gate,
+    count_with_lent(
+        rt, alloc, test, grammar, &*signs, &shapes, &feeds, lines, gate,
     )
 }
 

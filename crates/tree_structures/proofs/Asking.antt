@@ -11,7 +11,7 @@ use Rattle.rule_model.specs.Structures.{Structure}
 use Rattle.item_model.specs.Lexical.{IsEntry, FullLexical}
 use Rattle.book_signs.specs.Trees.{SignTree, signs_of, HaveArities}
 use Rattle.rule_trees.specs.Mothers.{view_in, IsMother}
-use Rattle.rule_trees.specs.declared.full.FullStructure.{FullStructure}
+use Rattle.rule_trees.specs.Fulls.{FullTree}
 use Rattle.tree_structures.specs.declared.question.Numbers.{Numbers}
 use Rattle.tree_structures.specs.declared.question.Question.{Question}
 use Rattle.tree_structures.specs.declared.question.Question.TheVariants.{Entry, Mother}
@@ -37,8 +37,8 @@ abbrev pub IsFound : FullMemo → Question → ℕ → Type 0
 IsFound memo q n = (known : Known) × (slice_get memo.known.items n ≡ Some known) × (known.question ≡ q)
 
 -- what was kept of one
-abbrev pub IsKept : FullMemo → FullMemo → Question → FullStructure → Type 0
-IsKept old new q full = (shared : Arc FullStructure Global) × (arc_value shared ≡ full) × (new.known.items ≡ old.known.items ++ record { question = q; full = shared } ∷ [])
+abbrev pub IsKept : FullMemo → FullMemo → Question → FullTree → Type 0
+IsKept old new q full = (shared : Arc FullTree Global) × (arc_value shared ≡ full) × (new.known.items ≡ old.known.items ++ record { question = q; full = shared } ∷ [])
 
 pub numbers_long : (n : Numbers) → n.count ≤ 4 → length (numbers_of n) ≡ n.count
 numbers_long n most = let long = length-take n.count (n.a ∷ n.b ∷ n.c ∷ n.d ∷ []) in omega (arith, long, most)
@@ -59,9 +59,9 @@ module _ (t : SignTree) where
       let same : answer.0 ≡ fs = at_one (kept t memo.known.items) (numbers_of over) answer.0 fs answer.1 are in
       (view_of t f.0.full, kept_at t memo.known.items n f.0 f.1, subst (λ hs. IsMother (signs_of t) place hs (view_of t f.0.full)) same answer.2)
 
-  module _ (old new : FullMemo) (q : Question) (full : FullStructure) (right : IsRight t old) (k : IsKept old new q full) where
+  module _ (old new : FullMemo) (q : Question) (full : FullTree) (right : IsRight t old) (k : IsKept old new q full) where
     seen : view_of t k.0 ≡ view_in t full.graph
-    seen = ap (λ (f : FullStructure). view_in t f.graph) k.1
+    seen = ap (λ (f : FullTree). view_in t f.graph) k.1
 
     pub kept_stays : IsAnswer (signs_of t) (kept t old.known.items) q (view_in t full.graph) → Stays t old new
     kept_stays a = keep_stays t old new (record { question = q; full = k.0 }) k.2 right (subst (IsAnswer (signs_of t) (kept t old.known.items) q) (sym seen) a)

@@ -12,7 +12,7 @@ use Rattle.rule_model.specs.Mothers.{Rule, IsFullAt}
 use Rattle.item_model.specs.Signs.{Signs, rule_system}
 use Rattle.book_signs.specs.Trees.{SignTree, signs_of, rule_at}
 use Rattle.rule_trees.specs.Mothers.{IsMade, made_entry, made_mother, IsMother}
-use Rattle.rule_trees.specs.declared.full.FullStructure.{FullStructure}
+use Rattle.rule_trees.specs.Fulls.{FullTree}
 use Rattle.tree_structures.specs.declared.question.Question.{Question}
 use Rattle.tree_structures.specs.declared.question.Question.TheVariants.{Entry, Mother}
 use Rattle.tree_structures.specs.declared.memo.Known.{Known}
@@ -91,10 +91,10 @@ module _ (t : SignTree) where
   kept_below known n f e = let low = slice_get_within (kept t known) n f e in let long = length-map known (λ (x : Known). view_of t x.full) in omega (arith, low, long)
 
   -- a structure by its number
-  pub kept_full : (memo : FullMemo) (n : ℕ) (full : FullStructure) (f : Structure) → slice_get (fulls_in memo) n ≡ Some full → slice_get (kept t memo.known.items) n ≡ Some f → ((shared : Arc FullStructure Global) → arc_value shared ≡ full → view_of t shared ≡ f)
+  pub kept_full : (memo : FullMemo) (n : ℕ) (full : FullTree) (f : Structure) → slice_get (fulls_in memo) n ≡ Some full → slice_get (kept t memo.known.items) n ≡ Some f → ((shared : Arc FullTree Global) → arc_value shared ≡ full → view_of t shared ≡ f)
   kept_full memo n full f a b = kept_known memo.known.items n full f a b
     where
-      kept_known : (known : List Known) (n : ℕ) (full : FullStructure) (f : Structure) → slice_get (map (λ (k : Known). arc_value k.full) known) n ≡ Some full → slice_get (kept t known) n ≡ Some f → (shared : Arc FullStructure Global) → arc_value shared ≡ full → view_of t shared ≡ f
+      kept_known : (known : List Known) (n : ℕ) (full : FullTree) (f : Structure) → slice_get (map (λ (k : Known). arc_value k.full) known) n ≡ Some full → slice_get (kept t known) n ≡ Some f → (shared : Arc FullTree Global) → arc_value shared ≡ full → view_of t shared ≡ f
       kept_known [] n full f a b shared is = absurd (cc)
       kept_known (k ∷ ks) zero full f a b shared is = cc
       kept_known (k ∷ ks) (suc n) full f a b shared is = kept_known ks n full f a b shared is

@@ -8,7 +8,7 @@ use Rattle.item_model.specs.Lexical.{IsEntry}
 use Rattle.item_model.specs.Signs.{Signs}
 use Rattle.book_signs.specs.Trees.{SignTree, signs_of}
 use Rattle.rule_trees.specs.Mothers.{view_in, IsMother}
-use Rattle.rule_trees.specs.declared.full.FullStructure.{FullStructure}
+use Rattle.rule_trees.specs.Fulls.{FullTree}
 use Rattle.tree_structures.specs.declared.question.Numbers.{Numbers}
 use Rattle.tree_structures.specs.declared.question.Question.{Question}
 use Rattle.tree_structures.specs.declared.question.Question.TheVariants.{Entry, Mother}
@@ -16,13 +16,13 @@ use Rattle.tree_structures.specs.declared.memo.Known.{Known}
 use Rattle.tree_structures.specs.declared.memo.FullMemo.{FullMemo}
 
 -- the structure of a full structure that is shared
-abbrev pub view_of : SignTree → Arc FullStructure Global → Structure
+abbrev pub view_of : SignTree → Arc FullTree Global → Structure
 view_of t full = view_in t (arc_value full).graph
 
 abbrev pub numbers_of : Numbers → List ℕ
 numbers_of n = take n.count (n.a ∷ n.b ∷ n.c ∷ n.d ∷ [])
 
-abbrev pub fulls_in : FullMemo → List FullStructure
+abbrev pub fulls_in : FullMemo → List FullTree
 fulls_in memo = map (λ k. arc_value k.full) memo.known.items
 
 -- the structures that are kept, in order of number

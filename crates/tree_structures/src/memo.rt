@@ -5,7 +5,7 @@ ghost use Rattle.std.specs.Global.{Global};
 ghost use Rattle.std.specs.Arc.{arc_value};
 ghost use Rattle.std.specs.declared.sync.Arc.{Arc};
 ghost use Rattle.book_signs.specs.Trees.{SignTree};
-ghost use Rattle.rule_trees.specs.declared.full.FullStructure.{FullStructure};
+ghost use Rattle.rule_trees.specs.Fulls.{FullTree};
 ghost use Rattle.tree_structures.specs.declared.memo.Known.{Known};
 ghost use Rattle.tree_structures.specs.Known.{IsRight, fulls_in};
 
@@ -78,7 +78,7 @@ impl FullMemo {
         full: FullStructure,
     ) -> Result<u32, NoMemory>
         ensures number { IfOk result (λ number. number ≡ length self.old.known.items) }
-        ensures known { IfOk result (λ _. (shared : Arc FullStructure Global) × (arc_value shared ≡ full) × (self.new.known.items ≡ self.old.known.items ++ record { question = question; full = shared } ∷ [])) }
+        ensures known { IfOk result (λ _. (shared : Arc FullTree Global) × (arc_value shared ≡ full) × (self.new.known.items ≡ self.old.known.items ++ record { question = question; full = shared } ∷ [])) }
     {
         let Ok(number) = u32::try_from(self.known.len()) else {
             return Err(NoMemory);

@@ -2,6 +2,7 @@
 use Rattle.std.specs.Prelude.{ℕ, ◌≡◌, ◌<◌, ◌^◌, List, None, Some, length}
 use Rattle.chart_core.specs.Kept.{InRange}
 use Rattle.grammar_rules.specs.Lines.{AreShapesOf, AreFeedsOf, HaveAll}
+use Rattle.grammar_rules.specs.Remembered.{IsMemoryOf}
 use Rattle.book_signs.specs.Trees.{signs_of, entries_of, lexical_rules_of}
 use Rattle.lexical_items.specs.Said.{words_said}
 use Rattle.packed_items.specs.Answers.{limits_in}
@@ -20,9 +21,10 @@ use Rattle.item_counts.specs.declared.Count.{Count}
 use Rattle.self_tests.specs.Items.{AreCounted}
 use Rattle.self_tests.specs.declared.answering.Ready.{Ready}
 
--- shapes and tables are made of the signs, and lexicon and spelling have their entries and lexical rules
+-- shapes and tables are made of the signs, what lines share is of both, and lexicon and spelling have their entries and lexical rules
 pub record IsReady (r : Ready) : Type 0 where
   pub shapes : AreShapesOf r.signs.now r.shapes.now
+  pub shared : IsMemoryOf r.signs.now r.shapes.now r.shared.now
   pub feeds : AreFeedsOf r.signs.now r.feeds.now
   pub have : HaveAll r.signs.now r.lexicon.now r.spelling.now
   pub limits : InRange r.limits

@@ -1,4 +1,4 @@
-use Rattle.std.proofs.Common.{◌≡◌, ◌<◌, map, sym, subst}
+use Rattle.std.proofs.Common.{◌≡◌, ◌<◌, ◌∙◌, map, sym, ap, subst}
 use Rattle.fs_model.specs.Closure.{AreConsistent}
 use Rattle.rule_model.specs.Mothers.{Meant}
 use Rattle.item_model.specs.Signs.{rule_system}
@@ -10,12 +10,16 @@ use Rattle.lexical_items.specs.Said.{words_said}
 use Rattle.lexical_items.specs.Seen.{lattice_seen}
 use Rattle.lexical_items.specs.Views.{lexeme_seen}
 use Rattle.grammar_rules.specs.Lines.{AreShapesOf}
+use Rattle.grammar_rules.specs.Remembered.{MemoryTree, IsMemoryOf}
 use Rattle.grammar_rules.specs.Views.{item_answer}
 use Rattle.grammar_rules.proofs.Calls.{all_lexemes, lexeme_sound, call_fit, call_answer, same_lined, same_belong}
 use Rattle.grammar_rules.proofs.parsing.answer_trees.Goals as goal
 
 pub leaves_of-requires-clause-shapes : goal.leaves_of-requires-clause-shapes
 leaves_of-requires-clause-shapes g c = subst (AreShapesOf c.args.signs.now) (sym c.shapes-plain.ensures) c.requires.shapes
+
+pub leaves_of-requires-clause-shared : goal.leaves_of-requires-clause-shared
+leaves_of-requires-clause-shared g c = subst (λ s. IsMemoryOf c.args.signs.now s c.args.shared.now) (sym c.shapes-plain.ensures) c.requires.shared
 
 pub leaves_of-requires-clause-forward : goal.leaves_of-requires-clause-forward
 leaves_of-requires-clause-forward g c =
@@ -28,6 +32,9 @@ leaves_of-requires-clause-sound g c =
     let words = words_said (entries_of g) (lexical_rules_of g) c.args._lexicon.now c.args._spelling.now in
     all_lexemes (lexeme_seen (λ full. view_in c.args.signs.now full.graph)) g words (lattice_seen (lattice_of c.args._lattice.now)) c.args.limits.now.lexical (λ x. AreConsistent g.system (Meant (rule_system g) x.full)) c.args.trees.now
     (lexeme_sound g words (lattice_seen (lattice_of c.args._lattice.now)) c.args.limits.now.lexical) c.requires.known.1
+
+pub invariant_of-fulls : goal.invariant_of-fulls
+invariant_of-fulls g c = record { same = c.mothers.ensures ∙ ap (λ (m : MemoryTree). m.signs) c.requires.shared }
 
 pub answer_remembered-found-requires-clause-leaves : goal.answer_remembered-found-requires-clause-leaves
 answer_remembered-found-requires-clause-leaves g c κs within =

@@ -6,7 +6,7 @@ use Rattle.rule_model.specs.Mothers.{Meant}
 use Rattle.item_model.specs.Signs.{rule_system}
 use Rattle.item_model.specs.Trees.{Full}
 use Rattle.book_signs.specs.Trees.{signs_of}
-use Rattle.rule_trees.specs.declared.full.FullStructure.{FullStructure}
+use Rattle.rule_trees.specs.Fulls.{FullTree}
 use Rattle.rule_trees.specs.Mothers.{IsMade, view_in}
 use Rattle.mrs_places.specs.Paths.{paths_of}
 use Rattle.tree_structures.specs.Meant.{IsMeantBy}
@@ -29,14 +29,14 @@ closed_of-requires-clause-made c =
     let t = c.args.signs.now in
     let g = signs_of t in
     let made = c.structure_laws.ensures.made g (derivation_of c.args.tree.now) (view_in t (arc_value c.in-Some.full).graph) (rw c.in-Some.is at c.in_ok-full.ensures.full) in
-    subst (λ (f : FullStructure). IsMade g (view_in t f.graph)) (sym c.deref.ensures) made
+    subst (λ (f : FullTree). IsMade g (view_in t f.graph)) (sym c.deref.ensures) made
 
 pub closed_of-requires-clause-sound : goal.closed_of-requires-clause-sound
 closed_of-requires-clause-sound c =
     let t = c.args.signs.now in
     let g = signs_of t in
     let sound = c.structure_laws.ensures.sound g (derivation_of c.args.tree.now) (view_in t (arc_value c.in-Some.full).graph) (rw c.in-Some.is at c.in_ok-full.ensures.full) in
-    subst (λ (f : FullStructure). AreConsistent g.system (Meant (rule_system g) (view_in t f.graph))) (sym c.deref.ensures) sound
+    subst (λ (f : FullTree). AreConsistent g.system (Meant (rule_system g) (view_in t f.graph))) (sym c.deref.ensures) sound
 
 pub line_of_graph-requires-clause-of : goal.line_of_graph-requires-clause-of
 line_of_graph-requires-clause-of c = of_answer c.args.signs.now.book.system (paths_of c.args.paths.now) c.in_ok-graph.graph c.requires.feats c.in_ok-graph.ensures.within
@@ -48,7 +48,7 @@ returns-clause-line c =
     let s : Semantics = record { types = t.book.system.types; paths = paths_of c.args.paths.now } in
     let full : Full g (derivation_of c.args.tree.now) (view_in t (arc_value c.in-Some.full).graph) = rw c.in-Some.is at c.in_ok-full.ensures.full in
     let meant : IsMeantBy g (view_in t (arc_value c.in-Some.full).graph) c.in_ok-graph.graph
-    = subst (λ (f : FullStructure). IsMeantBy g (view_in t f.graph) c.in_ok-graph.graph) c.deref.ensures c.in_ok-graph.ensures.meant in
+    = subst (λ (f : FullTree). IsMeantBy g (view_in t f.graph) c.in_ok-graph.graph) c.deref.ensures c.in_ok-graph.ensures.meant in
     if_ok c.line_of_graph.result (λ line. (outcome : Sought Meaning) × Extracts c.in_ok-graph.graph t.book.system.types (paths_of c.args.paths.now) outcome × (line.items ≡ sought_line outcome))
     (λ line. IsMrsLine g s (derivation_of c.args.tree.now) line.items)
     (λ line h. record { full = view_in t (arc_value c.in-Some.full).graph; is_full = full; graph = c.in_ok-graph.graph; meant = meant; outcome = h.0; extracts = h.1; line_is = h.2 })

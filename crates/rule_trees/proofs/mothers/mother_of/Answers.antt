@@ -26,7 +26,7 @@ returns-in-Some c =
     let t = c.args.signs.now in
     let ds = map (λ d. d.now) c.deref.result.now in
     let made : IsMotherOf t c.args.place ds (Some c.in-Some.graph) = subst (IsMotherOf t c.args.place ds) c.in-Some.is c.in_ok-graph.ensures in
-    let mother : IsMother (signs_of t) c.args.place (map (view_in t) ds) (view_in t c.of.result.graph) =
-    subst (λ g. IsMother (signs_of t) c.args.place (map (view_in t) ds) (view_in t g)) (sym c.of.ensures) made.0 in
-    subst (λ fs. IsMother (signs_of t) c.args.place fs (view_in t c.of.result.graph))
+    let mother : IsMother (signs_of t) c.args.place (map (view_in t) ds) (view_in t c.in_ok-full-in-Some.full.graph) =
+    subst (λ g. IsMother (signs_of t) c.args.place (map (view_in t) ds) (view_in t g)) (sym c.in_ok-full-in-Some.ensures) made.0 in
+    subst (λ fs. IsMother (signs_of t) c.args.place fs (view_in t c.in_ok-full-in-Some.full.graph))
     (views_of t (λ f. f.graph) ds (parts_of c.args.parts.now) (ap (map (λ d. d.now)) c.deref.ensures.value ∙ c.in_ok-daughters.ensures.all)) mother

@@ -1,17 +1,10 @@
-use Rattle.std.proofs.Common.{subst}
-use Rattle.book_signs.specs.Signed.{IsSignsOf}
-use Rattle.book_signs.specs.Trees.{signs_of}
-use Rattle.grammar_load.specs.Views.{grammar_of}
-use Rattle.line_commands.proofs.Counts.{numbered}
+use Rattle.std.proofs.Common.{sym, subst}
+use Rattle.grammar_rules.specs.Lines.{AreShapesOf}
+use Rattle.grammar_rules.specs.Remembered.{IsMemoryOf}
 use Rattle.self_tests.proofs.testing.count_with_shapes.Goals as goal
 
-pub count_by-requires-clause-ready : goal.count_by-requires-clause-ready
-count_by-requires-clause-ready g c κs bound =
-    let signs = signs_of c.args.signs.now in
-    let is : IsSignsOf c.args.grammar.now.book signs = subst (λ b. IsSignsOf b signs) c.requires.book c.laws.ensures.signs in
-    record {
-      shapes = c.requires.shapes;
-      feeds = c.requires.feeds;
-      have = numbered (grammar_of c.args.grammar.now) signs c.requires.loaded is;
-      limits = c.args.test.now.in_range;
-    }
+pub count_with_memory-requires-clause-shapes : goal.count_with_memory-requires-clause-shapes
+count_with_memory-requires-clause-shapes g c κs bound = subst (AreShapesOf c.args.signs.now) (sym c.in-Ok.ensures) c.requires.shapes
+
+pub count_with_memory-requires-clause-shared : goal.count_with_memory-requires-clause-shared
+count_with_memory-requires-clause-shared g c κs bound = subst (λ s. IsMemoryOf c.args.signs.now s c.in-Ok-new.shared) (sym c.in-Ok.ensures) c.in-Ok-new.ensures

@@ -6,7 +6,7 @@ use Rattle.std.proofs.lemmas.Simd.{map-map}
 use Rattle.book_signs.specs.Trees.{signs_of}
 use Rattle.forest_unpack.specs.Parts.{parts_of}
 use Rattle.rule_trees.specs.Mothers.{view_in, IsMade, IsMother, HasDaughters}
-use Rattle.rule_trees.specs.declared.full.FullStructure.{FullStructure}
+use Rattle.rule_trees.specs.Fulls.{FullTree}
 use Rattle.tree_structures.specs.declared.question.Question.TheVariants.{Mother}
 use Rattle.tree_structures.specs.Known.{kept, numbers_of, view_of}
 use Rattle.tree_structures.proofs.Making.{made_of}
@@ -36,7 +36,7 @@ mother_of-requires-clause-made c =
     let g = signs_of t in
     let ss = kept t c.args.memo.now.known.items in
     let fulls = c.in_ok-fulls.fulls.items in
-    let viewer = λ (full : FullStructure). view_in t full.graph in
+    let viewer = λ (full : FullTree). view_in t full.graph in
     let same : map viewer (parts_of c.in_parts.result) ≡ map (view_of t) fulls = ap (map viewer) c.in_parts.ensures.are ∙ map-map viewer arc_value fulls in
     let made = at_all ss (IsMade g) (numbers_of c.args.over) (map (view_of t) fulls) (kept_made t c.args.memo.now c.requires.right) c.in_ok-fulls.ensures in
     made_of g viewer (parts_of c.in_parts.result) (subst (All (IsMade g)) (sym same) made)
@@ -58,7 +58,7 @@ pub returns-in_default-2-clause-number : goal.returns-in_default-2-clause-number
 returns-in_default-2-clause-number c = λ fs are f m.
     let t = c.args.signs.now in
     let fulls = c.in_ok-fulls.fulls.items in
-    let viewer = λ (full : FullStructure). view_in t full.graph in
+    let viewer = λ (full : FullTree). view_in t full.graph in
     let same : map viewer (parts_of c.in_parts.result) ≡ map (view_of t) fulls = ap (map viewer) c.in_parts.ensures.are ∙ map-map viewer arc_value fulls in
     let one : fs ≡ map (view_of t) fulls = at_one (kept t c.args.memo.now.known.items) (numbers_of c.args.over) fs (map (view_of t) fulls) are c.in_ok-fulls.ensures in
     let never = rw c.in_default-2.is at c.in_ok-full.ensures in
@@ -68,7 +68,7 @@ pub returns-clause-stays : goal.returns-clause-stays
 returns-clause-stays c =
     let t = c.args.signs.now in
     let fulls = c.in_ok-fulls.fulls.items in
-    let viewer = λ (full : FullStructure). view_in t full.graph in
+    let viewer = λ (full : FullTree). view_in t full.graph in
     let same : map viewer (parts_of c.in_parts.result) ≡ map (view_of t) fulls = ap (map viewer) c.in_parts.ensures.are ∙ map-map viewer arc_value fulls in
     let mother : IsMother (signs_of t) c.args.place (map viewer (parts_of c.in_parts.result)) (viewer c.in-Some-2.full) = rw c.in-Some-2.is at c.in_ok-full.ensures in
     kept_stays t c.args.memo.now c.keep.new.self (Mother c.args.place c.args.over) c.in-Some-2.full c.requires.right c.in_ok-number.ensures.known
@@ -78,7 +78,7 @@ pub returns-clause-number : goal.returns-clause-number
 returns-clause-number c = λ fs are.
     let t = c.args.signs.now in
     let fulls = c.in_ok-fulls.fulls.items in
-    let viewer = λ (full : FullStructure). view_in t full.graph in
+    let viewer = λ (full : FullTree). view_in t full.graph in
     let same : map viewer (parts_of c.in_parts.result) ≡ map (view_of t) fulls = ap (map viewer) c.in_parts.ensures.are ∙ map-map viewer arc_value fulls in
     let one : fs ≡ map (view_of t) fulls = at_one (kept t c.args.memo.now.known.items) (numbers_of c.args.over) fs (map (view_of t) fulls) are c.in_ok-fulls.ensures in
     let mother : IsMother (signs_of t) c.args.place (map viewer (parts_of c.in_parts.result)) (viewer c.in-Some-2.full) = rw c.in-Some-2.is at c.in_ok-full.ensures in

@@ -4,5 +4,5 @@ use Rattle.lexical_memo.proofs.asked.UnderRulesAsked.same.Goals as goal
 
 pub returns : goal.returns
 returns g c = λ yes number told h.
-    let l = c.args.self.now.fulls.now in
+    let l = c.args.self.now.fulls in
     subst (λ d. IsUnder (g.L.LexicalFulls.signs l) (g.L.LexicalFulls.value l) number d told) (c.same.ensures yes) h

@@ -10,7 +10,7 @@ keep_entry-requires g c =
 pub returns-in-Some : goal.returns-in-Some
 returns-in-Some g c =
     let s = c.self.inside in
-    entry_known g.L.LexicalFulls.signs g.L.LexicalFulls.value c.args.place s.entries.fulls.now s.fulls.now c.args.self.now c.in-Some.known.now c.in_ok-told.told
+    entry_known g.L.LexicalFulls.signs g.L.LexicalFulls.value c.args.place s.entries.fulls s.fulls c.args.self.now c.in-Some.known.now c.in_ok-told.told
     c.self.invariant.0 c.self.view_is c.in_ok-told.ensures c.in-Some.ensures
 
 pub returns : goal.returns

@@ -10,7 +10,7 @@ keep_made-requires g c =
 pub returns-in-Some : goal.returns-in-Some
 returns-in-Some g c =
     let s = c.self.inside in
-    under_known g.L.LexicalFulls.signs g.L.LexicalFulls.value c.args.place s.made.fulls.now s.fulls.now c.args.self.now c.args.full.now c.args.full.now c.in-Some.known.now c.in_ok-told.told
+    under_known g.L.LexicalFulls.signs g.L.LexicalFulls.value c.args.place s.made.fulls s.fulls c.args.self.now c.args.full.now c.args.full.now c.in-Some.known.now c.in_ok-told.told
     c.self.invariant.1 c.self.view_is refl c.in_ok-told.ensures c.in-Some.ensures
 
 pub returns : goal.returns

@@ -16,5 +16,5 @@ pub returns : goal.returns
 returns c =
     let t = c.args.self.now.signs.now in
     let g = signs_of t in
-    entry_full t c.args.place c.structure.result.now (view_in t c.of.result.graph) (has_at (entries_of g) c.requires.0 c.args.place c.requires.1) c.structure.ensures.facts c.structure.ensures.closed c.structure.ensures.short
-    (c.in-Ok.ensures.same ∙ sym (ap (view_in t) c.of.ensures))
+    entry_full t c.args.place c.structure.result.now (view_in t c.in_ok-full.full.graph) (has_at (entries_of g) c.requires.0 c.args.place c.requires.1) c.structure.ensures.facts c.structure.ensures.closed c.structure.ensures.short
+    (c.in-Ok.ensures.same ∙ sym (ap (view_in t) c.in_ok-full.ensures))

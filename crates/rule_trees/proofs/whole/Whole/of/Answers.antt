@@ -3,7 +3,7 @@ use Rattle.fs_unify.specs.Rules.{Grammar}
 use Rattle.type_hierarchy.specs.Table.{count_of}
 use Rattle.constraint_expand.specs.declared.books.Book.{Book}
 use Rattle.rule_trees.proofs.WithinLemmas.{feats_long, within_of}
-use Rattle.rule_trees.proofs.full.FullStructure.of.Goals as goal
+use Rattle.rule_trees.proofs.whole.Whole.of.Goals as goal
 
 pub invariant_of-result : goal.invariant_of-result
 invariant_of-result c =

@@ -4,8 +4,8 @@ use Rattle.fs_unify.specs.Rules.{Grammar}
 use Rattle.type_hierarchy.specs.Table.{count_of}
 use Rattle.constraint_expand.specs.declared.books.Book.{Book}
 use Rattle.rule_trees.proofs.WithinLemmas.{feats_long, short_of}
-use Rattle.rule_trees.proofs.full.FullStructure.is_within.Goals as goal
-use Rattle.rule_trees.proofs.full.FullStructure.is_within.Goals.{then-self-counts, else-self-counts}
+use Rattle.rule_trees.proofs.whole.Whole.is_within.Goals as goal
+use Rattle.rule_trees.proofs.whole.Whole.is_within.Goals.{then-self-counts, else-self-counts}
 
 pub returns-then-self-len : goal.returns-then-self-len
 returns-then-self-len c limit =
