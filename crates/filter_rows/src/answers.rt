@@ -105,10 +105,10 @@ impl Ready<'_, '_, '_, '_, '_, '_, '_, '_, '_> {
         requires valid { IsValid (lattice_of lattice.now) }
     {
         // nothing that another answer remembers
-        let Ok(shapes) = run_shapes(alloc, self.shapes) else {
+        let Ok(shapes) = run_shapes(alloc, &*self.shapes) else {
             return Err(NoMemory);
         };
-        let Ok(shared) = RunMemory::new(alloc, self.signs, self.shapes) else {
+        let Ok(shared) = RunMemory::new(alloc, &*self.signs, &*self.shapes) else {
             return Err(NoMemory);
         };
         let mut work = work(alloc);
