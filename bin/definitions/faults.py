@@ -125,7 +125,7 @@ def unexpected(draft, mark):
         "foo := < ... @, sign >.", "foo := <! sign @>.",
         "foo := sign & @& sign.", ":begin @:foo.", ":begin :instance @.", ":include @foo.", "@. ", "foo :+ @%suffix (a b) sign.",
         "foo := sign @bar := sign.", "foo := [ A.@] sign ].",
-        "@:foo.", "foo := @%prefix :foo.", 'foo := "a" @"b".', "foo := [ @#a sign ].", "foo := < sign . sign @, sign >.", ":end @:foo.",
+        "@:foo.", "foo := %prefix @:foo.", 'foo := "a" @"b".', "foo := [ @#a sign ].", "foo := < sign . sign @, sign >.", ":end @:foo.",
         ":begin :instance :status @.", "%(letter-set (!c ab))@& foo.",
     )
     draft.put(draft.chance.choice(texts).replace("@", mark))
