@@ -14,7 +14,7 @@ use Rattle.line_commands.proofs.ParseLaws.{OneGrammar, OneFault, NotBoth, Calm}
 use Rattle.line_commands.proofs.Speeches.{OneSigns, one-speech, speech-ordered}
 use Rattle.generate_commands.specs.Answers.{Speaker, Bounds, IsAnswer}
 use Rattle.generate_commands.specs.Generating.{c_cont_of, IsSpeakerOf, generate_meaning}
-use Rattle.generate_commands.proofs.OneAnswers.{OneMeaning, NoFault, one-answer}
+use Rattle.generate_commands.proofs.OneAnswers.{OneMeaning, NoFault, OnePlace, one-answer}
 
 -- grammars that are the same say the same
 one-speaker : SameViews → OneSigns → (files : Files) (name : List ℕ) (settings : Option (List ℕ)) (g h : GrammarTree) → HasGrammar files name settings h → IsSameGrammar g h
@@ -25,9 +25,9 @@ one-speaker views signs files name settings g h has same s t a b =
     let path : s.c_cont_path ≡ t.c_cont_path = a.c_cont_path ∙ said ∙ sym b.c_cont_path in
     λ i. record { speech = speech i; c_cont_path = path i }
 
-pub generate-laws : OneGrammar → OneFault → NotBoth → Calm → SameViews → OneSigns → SentenceAnswersAreOne → OneMeaning → NoFault
+pub generate-laws : OneGrammar → OneFault → NotBoth → Calm → SameViews → OneSigns → SentenceAnswersAreOne → OneMeaning → NoFault → OnePlace
     → (name : List ℕ) (settings : Option (List ℕ)) (bounds : Bounds) → Lawful (generate_meaning name settings bounds)
-generate-laws one fault both calm views signs answers meanings faults name settings bounds = record {
+generate-laws one fault both calm views signs answers meanings faults places name settings bounds = record {
   loads = λ files lines pieces refused r. (r.1.0, r.1.1);
   one_first = λ files f g a b. fault files name settings f g a b;
   not_both = λ files f l a. both files name settings l.0 f l.1 a;
@@ -35,7 +35,7 @@ generate-laws one fault both calm views signs answers meanings faults name setti
       let same = one files name settings p.1.0 q.1.0 p.1.1 q.1.1 in
       let speaker = one-speaker views signs (Some files) name settings p.1.0 q.1.0 q.1.1 same p.0 q.0 p.1.2 q.1.2 in
       let order = speech-ordered (Some files) name settings q.1.0 q.0.speech q.1.1 q.1.2.speech in
-      one-answers (IsAnswer q.0 bounds) (one-answer answers meanings faults q.0 bounds order) 1 lines pieces others refused may
+      one-answers (IsAnswer q.0 bounds) (one-answer answers meanings faults places q.0 bounds order) 1 lines pieces others refused may
       (subst (λ s. AreAnswers (IsAnswer s bounds) 1 lines pieces refused) speaker p.2) q.2);
   calm = λ h f x none. calm h name settings f x.0 x.1 none;
 }

@@ -1,4 +1,3 @@
-pub mod Places
 pub mod Renamed
 pub mod SameInputs
 pub mod OneAnswers

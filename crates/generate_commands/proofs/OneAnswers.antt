@@ -6,9 +6,9 @@ use Rattle.mrs_model.specs.Meanings.{Meaning}
 use Rattle.mrs_reading.specs.Laws.{IsRenumbering}
 use Rattle.mrs_reading.specs.Places.{IsPlace, Says}
 use Rattle.mrs_generate.specs.Laws.{SentenceAnswersAreOne}
-use Rattle.generate_commands.specs.Reports.{no_mrs_line, answer_lines, is_refused}
+use Rattle.item_reports.specs.Reports.{no_mrs_line}
+use Rattle.generate_commands.specs.Reports.{answer_lines, is_refused}
 use Rattle.generate_commands.specs.Answers.{Speaker, Bounds, input_of, IsAnswer, no_mrs, answered}
-use Rattle.generate_commands.proofs.Places.{one-place}
 use Rattle.generate_commands.proofs.SameInputs.{same-answer}
 
 abbrev pub OneMeaning : Type 0
@@ -17,9 +17,12 @@ OneMeaning = (line : List ℕ) (m k : Meaning) → IsUtf8 line → Says m (chars
 abbrev pub NoFault : Type 0
 NoFault = (line : List ℕ) (m : Meaning) (at : ℕ) → IsUtf8 line → Says m (chars line) → IsPlace line at → ⊥
 
-module _ (answers : SentenceAnswersAreOne) (meanings : OneMeaning) (faults : NoFault) (s : Speaker) (b : Bounds) (order : IsOrder s.speech.signs.system) where
+abbrev pub OnePlace : Type 0
+OnePlace = (line : List ℕ) (a b : ℕ) → IsPlace line a → IsPlace line b → a ≡ b
+
+module _ (answers : SentenceAnswersAreOne) (meanings : OneMeaning) (faults : NoFault) (places : OnePlace) (s : Speaker) (b : Bounds) (order : IsOrder s.speech.signs.system) where
   pub one-answer : (number : ℕ) (line : List ℕ) (own other : List (List ℕ)) (x y : Bool) → IsAnswer s b number line own x → IsAnswer s b number line other y → (own ≡ other) × (x ≡ y)
-  one-answer number line _ _ _ _ (no_mrs at p) (no_mrs on q) = (ap (λ n. no_mrs_line number n ∷ []) (one-place line at on p q), refl)
+  one-answer number line _ _ _ _ (no_mrs at p) (no_mrs on q) = (ap (λ n. no_mrs_line number n ∷ []) (places line at on p q), refl)
   one-answer number line _ _ _ _ (no_mrs at p) (answered m a u h is) = absurd (faults line m at u h p)
   one-answer number line _ _ _ _ (answered m a u h is) (no_mrs at p) = absurd (faults line m at u h p)
   one-answer number line _ _ _ _ (answered m a u h is) (answered k d v j so) =

@@ -4,10 +4,6 @@ use Rattle.std.specs.Fmt.{decimal}
 use Rattle.item_reports.specs.Reports.{item_line, refused_line}
 use Rattle.generate_model.specs.Sentences.{Sentence, GenAnswer, LexicalDepth, ByUnaryChain, ByEdges, Readings, Sentences}
 
--- a line that writes no MRS; its first fault stands at this byte
-abbrev pub no_mrs_line : ℕ → ℕ → List ℕ
-no_mrs_line number at = item_line number (codes "no-mrs " ++ decimal at)
-
 -- `classes C sentences K`
 abbrev pub counts : ℕ → ℕ → List ℕ
 counts classes sentences = codes "classes " ++ decimal classes ++ codes " sentences " ++ decimal sentences

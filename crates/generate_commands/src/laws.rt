@@ -8,7 +8,7 @@ ghost use Rattle.generate_commands.specs.Generating.{generate_meaning};
 use book_signs::laws::one_signs;
 use command_grammars::laws::grammar_laws;
 use mrs_generate::sentence_laws;
-use mrs_reading::{no_fault, one_meaning};
+use mrs_reading::{no_fault, one_meaning, one_place};
 use rule_model::said_laws;
 
 /// What holds of `generate`.
@@ -21,4 +21,5 @@ pub fn generate_lawful()
     sentence_laws();
     one_meaning();
     no_fault();
+    one_place();
 }

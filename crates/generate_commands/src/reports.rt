@@ -1,14 +1,14 @@
 //! The report lines of an answer.
 
 ghost use Rattle.std.specs.Prelude.{◌≡◌, ◌∷◌, [], true, map, IfOk};
-ghost use Rattle.item_reports.specs.Reports.{item_line};
+ghost use Rattle.item_reports.specs.Reports.{item_line, no_mrs_line};
 ghost use Rattle.tree_sentences.specs.Views.{sentence_seen};
 ghost use Rattle.mrs_generate.specs.Views.{answer_seen};
-ghost use Rattle.generate_commands.specs.Reports.{no_mrs_line, counts, sentence_line, sentences_lines, answer_lines, is_refused};
+ghost use Rattle.generate_commands.specs.Reports.{counts, sentence_line, sentences_lines, answer_lines, is_refused};
 
 use crate::NoMemory;
 use endings::pieces::Report;
-use item_reports::lines_of_refusal;
+use item_reports::{lines_of_no_mrs, lines_of_refusal};
 use mrs_generate::GenAnswer;
 use std::alloc::Global;
 use tree_sentences::Sentence;
@@ -101,11 +101,8 @@ pub(crate) fn report_of_no_mrs(alloc: Global, number: u64, at: usize) -> Result<
     ensures lines { IfOk result (λ r. map (λ l. l.items) r.lines.items ≡ no_mrs_line number at ∷ []) }
     ensures refused { IfOk result (λ r. r.refused ≡ true) }
 {
-    let line = format!(in alloc; "item {number} no-mrs {at}\n")?;
-    let mut lines = Vec::new(alloc);
-    lines.push(line.into_bytes())?;
     Ok(Report {
-        lines,
+        lines: lines_of_no_mrs(alloc, number, at)?,
         refused: true,
     })
 }

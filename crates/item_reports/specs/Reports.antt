@@ -1,4 +1,4 @@
--- The report lines of a line that is parsed, each with its end.
+-- The report lines of a line of the input, each with its end.
 use Rattle.std.specs.Prelude.{ℕ, Bool, true, false, List, [], ◌∷◌, ◌++◌, length, map, codes}
 use Rattle.std.specs.Fmt.{decimal}
 use Rattle.derivation.specs.Trees.{Derivation}
@@ -17,7 +17,11 @@ no_text_line number = item_line number (codes "not-utf8")
 abbrev pub no_lattice_line : ℕ → ℕ → List ℕ
 no_lattice_line number at = item_line number (codes "no-lattice " ++ decimal at)
 
--- the name of a limit that an item breaks
+-- a line that writes no MRS; its first fault stands at this byte
+abbrev pub no_mrs_line : ℕ → ℕ → List ℕ
+no_mrs_line number at = item_line number (codes "no-mrs " ++ decimal at)
+
+-- an item that is refused, by this name: the limit that it breaks, or what of it isn't answered
 abbrev pub refused_line : ℕ → List ℕ → List ℕ
 refused_line number name = item_line number (codes "refused " ++ name)
 

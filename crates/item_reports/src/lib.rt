@@ -1,11 +1,12 @@
-//! What is written of a line that is parsed, and the words of a line.
+//! What is written of a line of the input, and the words of a line.
 #![tactic(auto)]
 
 mod report;
 mod sentence;
 
 pub use report::{
-    counts_line, lines_of_no_lattice, lines_of_no_text, lines_of_refusal, lines_of_trees, tree_line,
+    counts_line, lines_of_no_lattice, lines_of_no_mrs, lines_of_no_text, lines_of_refusal,
+    lines_of_trees, tree_line,
 };
 pub use sentence::words_of_line;
 pub use word_lists::NoMemory;

@@ -3,13 +3,13 @@
 ghost use Rattle.std.specs.Prelude.{◌≡◌, ◌++◌, ◌∷◌, [], All, length, map, IfOk, string_bytes};
 ghost use Rattle.derivation.specs.Text.{IsNamed};
 ghost use Rattle.derivation.specs.Views.{derivation_of};
-ghost use Rattle.item_reports.specs.Reports.{item_line, no_text_line, no_lattice_line, refused_line, counts, tree_line, trees_lines};
+ghost use Rattle.item_reports.specs.Reports.{item_line, no_text_line, no_lattice_line, no_mrs_line, refused_line, counts, tree_line, trees_lines};
 
 use derivation::{Tree, write};
 use std::alloc::Global;
 use word_lists::NoMemory;
 
-/// `item N refused NAME`: the one line of an item that breaks the limit of this name.
+/// `item N refused NAME`: the one line of an item that is refused, by the name of the limit that it breaks or of what isn't answered.
 pub fn lines_of_refusal(alloc: Global, number: u64, name: &str) -> Result<Vec<Vec<u8>>, NoMemory>
     ensures { IfOk result (λ lines. map (λ l. l.items) lines.items ≡ refused_line number name.now ∷ []) }
 {
@@ -34,6 +34,16 @@ pub fn lines_of_no_lattice(alloc: Global, number: u64, at: u32) -> Result<Vec<Ve
     ensures { IfOk result (λ lines. map (λ l. l.items) lines.items ≡ no_lattice_line number at ∷ []) }
 {
     let line = format!(in alloc; "item {number} no-lattice {at}\n")?;
+    let mut lines = Vec::new(alloc);
+    lines.push(line.into_bytes())?;
+    Ok(lines)
+}
+
+/// `item N no-mrs AT`: the one line of a line that writes no MRS; its first fault stands at this byte.
+pub fn lines_of_no_mrs(alloc: Global, number: u64, at: usize) -> Result<Vec<Vec<u8>>, NoMemory>
+    ensures { IfOk result (λ lines. map (λ l. l.items) lines.items ≡ no_mrs_line number at ∷ []) }
+{
+    let line = format!(in alloc; "item {number} no-mrs {at}\n")?;
     let mut lines = Vec::new(alloc);
     lines.push(line.into_bytes())?;
     Ok(lines)

@@ -21,3 +21,4 @@ pub mod Linking
 pub mod Validity
 pub mod Rises
 pub mod Renumbered
+pub mod Placed

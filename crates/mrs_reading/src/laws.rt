@@ -1,8 +1,9 @@
 //! Laws of texts and their meanings.
 
-ghost use Rattle.std.specs.Prelude.{ℕ, List};
+ghost use Rattle.std.specs.Prelude.{◌≡◌, ℕ, List};
 ghost use Rattle.std.specs.Str.{IsUtf8, chars};
 ghost use Rattle.mrs_model.specs.Meanings.{Meaning};
+ghost use Rattle.mrs_model.specs.Valid.{IsValid};
 ghost use Rattle.mrs_reading.specs.Laws.{IsRenumbering};
 ghost use Rattle.mrs_reading.specs.Places.{IsPlace, Says};
 
@@ -22,3 +23,13 @@ pub fn no_fault()
 {
     mrs_spelling::not_both();
 }
+
+/// A law: an MRS that a text says is valid. It does nothing.
+pub fn all_valid()
+    ensures { (line : List ℕ) (m : Meaning) → IsUtf8 line → Says m (chars line) → IsValid m }
+{}
+
+/// A law: a line has one place of a first fault. It does nothing.
+pub fn one_place()
+    ensures { (line : List ℕ) (a b : ℕ) → IsPlace line a → IsPlace line b → a ≡ b }
+{}

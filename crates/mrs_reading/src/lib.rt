@@ -10,5 +10,5 @@ mod ordered;
 mod table;
 mod texts;
 
-pub use laws::{no_fault, one_meaning};
+pub use laws::{all_valid, no_fault, one_meaning, one_place};
 pub use lines::{MrsFault, read};

@@ -3,7 +3,7 @@ use Rattle.mrs_model.specs.Views.{meaning_of}
 use Rattle.mrs_reading.specs.Places.{IsPlace}
 use Rattle.line_commands.proofs.Answered.{if-ok, if-both}
 use Rattle.generate_commands.specs.Answers.{IsAnswer}
-use Rattle.generate_commands.specs.Reports.{no_mrs_line}
+use Rattle.item_reports.specs.Reports.{no_mrs_line}
 use Rattle.generate_commands.specs.Inner.Generators.{IsReportOf, speaker_of, bounds_of}
 use Rattle.generate_commands.proofs.Answered.{answered-with, wrong-with}
 use Rattle.generate_commands.proofs.answering.Generator.report.Goals as goal
