@@ -29,7 +29,7 @@ class Free(Writer):
     """Writes an MRS as the grammar of texts allows it."""
 
     def __init__(self, chance, mrs):
-        numbers = chance.sample(range(40), len(mrs.variables))
+        numbers = chance.sample(range(max(40, len(mrs.variables))), len(mrs.variables))
         super().__init__(shuffled(chance, mrs), dict(zip(mrs.occurring(), numbers)), self.free)
         self.chance = chance
 

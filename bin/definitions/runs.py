@@ -7,12 +7,14 @@ from .items import generate_answer, parse_answer
 from .mrs import Mrs, are_equal, contribution, mrs_line, mrs_of, DEFAULTS
 from .faults import draft_of
 from .mrs_texts import asked_texts
+from .scope_cases import LIMITS, asked_lines
+from .scopes import lines_of_scopes
 from .semantic_cases import semantic_case
 from .spelling_cases import lines_of, spelling_case
 from .structures import TooMuch
 from .type_cases import types_asked
 
-MOST_MRSS, BROKEN = 12, 20
+MOST_MRSS, BROKEN, SCOPES = 12, 20, 30
 CHECK = ["check", "g", "--settings", "set"]
 
 
@@ -147,4 +149,25 @@ def broken_run(chance):
     return {}, asked
 
 
-RUNS = {"syntax": syntax_run, "semantics": semantics_run, "spelling": spelling_run, "types": types_run, "broken": broken_run}
+def scope_run(chance):
+    """MRSs, a line each, with a limit of readings. No grammar is read, and a file of settings that isn't there is no fault."""
+    limit, lines, reports, refused = chance.choice(LIMITS), [], [], False
+    for text, mrs in asked_lines(chance, SCOPES):
+        number = len(lines) + 1
+        if isinstance(mrs, int):
+            report, is_refused = [f"item {number} no-mrs {mrs}"], True
+        else:
+            try:
+                report, is_refused = lines_of_scopes(number, mrs, limit)
+            except TooMuch:
+                continue
+        refused |= is_refused
+        lines.append(text)
+        reports.append(report)
+    more = ["--settings", "missing"] if chance.random() < 0.1 else []
+    return {}, [Asked(["scope", "--readings", str(limit), *more, *workers_of(chance)], reports, lines, 4 if refused else 0)]
+
+
+RUNS = {
+    "syntax": syntax_run, "semantics": semantics_run, "spelling": spelling_run, "types": types_run, "broken": broken_run, "scope": scope_run,
+}
