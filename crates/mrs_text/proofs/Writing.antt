@@ -6,8 +6,8 @@ use Rattle.std.proofs.lemmas.List.{take_more}
 use Rattle.mrs_model.specs.declared.Icon.{Icon}
 use Rattle.mrs_model.specs.Views.{icon_of}
 use Rattle.mrs_model.specs.Meanings.{Variable, Meaning}
-use Rattle.mrs_text.specs.Written.{Part, bytes, variable, ep_parts, list_parts, icons_parts, parts, place_of, seen_after, text_after, variable_text, variable_at}
-use Rattle.mrs_text.specs.Inner.Writing.{Known, IsWritten, seen_all, first_parts}
+use Rattle.mrs_text.specs.Written.{Part, bytes, variable, ep_parts, list_parts, icons_parts, parts, place_of, seen_after, seen_all, text_after, variable_text, variable_at}
+use Rattle.mrs_text.specs.Inner.Writing.{Known, IsWritten, first_parts}
 
 pub seen_all-append : (seen : List ℕ) (ps qs : List Part) → seen_all seen (ps ++ qs) ≡ seen_all (seen_all seen ps) qs
 seen_all-append seen [] qs = refl

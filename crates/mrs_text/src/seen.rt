@@ -1,7 +1,7 @@
 //! The variables that were written, with their numbers.
 
-ghost use Rattle.std.specs.Prelude.{◌≡◌, ◌<◌, ◌∷◌, ◌++◌, [], None, length, IfOk, OnOk};
-ghost use Rattle.mrs_text.specs.Written.{place_of};
+ghost use Rattle.std.specs.Prelude.{◌≡◌, ◌<◌, ◌∷◌, ◌++◌, ℕ, [], None, length, slice_index, IfOk, OnOk};
+ghost use Rattle.mrs_text.specs.Written.{place_of, or_zero};
 ghost use Rattle.mrs_text.specs.Inner.Writing.{Known};
 
 use mrs_model::NoMemory;
@@ -70,5 +70,37 @@ impl Seen {
         self.order.push(v)?;
         self.slots[v as usize] = at;
         Ok(())
+    }
+
+    /// How many variables there can be.
+    fn size(&self) -> usize
+        ensures { result ≡ self.now.size }
+    {
+        self.slots.len()
+    }
+
+    /// The number of each variable, and 0 for one that wasn't written.
+    pub(crate) fn numbers(&self, alloc: Global) -> Result<Vec<u32>, NoMemory>
+        ensures size { IfOk result (λ ns. length ns.items ≡ self.now.size) }
+        ensures each { IfOk result (λ ns. (v : ℕ) → v < length ns.items → slice_index ns.items v ≡ or_zero (place_of v self.now.order)) }
+    {
+        let size = self.size();
+        let mut out = Vec::with_capacity(alloc, size)?;
+        for v in 0..size {
+            out.push(self.number_at(v)?)?;
+        }
+        Ok(out)
+    }
+
+    // (a number past u32 has no room in the table)
+    fn number_at(&self, v: usize) -> Result<u32, NoMemory>
+        requires { v < self.now.size }
+        ensures { IfOk result (λ n. n ≡ or_zero (place_of v self.now.order)) }
+    {
+        let variable = u32::try_from(v).map_err(|_| NoMemory)?;
+        match self.number(variable) {
+            Some(number) => u32::try_from(number).map_err(|_| NoMemory),
+            None => Ok(0),
+        }
     }
 }

@@ -27,10 +27,12 @@ pub fn write(alloc: Global, mrs: &Mrs, into: &mut Vec<u8>) -> Result<(), NoMemor
     Ok(())
 }
 
-fn put_mrs(mrs: &Mrs, seen: &mut Seen, into: &mut Vec<u8>) -> Result<(), NoMemory>
+/// The text of an MRS.
+pub(crate) fn put_mrs(mrs: &Mrs, seen: &mut Seen, into: &mut Vec<u8>) -> Result<(), NoMemory>
     requires valid { IsValid (meaning_of mrs.now) }
     requires size { seen.old.size ≡ length mrs.now.vars.items }
     ensures written { OnOk result (IsWritten (meaning_of mrs.now).vars (parts (meaning_of mrs.now)) seen.old into.old.items seen.new into.new.items) }
+    ensures size { seen.new.size ≡ seen.old.size }
 {
     put_first(mrs, seen, into)?;
     put_eps(&mrs.eps, &mrs.vars, seen, into)?;

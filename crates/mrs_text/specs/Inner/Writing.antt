@@ -1,7 +1,7 @@
 -- What is written by parts, and which variables were written after them.
 use Rattle.std.specs.Prelude.{ℕ, ◌≡◌, ◌<◌, List, [], ◌∷◌, ◌++◌, length, slice_index, codes}
 use Rattle.mrs_model.specs.Meanings.{Variable, Meaning}
-use Rattle.mrs_text.specs.Written.{Part, bytes, variable, place_of, seen_after, text_after}
+use Rattle.mrs_text.specs.Written.{Part, bytes, variable, seen_all, text_after}
 
 -- the variables that were written, in order of first occurrence, and how many there are in all
 pub record Known : Type 0 where
@@ -12,11 +12,6 @@ pub record Known : Type 0 where
 pub record AreSlots (order slots : List ℕ) : Type 0 where
   pub within : (i : ℕ) → i < length order → slice_index order i < length slots
   pub placed : (i : ℕ) → i < length order → slice_index slots (slice_index order i) ≡ i
-
-abbrev pub seen_all : List ℕ → List Part → List ℕ
-seen_all seen [] = seen
-seen_all seen (bytes b ∷ ps) = seen_all seen ps
-seen_all seen (variable v ∷ ps) = seen_all (seen_after (place_of v seen) seen v) ps
 
 -- the text of the parts came to the old one, and their variables to those that were written
 pub record IsWritten (vars : List Variable) (ps : List Part) (seen : Known) (old : List ℕ) (after : Known) (new : List ℕ) : Type 0 where

@@ -1,4 +1,4 @@
-use Rattle.std.proofs.Common.{[], ◌∷◌, ◌++◌, map, codes, refl, ap}
+use Rattle.std.proofs.Common.{◌∙◌, [], ◌∷◌, ◌++◌, map, codes, refl, ap}
 use Rattle.std.specs.List.{flat_map}
 use Rattle.mrs_model.specs.Views.{variable_of, predication_of, hcon_of, icon_of, meaning_of}
 use Rattle.mrs_text.specs.Written.{bytes, ep_parts, list_parts, icons_parts, parts}
@@ -25,4 +25,5 @@ returns c =
           (written_on vars icons end _ _ _ _ _ _
           (written_same _ vars _ icons _ _ _ _ (ap (map variable_of) c.deref-6.ensures.value) (ap (λ l. icons_parts (map icon_of l)) c.deref-5.ensures.value) c.in_ok-put_icons.ensures.written)
           (written_bytes vars _ _ _ (codes " ]") c.in_ok-extend_from_slice-2.ensures.items))))));
+      size = c.put_icons.ensures.size ∙ (c.put_hcons.ensures.size ∙ (c.put_eps.ensures.size ∙ c.put_first.ensures.size));
     }

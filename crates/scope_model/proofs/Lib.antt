@@ -1,0 +1,16 @@
+pub mod Lists
+pub mod Led
+pub mod Under
+pub mod Ends
+pub mod Full
+pub mod Ordered
+pub mod Climb
+pub mod Same
+pub mod Whole
+pub mod Going
+pub mod Plugs
+pub mod First
+pub mod Count
+pub mod Answered
+pub mod Higher
+pub mod Allowed
