@@ -42,11 +42,9 @@ pub enum Found {
 #[derive(Debug, Drop, Clone, Copy, PartialEq, Eq)]
 pub struct NoMemory;
 
-// Below so many leaves one worker is done before a second one has started.
-const FEW: usize = 6;
-
-// Finishes the chart over these leaves. Where smaller hosts are to come first, one worker does so by the ordered pass, on the
-// caller's thread, and so it is done where leaves are few; otherwise all workers do so together, one of them on the caller's thread.
+// Finishes the chart over these leaves. Where smaller hosts are to come first, the ordered pass does so on the caller's thread,
+// however many workers there are: a turn at a shared chart costs more than most of its tasks, and this pass stops at the least size by
+// which a limit is broken. In any other order all workers do so together, one of them on the caller's thread.
 fn finish_chart<R: Wait + Threads + Sync, S: Shapes + Send + Sync, P: Rank + Sync>(
     rt: &R,
     alloc: Global,
@@ -68,7 +66,7 @@ where
         (IsPassed (grammar_of S.Shapes S.Cover.Cover.own shapes.now) (S.full shapes.now) (S.agrees shapes.now) (limits_seen limits.now) (map (leaf_seen (S.meaning shapes.now)) leaves.items))
         (IsPassFault (S.calculus shapes.now) (limits_seen limits.now) (map (leaf_seen (S.meaning shapes.now)) leaves.items)) }
 {
-    if priority.is_by_size() && (crew.is_alone() || leaves.len() < FEW) {
+    if priority.is_by_size() {
         return ordered_pass(alloc, leaves, shapes, work, limits);
     }
     saturate(
