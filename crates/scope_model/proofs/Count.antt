@@ -59,7 +59,7 @@ module _ (top : ℕ) (t : ℕ → ℕ) (zero_top : t top ≡ 0) where
   without_top (l ∷ ls) h never =
       let rest = without_top ls (λ k i. h k (inr i)) (λ i. never (inr i)) in
       elim (h l (inl refl)) [
-          inl e ↦ absurd (never (inl (sym e)))
+        | inl e ↦ absurd (never (inl (sym e)))
         | inr e ↦ (let g : total (l ∷ ls) t ≡ t l + total ls t = refl in omega (arith, g, e, rest))
       ]
 
@@ -74,7 +74,7 @@ module _ (top : ℕ) (t : ℕ → ℕ) (zero_top : t top ≡ 0) where
       let rest = with_top ls d.1 (λ k j. h k (inr j)) i in
       let g : total (l ∷ ls) t ≡ t l + total ls t = refl in
       elim (h l (inl refl)) [
-          inl e ↦ absurd (once_in l ls d (subst (λ z. In z ls) (sym e) i))
+        | inl e ↦ absurd (once_in l ls d (subst (λ z. In z ls) (sym e) i))
         | inr e ↦ omega (arith, g, e, rest)
       ]
 

@@ -16,7 +16,7 @@ module _ (f : Frame) (s : State) (top : IsFromTop f s) where
   -- a label that may go under never hole
   pub dead_label : (allowed : ℕ → List ℕ) → IsAllowed f s allowed → (l : ℕ) → IsLabel f l → (IsPlaced s l → ⊥) → allowed l ≡ [] → IsDead f s
   dead_label allowed may l is never e = λ p r x. elim ((homes_in p r x).each l (r.tree.reached l is)) [
-      inl here ↦ never here
+    | inl here ↦ never here
     | inr g ↦ (let c : Contains [] g.0.hole = subst (λ (hs : List ℕ). Contains hs g.0.hole) e (may p r x g.0 l g.1) in in_of [] g.0.hole c)
   ]
 
@@ -34,9 +34,10 @@ module _ (f : Frame) (s : State) (top : IsFromTop f s) where
   -- two labels, one below the other, go under the same hole
   pub together : (a l : ℕ) → LiesBelow f a l → IsLabel f a → (IsPlaced s a → ⊥) → GoTogether f s a l
   together a l below is never = λ p r x o.
-      (let h = homes_in p r x in
-      (λ g. h.same o a l g (below p r),
-       λ g. elim (h.each a (r.tree.reached a is)) [
-           inl there ↦ absurd (never there)
-         | inr k ↦ subst (λ (z : Opening). GoesUnder f s p z a) (h.one k.0 o l (h.same k.0 a l k.1 (below p r)) g) k.1
-       ]))
+      (let h = homes_in p r x in (
+        λ g. h.same o a l g (below p r),
+        λ g. elim (h.each a (r.tree.reached a is)) [
+          | inl there ↦ absurd (never there)
+          | inr k ↦ subst (λ (z : Opening). GoesUnder f s p z a) (h.one k.0 o l (h.same k.0 a l k.1 (below p r)) g) k.1
+        ],
+      ))

@@ -90,7 +90,7 @@ below_placed f p root (y ∷ ks) t x l (inr k) = go (in_of (y ∷ ks) k.0 k.1) (
     go (inl e) rest =
         let o = t.1.owner in
         down root o.label l (rest o.label t.1.placed)
-            (record { by = o; there = t.1.there; from = refl; to = ap (label_at p) t.1.hole ∙ x y (inl refl) ∙ ap label_of (sym e) ∙ k.2 })
+        (record { by = o; there = t.1.there; from = refl; to = ap (label_at p) t.1.hole ∙ x y (inl refl) ∙ ap label_of (sym e) ∙ k.2 })
     go (inr i) rest = rest l (inr (k.0, contains_of ks k.0 i, k.2))
 
 module _ (f : Frame) (root : ℕ) (ks : List Plug) (p : Plugged) (trail : IsTrail f root ks) (apart : AreApart f.openings) (full : IsFull f (state root ks)) (x : Extends (state root ks) p) where

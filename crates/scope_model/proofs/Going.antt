@@ -27,8 +27,10 @@ module _ (f : Frame) (root : ℕ) (ks : List Plug) (p : Plugged) (r : IsReading 
 
   -- the reading goes on by each open hole
   pub step : (o : Opening) → IsOpen f (state root ks) o → MayPlug f (state root ks) (plug o.hole (label_at p o.hole)) × Extends (state root (plug o.hole (label_at p o.hole) ∷ ks)) p
-  step o w = (record { owner = o; there = w.there; hole = refl; placed = w.placed; free = w.free; new = open_unplaced f (state root ks) p led top x o w },
-      record { root = x.root; plugs = λ k c. stays k (in_of (plug o.hole (label_at p o.hole) ∷ ks) k c) })
+  step o w = (
+    record { owner = o; there = w.there; hole = refl; placed = w.placed; free = w.free; new = open_unplaced f (state root ks) p led top x o w },
+    record { root = x.root; plugs = λ k c. stays k (in_of (plug o.hole (label_at p o.hole) ∷ ks) k c) },
+  )
     where
       stays : (k : Plug) → In k (plug o.hole (label_at p o.hole) ∷ ks) → label_at p k.hole ≡ k.label
       stays k (inl e) = subst (λ (z : Plug). label_at p z.hole ≡ z.label) (sym e) refl
@@ -42,7 +44,7 @@ module _ (f : Frame) (root : ℕ) (ks : List Plug) (p : Plugged) (r : IsReading 
   full_at has closed = record {
     labels = all_placed closed;
     holes = λ o c. elim (filled_or ks o.hole) [
-        inl k ↦ (k.0, contains_of ks k.0 k.1, k.2)
+      | inl k ↦ (k.0, contains_of ks k.0 k.1, k.2)
       | inr none ↦ absurd (closed o (record { there = c; placed = all_placed closed o.label (has o c); free = λ j. none j.0 (in_of ks j.0 j.1) j.2 }))
     ];
   }
@@ -100,13 +102,16 @@ module _ (f : Frame) (root : ℕ) (ks ps : List Plug) (t : IsTrail f root ks) (f
 
   -- the plugs of a full state, in order of their holes, are a plugging that goes on from it
   pub plugging_of : IsPlugging f (record { top = root; plugs = ps }) × Extends (state root ks) (record { top = root; plugs = ps })
-  plugging_of = (record {
+  plugging_of = (
+    record {
       top = well.top;
       order = rise;
       every = λ h. (hole_to h, λ c. from_plug h (of_map (λ (z : Plug). z.hole) h ps (in_of (map (λ z. z.hole) ps) h c)));
       labels = λ k d l. (let i = in_at ps k d l in let y = get_or ps k d in well.labels y (contains_of ks y (to_trail y i)));
       own = λ k d l. (let i = in_at ps k d l in let y = get_or ps k d in well.own y (contains_of ks y (to_trail y i)));
-    }, extends)
+    },
+    extends,
+  )
     where
       from_plug : (h : ℕ) → ((k : Plug) × In k ps × (k.hole ≡ h)) → IsHole f h
       from_plug h k = let o = owner_in f root ks t k.0 (to_trail k.0 k.1) in hole_is f o.0 h o.1 (o.2 ∙ k.2)

@@ -61,6 +61,6 @@ led_once_in f p r = record { root = r.tree.root; once = λ l. go l (none_or_some
     go : (l : ℕ) → (times_led f.openings p l ≤ 1) ⊎ (1 ≤ times_led f.openings p l) → times_led f.openings p l ≤ 1
     go l (inl few) = few
     go l (inr some) = elim (r.tree.once l (is_label l some)) [
-        inl e ↦ (let z : times_led f.openings p l ≡ 0 = ap (times_led f.openings p) e ∙ r.tree.root in omega (arith, z))
+      | inl e ↦ (let z : times_led f.openings p l ≡ 0 = ap (times_led f.openings p) e ∙ r.tree.root in omega (arith, z))
       | inr e ↦ omega (arith, e)
     ]

@@ -120,10 +120,13 @@ module _ (f : Frame) (s : State) (p : Plugged) (led : IsLedOnce f p) (top : IsFr
       go (inl here) (inl k) =
           let c = contains_of s.plugs k.0 k.1 in
           inl (inr (k.0, c, sym (x.plugs k.0 c) ∙ ap (label_at p) k.2 ∙ i.to))
-      go (inl here) (inr never) = inr (i.by, record {
+      go (inl here) (inr never) = inr (
+        i.by,
+        record {
           open_hole = record { there = i.there; placed = subst (IsPlaced s) (sym i.from) here; free = λ k. never k.0 (in_of s.plugs k.0 k.1) k.2 };
           below = subst (λ z. Below f p z l) (sym i.to) (at l);
-        })
+        },
+      )
 
   below_open : (o k : Opening) → IsOpen f s o → IsOpen f s k → (a b : ℕ) → label_at p o.hole ≡ a → label_at p k.hole ≡ b → Below f p a b → o ≡ k
   below_open o k v w _ _ d e (at l) = one_opening o k l v.there w.there d e
@@ -136,7 +139,7 @@ module _ (f : Frame) (s : State) (p : Plugged) (led : IsLedOnce f p) (top : IsFr
   homes = record {
     each = λ l b. each p.top l x.root b;
     one = λ o k l g h. elim (comparable (label_at p o.hole) (label_at p k.hole) l g.below h.below) [
-        inl b ↦ below_open o k g.open_hole h.open_hole (label_at p o.hole) (label_at p k.hole) refl refl b
+      | inl b ↦ below_open o k g.open_hole h.open_hole (label_at p o.hole) (label_at p k.hole) refl refl b
       | inr b ↦ sym (below_open k o h.open_hole g.open_hole (label_at p k.hole) (label_at p o.hole) refl refl b)
     ];
     same = λ o a l g b. record { open_hole = g.open_hole; below = lower f p (label_at p o.hole) a l g.below b };
