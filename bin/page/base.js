@@ -49,6 +49,21 @@ function frame(kind, label, drawing) {
   return make("div", { class: "drawing " + kind, tabindex: "0", role: "group", "aria-label": label }, drawing);
 }
 
+/* Makes a drawing larger or smaller, or as wide as its frame; `narrow` does so at first where it is somewhat too wide. */
+function zoomed(svg, factor) {
+  const base = svg.viewBox.baseVal, fit = (svg.parentNode.clientWidth - 2) / base.width, now = svg.width.baseVal.value / base.width;
+  const scale = factor === "fit" ? Math.min(1, fit) : factor === "narrow" ? (fit < 1 && fit >= .6 ? fit : 1) : factor === 1 ? 1 : Math.min(3, Math.max(.1, now * factor));
+  svg.setAttribute("width", base.width * scale);
+  svg.setAttribute("height", base.height * scale);
+  return scale;
+}
+
+/* The buttons that zoom. */
+function zoomButtons(zoom) {
+  return [["−", 1 / 1.2, "smaller"], ["+", 1.2, "larger"], ["1:1", 1, "as it was"], ["fit", "fit", "as wide as the page"]].map(([text, factor, label]) =>
+    make("button", { type: "button", "aria-label": label, title: label, click: () => zoom(factor) }, text));
+}
+
 /* Draws what an element is to hold once it is near the view, and says so in data-drawn. */
 const late = new Map();
 const watcher = new IntersectionObserver((seen) => {

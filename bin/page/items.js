@@ -153,7 +153,7 @@ function nextReading(state, move) {
 
 function zoomAll(state, key) {
   const factor = { f: "fit", "+": 1.2, "-": 1 / 1.2, 0: 1 }[key];
-  for (const one of state.detail.querySelectorAll(".reading")) if (one.tree) one.tree.zoom(factor);
+  for (const one of state.detail.querySelectorAll(".reading")) if (one.zoom) one.zoom(factor);
 }
 
 function facts(row, head) {
@@ -247,14 +247,16 @@ function readingCard(state, reading, at, count, own, show) {
   drawLater(card, () => {
     if (reading.tree && show !== "meanings") {
       card.tree = showTree(readTree(reading.tree), own, name);
-      for (const [text, factor, label] of [["−", 1 / 1.2, "smaller"], ["+", 1.2, "larger"], ["1:1", 1, "as it was"], ["fit", "fit", "as wide as the page"]]) {
-        tools.append(make("button", { type: "button", "aria-label": label, title: label, click: () => card.tree.zoom(factor) }, text));
-      }
       card.append(card.tree.box);
-      card.tree.narrow();
     }
     if (show !== "trees") meaning(card, state, reading);
     card.append(textOf(reading));
+    card.zoom = (factor) => {
+      if (card.tree) card.tree.zoom(factor);
+      for (const svg of card.querySelectorAll(".handles, .scope-tree")) zoomed(svg, factor);
+    };
+    card.zoom("narrow");
+    if (card.querySelector("svg")) tools.append(...zoomButtons(card.zoom));
   });
   return card;
 }

@@ -339,6 +339,7 @@ function scopeView(mrs, scopes) {
     at = (next + scopes.s.length) % scopes.s.length;
     heading.textContent = `Scope ${at + 1} of ${scopes.s.length}`;
     stage.replaceChildren(...scopeDrawing(mrs, scopes.s[at], heading.textContent));
+    if (stage.clientWidth) zoomed(stage.querySelector("svg"), "narrow");
   };
   show(0);
   const button = (text, move, label) => make("button", { type: "button", class: label, "aria-label": label + " scope", click: () => show(at + move) }, text);

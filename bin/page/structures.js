@@ -135,7 +135,6 @@ function structureView(lines) {
     view.count = 0;
     const part = block(root, false, view);
     const svg = sheet(part.w, part.h, "structure-drawing", view.scale || 1, drawBlock(part, 0, 0, view));
-    view.width = part.w + 12;
     Object.assign(svg.dataset, { nodes: view.count, tags: svg.querySelectorAll(".tag[data-again]").length });
     roving(svg, ".folder, .tag", (here, key) => {
       const all = [...svg.querySelectorAll(".folder, .tag")], at = all.indexOf(here);
@@ -151,8 +150,7 @@ function structureView(lines) {
     view.redraw();
   };
   view.zoom = (factor) => {
-    view.scale = factor === "fit" ? Math.min(1, view.box.clientWidth / view.width) : factor === 1 ? 1 : Math.min(3, Math.max(.1, (view.scale || 1) * factor));
-    view.redraw();
+    view.scale = zoomed(view.box.firstChild, factor);
   };
   return view;
 }
@@ -184,14 +182,14 @@ function structuresSection(structures) {
     }
     view = structureView(lines);
     const button = (text, label, click) => make("button", { type: "button", title: label, "aria-label": label, click }, text);
+    view.redraw();
     detail.append(make("div", { class: "bar" },
       choice("Lists", [["long", "as FIRST and REST", "l"], ["short", "as ⟨ … ⟩", "l"]], "long", (value) => { view.lists = value === "short"; view.redraw(); }),
       make("span", { class: "group" }, make("span", { class: "name" }, "Fold"), button("all", "fold all but two levels", () => view.foldAll(2)), button("nothing", "unfold all", () => view.foldAll(Infinity))),
-      make("span", { class: "group" }, button("−", "smaller", () => view.zoom(1 / 1.2)), button("+", "larger", () => view.zoom(1.2)), button("1:1", "as it was", () => view.zoom(1)), button("fit", "as wide as the page", () => view.zoom("fit")))));
+      make("span", { class: "group" }, zoomButtons(view.zoom))));
     detail.append(make("p", { class: "note" }, "A number in a box is a tag: where it stands alone, the value is the one that stands at its other place. Press a tag to see them all, a type to fold it."));
     detail.append(view.box);
     detail.append(make("details", {}, make("summary", {}, "As text"), make("pre", {}, lines.map(([path, type, first]) => (first === null ? `${path} ${type}` : `${path} = ${first}`)).join("\n"))));
-    view.redraw();
     Object.assign(detail.dataset, { structure: at + 1, lines: lines.length });
   }
   roving(list, "button", (here, key) => {

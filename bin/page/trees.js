@@ -135,7 +135,7 @@ function showTree(root, own, label) {
   const box = frame("tree tall", label + "; arrow keys move in it, Enter folds", null);
   box.removeAttribute("tabindex");
   let scale = 1;
-  const state = { box, root, redraw, zoom };
+  const state = { box, root, zoom };
   function redraw(focused) {
     const all = inOrder(root);
     all.forEach(sizeNode);
@@ -149,7 +149,6 @@ function showTree(root, own, label) {
     svg.addEventListener("click", (event) => { const hit = event.target.closest(".node"); if (hit) fold(hit.node); });
     roving(svg, ".node", (here, key) => step(here.node, key, fold));
     box.replaceChildren(svg);
-    state.width = width + 12;
     const first = focused || root;
     first.drawn.setAttribute("tabindex", "0");
     if (focused) focused.drawn.focus();
@@ -160,14 +159,8 @@ function showTree(root, own, label) {
     redraw(node);
   }
   function zoom(factor) {
-    scale = factor === "fit" ? Math.min(1, (box.clientWidth - 2) / state.width) : factor === 1 ? 1 : Math.min(3, Math.max(.1, scale * factor));
-    redraw();
+    scale = zoomed(box.firstChild, factor);
   }
-  /* A tree that is somewhat too wide is made smaller at first; one that is much too wide scrolls. */
-  state.narrow = () => {
-    const fits = (box.clientWidth - 2) / state.width;
-    if (fits < 1 && fits >= .6) zoom("fit");
-  };
   redraw();
   return state;
 }

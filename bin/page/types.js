@@ -96,7 +96,7 @@ function zoomTypes(state, factor) {
 function redrawTypes(state, focus) {
   const { nodes, width, height } = placeTypes(state.root), shown = new Set(nodes), lines = [], seconds = [];
   for (const one of nodes) {
-    for (const below of shownDaughters(one)) lines.push(link(one, below));
+    for (const below of shownDaughters(one)) lines.push(elbow(one, below));
     for (const below of one.seconds) if (shown.has(below)) seconds.push(link(one, below));
   }
   const svg = sheet(width, height, "types-drawing", state.scale, draw("path", { class: "edges", d: lines.join("") }), draw("path", { class: "second", d: seconds.join("") }), nodes.map((one) => typeNode(one, state)));
@@ -115,6 +115,11 @@ function redrawTypes(state, focus) {
   there.drawn.setAttribute("tabindex", "0");
   if (focus) there.drawn.focus({ preventScroll: true });
   aboutType(state);
+}
+
+function elbow(from, to) {
+  const x = from.x + from.w + 18;
+  return `M${round(x)} ${round(from.y + LINE / 2)}H${round(x + 12)}V${round(to.y + LINE / 2)}H${round(to.x)}`;
 }
 
 function link(from, to) {
