@@ -1,5 +1,6 @@
 """The man page lkb(1): the program's help, the first lines of the README, and what the guide's page of messages says of each."""
 import re
+import textwrap
 
 
 def roff(text):
@@ -9,6 +10,12 @@ def roff(text):
     text = re.sub(r"\*\*([^*]+)\*\*", r"\\fI\1\\fR", text)
     text = re.sub("`([^`]+)`", r"\\fB\1\\fR", text)
     return "\\&" + text if text.startswith((".", "'")) else text
+
+
+def told(text):
+    """Text as lines of roff, each short."""
+    lines = textwrap.wrap(roff(text), 78, break_long_words=False, break_on_hyphens=False)
+    return ["\\&" + line if line.startswith((".", "'")) else line for line in lines]
 
 
 def words_of(text):
@@ -28,11 +35,11 @@ def table_rows(page, heading):
 
 
 def paragraph(text):
-    return [".PP", roff(text)]
+    return [".PP", *told(text)]
 
 
 def entry(name, text):
-    return [".TP", name, roff(text)]
+    return [".TP", name, *told(text)]
 
 
 def faults(messages):
@@ -50,29 +57,28 @@ def report_lines(messages):
             yield from entry(roff(name), cells[0])
 
 
-def manual(help_page, version, readme, messages, pages):
+def manual(help_page, version, day, readme, messages, pages):
     """The page as a text."""
     first = next(part for part in readme.split("\n\n") if part.startswith("`lkb`")).replace("\n", " ")
-    lines = [f'.TH LKB 1 "" "lkb {version}" "User Commands"', ".SH NAME", f"{help_page.name} \\- {roff(help_page.short)}", ".SH SYNOPSIS"]
-    for words, _ in help_page.commands:
-        for word in words.split(", "):
-            more = "" if word.startswith("-") else " [\\fIOPTION\\fR]..."
-            lines += [f"\\fBlkb\\fR {words_of(word)}{more}", ".br"]
-    lines += [".SH DESCRIPTION", roff(first), *(line for text in help_page.prose for line in paragraph(text)), ".SH COMMANDS"]
+    lines = [f'.TH LKB 1 "{day}" "lkb {version}" "User Commands"', ".SH NAME", f"{help_page.name} \\- {roff(help_page.short)}", ".SH SYNOPSIS"]
+    for word in (word for words, _ in help_page.commands for word in words.split(", ")):
+        more = "" if word.startswith("-") else " [\\fIOPTION\\fR]..."
+        lines += [f"\\fBlkb\\fR {words_of(word)}{more}", ".br"]
+    lines[-1:] = [".SH DESCRIPTION", *told(first), *(line for text in help_page.prose for line in paragraph(text)), ".SH COMMANDS"]
     lines += [line for words, text in help_page.commands for line in entry(words_of(words), text)]
     lines += [".SH OPTIONS", *(line for words, text in help_page.options for line in entry(words_of(words), text))]
     lines += [".SH EXIT STATUS", *(line for number, text in help_page.statuses for line in entry(f"\\fB{number}\\fR", text))]
-    lines += [".SH LINES OF THE REPORT", "Of each line there is told how many classes and readings or sentences it has, or one of these."]
+    lines += [".SH LINES OF THE REPORT", *told("Of each line there is told how many classes and readings or sentences it has, or one of these.")]
     lines += report_lines(messages)
     lines += [".SH FAULTS OF A GRAMMAR", "A fault is told on standard error as"]
     lines += [".PP", ".RS", "\\fBlkb:\\fR \\fIFILE\\fR:\\fIPLACE\\fR: \\fINAME\\fR", ".RE"]
     lines += [".PP", "PLACE is a byte of the file, from 0; of a file of settings it is a line, from 1."]
-    lines += [*faults(messages), ".SH EXAMPLES", *examples(), ".SH FILES"]
+    lines += [*faults(messages), ".SH EXAMPLES", *list(examples())[1:], ".SH FILES"]
     lines += entry("\\fI/usr/share/doc/lkb/docs/guide\\fR", "the guide, page by page:")
     for page, text in pages:
         lines += [".RS", *entry(f"\\fI{roff(page)}\\fR", text), ".RE"]
     lines += entry("\\fI/usr/share/doc/lkb/examples\\fR", "grammars, with what they are asked; copy the folder to try them")
-    lines += [".SH SEE ALSO", "A. Copestake (2002), Implementing Typed Feature Structure Grammars, CSLI Publications."]
+    lines += [".SH SEE ALSO", *told("A. Copestake (2002), Implementing Typed Feature Structure Grammars, CSLI Publications.")]
     return "\n".join(lines) + "\n"
 
 
