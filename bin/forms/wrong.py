@@ -65,5 +65,5 @@ def ended(program, main):
         sys.stderr.close()
         sys.exit(6)
     except OSError as fault:
-        print(f"{program}: {fault.filename}: can't be written: {fault.strerror}", file=sys.stderr)
+        print(f"{program}: {fault.filename or 'standard output'}: can't be written: {fault.strerror}", file=sys.stderr)
         sys.exit(6)

@@ -17,7 +17,8 @@ function chartView(edges, unknown) {
   table.append(chartTable(edges, choose));
   return fill(view, {}, [
     unknown.length ? make("p", { class: "note", "data-unknown": unknown.length }, "No entry covers: " + unknown.map(([from, to, word]) => `${word} (${from}:${to})`).join(", ")) : null,
-    bars, make("details", { open: edges.length <= 400 }, make("summary", {}, "How each class is made"), make("div", { class: "scroll" }, table)),
+    bars, edges.some((edge) => edge[3]) ? make("p", { class: "note" }, "★: a root admits the class. Press a class to see of which it is made.") : null,
+    make("details", { open: edges.length <= 400 }, make("summary", {}, "How each class is made"), make("div", { class: "scroll" }, table)),
   ]);
 }
 

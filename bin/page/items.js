@@ -86,7 +86,7 @@ function badges(row) {
 }
 
 function said(row) {
-  if (row.s) return make("span", { class: "said" }, row.s);
+  if (row.s) return make("span", { class: "said", title: row.s.length > 90 ? row.s : null }, row.s);
   return make("span", { class: "said none" }, row.s === "" ? "(an empty line)" : "(its line isn't known)");
 }
 
@@ -107,7 +107,7 @@ function filter(state) {
   let shown = 0;
   for (const item of state.items) {
     const text = inBody ? item.body : item.row.s || "";
-    const fits = holds(item.row) && (wanted === "" || String(item.row.n) === wanted || text.toLowerCase().includes(inBody ? JSON.stringify(wanted).slice(1, -1) : wanted));
+    const fits = holds(item.row) && (wanted === "" || String(item.row.n) === wanted || text.toLowerCase().includes(inBody ? JSON.stringify(wanted).slice(1, -1).replaceAll("<", "\\u003c") : wanted));
     item.element.hidden = !fits;
     shown += fits;
   }
@@ -253,7 +253,8 @@ function readingCard(state, reading, at, count, own, show) {
     card.append(textOf(reading));
     card.zoom = (factor) => {
       if (card.tree) card.tree.zoom(factor);
-      for (const svg of card.querySelectorAll(".handles, .scope-tree")) zoomed(svg, factor);
+      for (const svg of card.querySelectorAll(".handles")) zoomed(svg, factor);
+      for (const svg of card.querySelectorAll(".scope-tree")) atRoot(svg, factor);
     };
     card.zoom("narrow");
     if (card.querySelector("svg")) tools.append(...zoomButtons(card.zoom));

@@ -65,7 +65,9 @@ function readMrs(text) {
 
 const isHandle = (name) => /^h\d+$/.test(name);
 const isQuantifier = (ep) => ["RSTR", "BODY"].every((role) => ep.roles.some((one) => one.role === role && !one.isText && isHandle(one.value)));
-const holesOf = (ep) => ep.roles.filter((one) => !one.isText && isHandle(one.value));
+/* The roles in the order in which they are read: a quantifier's restriction before its body. */
+const rolesOf = (ep) => (isQuantifier(ep) ? ep.roles.slice().sort((a, b) => (a.role === "BODY") - (b.role === "BODY")) : ep.roles);
+const holesOf = (ep) => rolesOf(ep).filter((one) => !one.isText && isHandle(one.value));
 const shortValue = (one) => (one.isText ? `"${one.value}"` : one.value);
 
 /* A variable as a button: pointing at it, or pressing it, shows where else it stands. */
@@ -309,7 +311,7 @@ function scopeTree(mrs, scope) {
 
 function formula(box) {
   const inner = (ep, at) => {
-    const args = ep.roles.map((one) => {
+    const args = rolesOf(ep).map((one) => {
       if (one.isText || !isHandle(one.value)) return shortValue(one);
       const below = box.daughters.find((other) => other.hole.role === one.role && other.hole.ep === at);
       return below ? formula(below) : one.value;
@@ -324,8 +326,14 @@ function scopeDrawing(mrs, scope, label) {
   const { nodes, width, height } = place(root, 34);
   const lines = nodes.flatMap((box) => box.daughters.map((below) => draw("path", { class: "direct", d: curve({ from: box, hole: below.hole, to: below, way: [] }) })));
   const svg = sheet(width, height, "scope-tree", 1, lines, nodes.map(drawBox));
-  fill(svg, { role: "img", "aria-label": label, "data-labels": nodes.length }, []);
+  fill(svg, { role: "img", "aria-label": label, "data-labels": nodes.length, "data-root": round(root.x) }, []);
   return [frame("scope-frame", label, svg), make("p", { class: "formula" }, formula(root))];
+}
+
+/* Zooms a drawing of scopes, and shows its root. */
+function atRoot(svg, factor) {
+  const scale = zoomed(svg, factor);
+  if (factor === "narrow" || factor === 1) svg.parentNode.scrollTo((Number(svg.dataset.root) + 6) * scale - svg.parentNode.clientWidth / 2, 0);
 }
 
 /* The scopes of an MRS, one at a time. */
@@ -339,7 +347,7 @@ function scopeView(mrs, scopes) {
     at = (next + scopes.s.length) % scopes.s.length;
     heading.textContent = `Scope ${at + 1} of ${scopes.s.length}`;
     stage.replaceChildren(...scopeDrawing(mrs, scopes.s[at], heading.textContent));
-    if (stage.clientWidth) zoomed(stage.querySelector("svg"), "narrow");
+    if (stage.clientWidth) atRoot(stage.querySelector("svg"), "narrow");
   };
   show(0);
   const button = (text, move, label) => make("button", { type: "button", class: label, "aria-label": label + " scope", click: () => show(at + move) }, text);

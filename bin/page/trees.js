@@ -160,6 +160,7 @@ function showTree(root, own, label) {
   }
   function zoom(factor) {
     scale = zoomed(box.firstChild, factor);
+    if (factor === "narrow" || factor === 1) box.scrollTo((root.x + 6) * scale - box.clientWidth / 2, 0);
   }
   redraw();
   return state;

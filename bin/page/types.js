@@ -21,7 +21,7 @@ function openSome(root, most) {
   let front = [root], shown = 1;
   while (front.length) {
     const next = front.flatMap((one) => one.daughters);
-    if (shown + next.length > most) break;
+    if (shown + next.length > most && front[0] !== root) break;
     front.forEach((one) => { one.open = true; });
     shown += next.length;
     front = next;
@@ -111,6 +111,7 @@ function redrawTypes(state, focus) {
   });
   roving(svg, ".node", (here, key) => typeStep(state, here.node, key));
   state.box.replaceChildren(svg);
+  state.stale = false;
   const there = shown.has(state.chosen) ? state.chosen : state.root;
   there.drawn.setAttribute("tabindex", "0");
   if (focus) there.drawn.focus({ preventScroll: true });
@@ -152,9 +153,22 @@ function foldType(state, one) {
 }
 
 function choose(state, one) {
-  for (let above = one.mother; above; above = above.mother) above.open = true;
+  let stale = state.stale || !one.drawn || !one.drawn.isConnected;
+  for (let above = one.mother; above; above = above.mother) {
+    stale = stale || !above.open;
+    above.open = true;
+  }
+  const before = state.chosen;
   state.chosen = one;
-  redrawTypes(state, true);
+  if (stale) redrawTypes(state, true);
+  else {
+    for (const other of [before, one]) {
+      other.drawn.classList.toggle("chosen", other === one);
+      other.drawn.setAttribute("aria-selected", String(other === one));
+    }
+    moveFocus(state.box, ".node", one.drawn);
+    aboutType(state);
+  }
   const { box } = state, at = one.drawn.getBoundingClientRect(), seen = box.getBoundingClientRect();
   if (at.left < seen.left || at.right > seen.right || at.top < seen.top || at.bottom > seen.bottom) {
     box.scrollBy((at.left + at.right) / 2 - (seen.left + seen.right) / 2, (at.top + at.bottom) / 2 - (seen.top + seen.bottom) / 2);
@@ -185,6 +199,7 @@ function findTypes(state) {
   state.found = wanted === "" ? [] : [...state.types.values()].filter((one) => one.name.includes(wanted));
   state.found.sort((a, b) => (a.name === wanted ? -1 : 0) - (b.name === wanted ? -1 : 0) || a.at - b.at);
   state.at = -1;
+  state.stale = true;
   state.count.textContent = wanted === "" ? plural(state.types.size, "type") : `${plural(state.found.length, "type")} of ${state.types.size} found`;
   state.count.dataset.found = state.found.length;
   if (state.found.length) nextFound(state, 1, true);
