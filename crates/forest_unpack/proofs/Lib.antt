@@ -20,3 +20,5 @@ pub mod Sizing
 pub mod Building
 pub mod Ready
 pub mod Waiting
+pub mod Repeats
+pub mod Classes

@@ -219,11 +219,13 @@ module _ {X T C W V : Type 0} (value : T → V) where
   pub chosen_more : (old new : List V) → Extends old new → (front next items : List (Item X T C W)) (i : ℕ) (x : Item X T C W) → All (IsNumbered value old) front → All (IsNumbered value new) items → i < length items → x ≡ get_or items i x → next ≡ front ++ x ∷ [] → All (IsNumbered value new) next
   chosen_more old new grow front next items i x before all low at is = numbered_push old new grow front next x before is (subst (IsNumbered value new) (sym at) (all i x low))
 
-  pub none_ready : (w : Wholes V C) (memo : Memo X T C W) (table : List (Option (Vec (Item X T C W) Global))) → memo.answers.items ≡ [] → NoneListed table → IsReady value w memo table
-  none_ready w memo table none empty = record {
-    memo = subst (All (IsRight w (known_in value memo))) (sym none) (All-nil (IsRight w (known_in value memo)));
-    lists = λ h made at. absurd (empty h (subst IsMade (sym at) tt));
-  }
+  -- no list was made yet
+  pub none_ready : (w : Wholes V C) (memo : Memo X T C W) (table : List (Option (Vec (Item X T C W) Global))) → IsMemo value w memo → NoneListed table → IsReady value w memo table
+  none_ready w memo table right empty = record { memo = right; lists = λ h made at. absurd (empty h (subst IsMade (sym at) tt)) }
+
+  -- nothing is known yet
+  pub new_memo : (w : Wholes V C) (memo : Memo X T C W) → memo.answers.items ≡ [] → IsMemo value w memo
+  new_memo w memo none = subst (All (IsRight w (known_in value memo))) (sym none) (All-nil (IsRight w (known_in value memo)))
 
 module _ {X T C W : Type 0} where
   pub listed_low : (table : List (Option (Vec (Item X T C W) Global))) (host : ℕ) → IsListed table host → host < length table

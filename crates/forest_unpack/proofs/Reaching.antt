@@ -1,21 +1,29 @@
 -- What lists hold are full structures of leaves and of phrases.
 use Rattle.std.specs.Prelude.{◌≡◌, ℕ, ◌<◌, Bool, Option, Some, None, All, List, [], ◌∷◌, ◌++◌, length, map, slice_get}
 use Rattle.std.proofs.Common.{Vec, Global, refl, ap, subst, sym, arith, get_or, zero, suc}
-use Rattle.std.proofs.lemmas.List.Elements.{All-head, All-tail, All-nil, All-cons, All-append, All-push, All-map}
+use Rattle.std.proofs.lemmas.List.Elements.{All-head, All-tail, All-nil, All-cons, All-append, All-contains, All-push, All-map}
 use Rattle.std.specs.Arc.{arc_value}
 use Rattle.chart_core.specs.declared.Row.{Row}
 use Rattle.forest_model.specs.Readings.{Wholes}
 use Rattle.forest_model.specs.Lists as model
 use Rattle.forest_unpack.specs.declared.item.Item.{Item}
 use Rattle.forest_unpack.specs.Items.{item_of, list_in, list_at, IsMade, IsListed}
-use Rattle.forest_unpack.specs.Plans.{Fits, IsPlan, AreGathered}
+use Rattle.forest_unpack.specs.declared.sifting.LeftOut.{LeftOut}
+use Rattle.forest_unpack.specs.Plans.{Fits, IsPlan}
+use Rattle.forest_unpack.specs.Sifted.{AreGathered}
 use Rattle.forest_unpack.specs.Reached.{IsReached, reached_leaf, reached_phrase}
 use Rattle.forest_unpack.specs.Inner.Memos.{IsReachedItem, AreReached}
+use Rattle.forest_model.proofs.Ordered.{has_contains}
 use Rattle.forest_unpack.proofs.Memos.{made_is}
 
 unmapped : {A B : Type 0} (P : B → Type 0) (f : A → B) (xs : List A) → All P (map f xs) → All (λ x. P (f x)) xs
 unmapped P f [] all = All-nil (λ x. P (f x))
 unmapped P f (x ∷ xs) all = All-cons (λ y. P (f y)) x xs (All-head P (f x) (map f xs) all) (unmapped P f xs (All-tail P (f x) (map f xs) all))
+
+-- each of these has it
+pub every : {A : Type 0} (P : A → Type 0) (xs : List A) → ((x : A) → model.Has x xs → P x) → All P xs
+every P [] all = All-nil P
+every P (x ∷ xs) all = All-cons P x xs (all x model.has_here) (every P xs (λ y has. all y (model.has_there has)))
 
 module _ {C V : Type 0} (w : Wholes V C) (named : ℕ → Type 0) where
   abbrev Holds : model.Item V → Type 0
@@ -48,12 +56,13 @@ module _ {C V : Type 0} (w : Wholes V C) (named : ℕ → Type 0) where
 
 module _ {X T C W V : Type 0} (value : T → V) (w : Wholes V C) (named : ℕ → Type 0) where
   -- lists that were gathered by a plan hold what leaves and rules give
-  pub gathered_reached : {Y S D U B : Type 0} (ruled : ℕ → ℕ → Type 0) (cut : Bool) (rows : List (Row Y S D U B)) (last before : List (Option ℕ)) (ranks : List ℕ) (table : List (Option (Vec (Item X T C W) Global))) → IsPlan named ruled rows last before ranks → AreGathered value w cut rows table → AreReached value w named table
-  gathered_reached ruled cut rows last before ranks table plan gathered h made at =
+  pub gathered_reached : {Y S D U B : Type 0} (ruled : ℕ → ℕ → Type 0) (left : LeftOut) (cut : Bool) (rows : List (Row Y S D U B)) (last before : List (Option ℕ)) (ranks : List ℕ) (table : List (Option (Vec (Item X T C W) Global))) → IsPlan named ruled rows last before ranks → AreGathered value w left cut rows table → AreReached value w named table
+  gathered_reached ruled left cut rows last before ranks table plan gathered h made at =
       let listed : IsListed table h = subst IsMade (sym at) tt in
       let g = gathered h listed in
-      let all = gather_reached w named cut (list_at value table) (IsListed table) (λ row has. fits_named w named ruled (length rows) ranks h row (plan.fits h g.told g.is row has)) g.gather in
-      unmapped (Holds w named) (item_of value) made.items (subst (All (Holds w named)) (ap (list_in value) at) all)
+      let all = gather_reached w named cut (list_at value table) (IsListed table) (λ row has. fits_named w named ruled (length rows) ranks h row (plan.fits h g.gathered.told g.gathered.is row has)) g.gathered.gather in
+      let some = every (Holds w named) (list_at value table h) (λ item has. All-contains (Holds w named) g.all item all (has_contains (g.sifted.each item has))) in
+      unmapped (Holds w named) (item_of value) made.items (subst (All (Holds w named)) (ap (list_in value) at) some)
 
   -- the items of a list that was made
   pub listed_reached : (table : List (Option (Vec (Item X T C W) Global))) (host : ℕ) (x : Option (Vec (Item X T C W) Global)) (made : Vec (Item X T C W) Global) (items : List (Item X T C W)) → AreReached value w named table → IsListed table host → x ≡ get_or table host x → x ≡ Some made → items ≡ made.items → All (IsReachedItem value w named) items

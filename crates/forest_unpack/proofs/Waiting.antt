@@ -11,7 +11,9 @@ use Rattle.forest_unpack.specs.declared.memo.Memo.{Memo}
 use Rattle.forest_unpack.specs.declared.rows.GroupRow.{GroupRow}
 use Rattle.forest_unpack.specs.Groups.{IsTold}
 use Rattle.forest_unpack.specs.Items.{items_of, list_at, IsListed, IsMade, AllListed}
-use Rattle.forest_unpack.specs.Plans.{row_of, rank_at, AreLower, Fits, IsPlan, IsGathered, AreGathered, GatherAll, Gave, Grows, all_none}
+use Rattle.forest_unpack.specs.Plans.{row_of, rank_at, AreLower, Fits, IsPlan, IsGathered, GatherAll, Gave, Grows, all_none}
+use Rattle.forest_unpack.specs.declared.sifting.LeftOut.{LeftOut}
+use Rattle.forest_unpack.specs.Sifted.{AreGathered, IsSifted}
 use Rattle.forest_unpack.specs.Inner.Memos.{Extends, IsNumbered, StaysReady, known_in}
 use Rattle.forest_unpack.specs.Inner.Making.{daughters_in, unlisted_in, left_of, AreMaking, AreUnder, IsBegun, IsLacked, IsLower, IsMaking, IsRoot, Stepped}
 use Rattle.forest_unpack.proofs.Filling.{has_mapped, get_map, length_map, one_more, all_rows, some_rows}
@@ -199,7 +201,7 @@ module _ {X T C W V Y S D U B : Type 0} (value : T → V) (w : Wholes V C) (rows
 
     -- one more row was gone through
     pub row_gone : (table : List (Option (Vec (Item X T C W) Global))) (list : Making X T C W) (row : GroupRow) (made : Vec (Item X T C W) Global) → list.next < length list.group.items → row ≡ get_or list.group.items list.next row → IsMaking value w c rows old table list →
-        Gave value w d table row list.made.items made.items → All (IsNumbered value new) made.items → IsMaking value w d rows new table (record { host = list.host; group = list.group; next = list.next + 1; made = made })
+        Gave value w d table row list.made.items made.items → All (IsNumbered value new) made.items → IsMaking value w d rows new table (record { host = list.host; group = list.group; next = list.next + 1; made = made; most = list.most })
     row_gone table list row made low at is gave numbered = record {
       host = is.host;
       told = is.told;
@@ -234,28 +236,28 @@ module _ {X T C W V Y S D U B : Type 0} (value : T → V) (w : Wholes V C) (rows
               let apart : h ≡ host → ⊥ = λ e. let same = ap (rank_at ranks) e in absurd (omega (arith, over, same)) in
               free (subst IsMade (set_other value table host made h apart) there)
 
-  module _ (c d : Bool) (go : c ≡ true → d ≡ true) (old new : Memo X T C W) (table : List (Option (Vec (Item X T C W) Global))) (ranks : List ℕ) (lists : List (Making X T C W)) (list again : Making X T C W)
-      (are : AreMaking value w c rows (known_in value old) table ranks (lists ++ list ∷ [])) (gathered : AreGathered value w c rows table) (ready : StaysReady value w old new table)
+  module _ (left_out : LeftOut) (c d : Bool) (go : c ≡ true → d ≡ true) (old new : Memo X T C W) (table : List (Option (Vec (Item X T C W) Global))) (ranks : List ℕ) (lists : List (Making X T C W)) (list again : Making X T C W)
+      (are : AreMaking value w c rows (known_in value old) table ranks (lists ++ list ∷ [])) (gathered : AreGathered value w left_out c rows table) (ready : StaysReady value w old new table)
       (same : again.host ≡ list.host) (is : IsMaking value w d rows (known_in value new) table again) (counted : length table ≡ length rows) where
     within : again.host < length table
     within = let inside = is.host in omega (arith, inside, counted)
 
-    -- the list was made
-    pub stepped_made : IsGathered value w d rows table again.host (items_of value again.made.items) → Stepped value w rows ranks c d old new table (slice_set table again.host (Some again.made)) (lists ++ list ∷ []) lists
-    stepped_made whole =
-        let put = put_list value w d rows table again.host again.made within is.unlisted (weaker value w c d go rows table gathered) whole in
+    -- the list was made, and this is left of it
+    pub stepped_made : (kept : Vec (Item X T C W) Global) → IsGathered value w d rows table again.host (items_of value again.made.items) → IsSifted left_out (items_of value again.made.items) (items_of value kept.items) → All (IsNumbered value (known_in value new)) kept.items → Stepped value w left_out rows ranks c d old new table (slice_set table again.host (Some kept)) (lists ++ list ∷ []) lists
+    stepped_made kept whole sifted numbered =
+        let put = put_list value w left_out d rows table again.host kept within is.unlisted (weaker value w left_out c d go rows table gathered) (record { all = items_of value again.made.items; gathered = whole; sifted = sifted }) in
         record {
           grows = put.grows;
-          ready = put_ready value w old new table again.host again.made ready is.numbered;
+          ready = put_ready value w old new table again.host kept ready numbered;
           cut = go;
           gathered = put.gathered;
-          lists_are = lists_made c d go (known_in value old) (known_in value new) ready.known table ranks lists list are again.host again.made same within put.grows;
-          root = λ root at. root_made table (slice_set table again.host (Some again.made)) root lists list (subst (IsListed (slice_set table again.host (Some again.made))) same put.there) at;
-          falls = λ most short. falls_made table lists list again.host within is.unlisted most short again.made;
+          lists_are = lists_made c d go (known_in value old) (known_in value new) ready.known table ranks lists list are again.host kept same within put.grows;
+          root = λ root at. root_made table (slice_set table again.host (Some kept)) root lists list (subst (IsListed (slice_set table again.host (Some kept))) same put.there) at;
+          falls = λ most short. falls_made table lists list again.host within is.unlisted most short kept;
         }
 
     -- the list waits for one that was begun
-    pub stepped_waits : (d_host : ℕ) (needed : Making X T C W) → IsLower (length rows) ranks table again.host d_host → IsBegun rows d_host needed → Stepped value w rows ranks c d old new table table (lists ++ list ∷ []) ((lists ++ again ∷ []) ++ needed ∷ [])
+    pub stepped_waits : (d_host : ℕ) (needed : Making X T C W) → IsLower (length rows) ranks table again.host d_host → IsBegun rows d_host needed → Stepped value w left_out rows ranks c d old new table table (lists ++ list ∷ []) ((lists ++ again ∷ []) ++ needed ∷ [])
     stepped_waits d_host needed lower fresh =
         let next = begun d (known_in value new) table d_host needed lower.there lower.unlisted fresh in
         let under = subst (λ h. rank_at ranks h < rank_at ranks list.host) (sym fresh.host_is) (subst (λ h. rank_at ranks d_host < rank_at ranks h) same lower.lower) in
@@ -263,7 +265,7 @@ module _ {X T C W V Y S D U B : Type 0} (value : T → V) (w : Wholes V C) (rows
           grows = grows_same value table;
           ready = ready;
           cut = go;
-          gathered = weaker value w c d go rows table gathered;
+          gathered = weaker value w left_out c d go rows table gathered;
           lists_are = lists_wait c d go (known_in value old) (known_in value new) ready.known table ranks lists list are again needed same is next under;
           root = λ root at. root_waits table root lists list again needed same at;
           falls = λ most short. falls_waits table lists list again.host within is.unlisted most short again needed;

@@ -3,6 +3,7 @@ pub mod Reached
 pub mod Counted
 pub mod Items
 pub mod Plans
+pub mod Sifted
 pub mod Unpacking
 pub mod Keeping
 pub mod Skeletons

@@ -22,7 +22,9 @@ mod members;
 mod memo;
 mod ranks;
 mod rows;
+mod sifting;
 mod unpacking;
+mod weighing;
 
 pub use fulls::{FullParts, Fulls};
 use std::alloc::{AllocError, AllocFailed};

@@ -8,7 +8,8 @@ ghost use Rattle.forest_model.specs.Lists as model;
 ghost use Rattle.forest_unpack.specs.Items.{AllListed, IsListed, items_of};
 ghost use Rattle.forest_unpack.specs.Inner.Making.{AreMaking, IsBegun, IsLacked, IsLower, IsMaking, Stepped, daughters_in};
 ghost use Rattle.forest_unpack.specs.Inner.Memos.{AreReached, IsNumbered, IsReady, StaysReady, known_in};
-ghost use Rattle.forest_unpack.specs.Plans.{AreGathered, Fits, Gave, Grows, IsGathered, IsPlan, row_of};
+ghost use Rattle.forest_unpack.specs.Sifted.{AreGathered};
+ghost use Rattle.forest_unpack.specs.Plans.{Fits, Gave, Grows, IsGathered, IsPlan, row_of};
 
 use crate::counted::CountedTree;
 use crate::groups::group_of;
@@ -17,28 +18,33 @@ use crate::lists::{combine, nothing};
 use crate::members::Members;
 use crate::memo::Memo;
 use crate::rows::GroupRow;
+use crate::sifting::{LeftOut, sift};
 use crate::{Fulls, NoMemory};
 use chart_core::Finished;
 use cover::Shapes;
 use std::alloc::Global;
 
-/// What lists are made of: a finished chart with the rows of its groups, a rank that falls from a host to its daughters, and the most items that a list may have.
+/// What lists are made of: a finished chart with the rows of its groups, a rank that falls from a host to its daughters, what lists leave out,
+/// the most items of a list that others need, and of one that is itself asked for.
 #[derive(Drop)]
 pub struct Plan<'p, S: Shapes, F: Fulls> {
     pub fulls: &'p F,
     pub finished: &'p Finished<S>,
     pub members: &'p Members,
     pub ranks: &'p [u64],
+    pub left: LeftOut,
     pub most: usize,
+    pub most_wanted: usize,
 }
 
-/// A list on its way: its host, the rows of the host's group, how many of them were gone through, and what these gave.
+/// A list on its way: its host, the rows of the host's group, how many of them were gone through, what these gave, and the most that it may have.
 #[derive(Drop)]
 pub struct Making<F: Fulls> {
     pub host: u64,
     pub group: Vec<GroupRow>,
     pub next: usize,
     pub made: Vec<Item<F>>,
+    pub most: usize,
 }
 
 /// The list of a host, of which no row was gone through yet.
@@ -46,6 +52,7 @@ fn begin<S: Shapes, F: Fulls>(
     alloc: Global,
     plan: &Plan<S, F>,
     host: u64,
+    most: usize,
 ) -> Result<Making<F>, NoMemory>
     requires plan { IsPlan (F.named plan.now.fulls.now) (F.ruled plan.now.fulls.now) (rows_in (core_of plan.now.finished.now)) plan.now.members.now.last.items plan.now.members.now.before.items plan.now.ranks.now }
     requires host { host < length (rows_in (core_of plan.now.finished.now)) }
@@ -58,6 +65,7 @@ fn begin<S: Shapes, F: Fulls>(
         group,
         next: 0,
         made,
+        most,
     })
 }
 
@@ -94,6 +102,7 @@ fn add_row<S: Shapes, F: Fulls>(
     memo: &mut Memo<F>,
     row: &GroupRow,
     table: &[Option<Vec<Item<F>>>],
+    most: usize,
     cut: &mut bool,
     made: &mut Vec<Item<F>>,
 ) -> Result<(), NoMemory>
@@ -120,8 +129,7 @@ fn add_row<S: Shapes, F: Fulls>(
             let count = daughters.len() as u32;
             let none = nothing();
             if combine(
-                alloc, plan.fulls, work, memo, *rule, count, table, &none, daughters, plan.most,
-                made,
+                alloc, plan.fulls, work, memo, *rule, count, table, &none, daughters, most, made,
             )? {
                 *cut = true;
             }
@@ -154,8 +162,9 @@ fn go_on<S: Shapes, F: Fulls>(
         (IsGathered (F.value plan.now.fulls.now) (F.wholes plan.now.fulls.now) cut.new (rows_in (core_of plan.now.finished.now)) table.now list.new.host (items_of (F.value plan.now.fulls.now) list.new.made.items))
         (λ d. IsLower (length (rows_in (core_of plan.now.finished.now))) plan.now.ranks.now table.now list.new.host d)) }
 {
+    let most = list.most;
     while list.next < list.group.len() {
-        if list.made.len() >= plan.most {
+        if list.made.len() >= most {
             *cut = true;
             return Ok(None);
         }
@@ -163,7 +172,17 @@ fn go_on<S: Shapes, F: Fulls>(
         if let Some(daughter) = lacking(table, row) {
             return Ok(Some(daughter));
         }
-        add_row(alloc, plan, work, memo, row, table, cut, &mut list.made)?;
+        add_row(
+            alloc,
+            plan,
+            work,
+            memo,
+            row,
+            table,
+            most,
+            cut,
+            &mut list.made,
+        )?;
         list.next += 1;
     }
     Ok(None)
@@ -182,17 +201,19 @@ fn step<S: Shapes, F: Fulls>(
 ) -> Result<(), NoMemory>
     requires plan { IsPlan (F.named plan.now.fulls.now) (F.ruled plan.now.fulls.now) (rows_in (core_of plan.now.finished.now)) plan.now.members.now.last.items plan.now.members.now.before.items plan.now.ranks.now }
     requires table { length table.old.items ≡ length (rows_in (core_of plan.now.finished.now)) }
-    requires gathered { AreGathered (F.value plan.now.fulls.now) (F.wholes plan.now.fulls.now) cut.old (rows_in (core_of plan.now.finished.now)) table.old.items }
+    requires gathered { AreGathered (F.value plan.now.fulls.now) (F.wholes plan.now.fulls.now) plan.now.left cut.old (rows_in (core_of plan.now.finished.now)) table.old.items }
     requires ready { IsReady (F.value plan.now.fulls.now) (F.wholes plan.now.fulls.now) memo.old table.old.items }
     requires lists { AreMaking (F.value plan.now.fulls.now) (F.wholes plan.now.fulls.now) cut.old (rows_in (core_of plan.now.finished.now)) (known_in (F.value plan.now.fulls.now) memo.old) table.old.items plan.now.ranks.now (waiting.old.items ++ list ∷ []) }
-    ensures { OnOk result (Stepped (F.value plan.now.fulls.now) (F.wholes plan.now.fulls.now) (rows_in (core_of plan.now.finished.now)) plan.now.ranks.now cut.old cut.new memo.old memo.new table.old.items table.new.items (waiting.old.items ++ list ∷ []) waiting.new.items) }
+    ensures { OnOk result (Stepped (F.value plan.now.fulls.now) (F.wholes plan.now.fulls.now) plan.now.left (rows_in (core_of plan.now.finished.now)) plan.now.ranks.now cut.old cut.new memo.old memo.new table.old.items table.new.items (waiting.old.items ++ list ∷ []) waiting.new.items) }
 {
     match go_on(alloc, plan, work, memo, table, cut, &mut list)? {
         None => {
-            table[list.host as usize] = Some(list.made);
+            let host = list.host;
+            let items = sift(alloc, plan.fulls, memo, plan.left, list.made)?;
+            table[host as usize] = Some(items);
         }
         Some(daughter) => {
-            let needed = begin(alloc, plan, daughter)?;
+            let needed = begin(alloc, plan, daughter, plan.most)?;
             waiting.push(list)?;
             waiting.push(needed)?;
         }
@@ -213,18 +234,18 @@ pub fn list<S: Shapes, F: Fulls>(
     requires plan { IsPlan (F.named plan.now.fulls.now) (F.ruled plan.now.fulls.now) (rows_in (core_of plan.now.finished.now)) plan.now.members.now.last.items plan.now.members.now.before.items plan.now.ranks.now }
     requires host { host < length (rows_in (core_of plan.now.finished.now)) }
     requires table { length table.old.items ≡ length (rows_in (core_of plan.now.finished.now)) }
-    requires gathered { AreGathered (F.value plan.now.fulls.now) (F.wholes plan.now.fulls.now) cut.old (rows_in (core_of plan.now.finished.now)) table.old.items }
+    requires gathered { AreGathered (F.value plan.now.fulls.now) (F.wholes plan.now.fulls.now) plan.now.left cut.old (rows_in (core_of plan.now.finished.now)) table.old.items }
     requires ready { IsReady (F.value plan.now.fulls.now) (F.wholes plan.now.fulls.now) memo.old table.old.items }
     ensures grows { OnOk result (Grows (F.value plan.now.fulls.now) table.old.items table.new.items) }
     ensures ready { OnOk result (StaysReady (F.value plan.now.fulls.now) (F.wholes plan.now.fulls.now) memo.old memo.new table.new.items) }
     ensures cut { OnOk result (cut.old ≡ true → cut.new ≡ true) }
     ensures listed { OnOk result (IsListed table.new.items host) }
-    ensures gathered { OnOk result (AreGathered (F.value plan.now.fulls.now) (F.wholes plan.now.fulls.now) cut.new (rows_in (core_of plan.now.finished.now)) table.new.items) }
+    ensures gathered { OnOk result (AreGathered (F.value plan.now.fulls.now) (F.wholes plan.now.fulls.now) plan.now.left cut.new (rows_in (core_of plan.now.finished.now)) table.new.items) }
 {
     if table[host as usize].is_some() {
         return Ok(());
     }
-    let first = begin(alloc, plan, host)?;
+    let first = begin(alloc, plan, host, plan.most_wanted)?;
     let mut waiting = Vec::new(alloc);
     waiting.push(first)?;
     while let Some(list) = waiting.pop() {

@@ -21,7 +21,7 @@ pub struct Members {
 }
 
 /// The last representative of a row: the host that it is packed or frosted into, by way of others; a row that is neither is its own.
-fn host_of<S: Shapes>(finished: &Finished<S>, row: RowId) -> RowId
+pub fn host_of<S: Shapes>(finished: &Finished<S>, row: RowId) -> RowId
     requires core { (s : S) × IsCore (grammar_of S.Shapes S.Cover.Cover.own s) (core_of finished.now) }
     requires made { row.0 < length (rows_in (core_of finished.now)) }
     ensures { LeadsTo (into_of (rows_in (core_of finished.now))) row.0 result.0 }

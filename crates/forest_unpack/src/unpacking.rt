@@ -1,6 +1,6 @@
 //! The trees of a finished chart that are asked for.
 
-ghost use Rattle.std.specs.Prelude.{◌≡◌, IfOk, MatchOption, MatchResult, length, map};
+ghost use Rattle.std.specs.Prelude.{◌≡◌, IfOk, MatchOption, MatchResult, OnOk, length, map};
 ghost use Rattle.chart_core.specs.CoreView.{chart_of, leaves_of};
 ghost use Rattle.chart_core.specs.Kept.{core_of, rows_in};
 ghost use Rattle.chart_core.specs.Grammar.{grammar_of};
@@ -9,6 +9,7 @@ ghost use Rattle.forest_unpack.specs.Unpacking.{Suits, AreUnpacked, IsUnpackFaul
 ghost use Rattle.forest_unpack.specs.Items.{NoneListed};
 ghost use Rattle.forest_unpack.specs.Keeping.{AllBelow, asked_of};
 ghost use Rattle.forest_unpack.specs.Plans.{IsPlan};
+ghost use Rattle.forest_unpack.specs.Inner.Memos.{IsMemo};
 ghost use Rattle.forest_unpack.specs.Skeletons.{IsSkeleton};
 
 use crate::asking::wanted_of;
@@ -19,11 +20,19 @@ use crate::listing::Plan;
 use crate::members::{Members, members_of};
 use crate::memo::Memo;
 use crate::ranks::ranks_of;
+use crate::sifting::{LeftOut, are_enough};
+use crate::weighing::is_large;
 use crate::{Fulls, NoMemory, UnpackFault};
 use chart_core::Finished;
 use cover::Shapes;
 use derivation::Tree;
 use std::alloc::Global;
+
+/// How many trees lists have that are tried first.
+const FEW: usize = 128;
+
+/// How many times as many trees as may be asked for the groups of a chart may hold before short lists are tried.
+const MANY: u64 = 4;
 
 /// As many hosts without a list.
 fn no_lists<F: Fulls>(alloc: Global, count: usize) -> Result<Vec<Option<Vec<Item<F>>>>, NoMemory>
@@ -37,34 +46,44 @@ fn no_lists<F: Fulls>(alloc: Global, count: usize) -> Result<Vec<Option<Vec<Item
     Ok(table)
 }
 
-/// One pass over the wanted hosts of a chart: the trees that are asked for, or none where a list was cut.
+/// The most trees to look for in one pass: where lists leave something out, one is enough to know that there are some.
+fn enough(left: LeftOut, max: u32) -> usize {
+    match left {
+        LeftOut::Nothing => max as usize,
+        LeftOut::Repeats => 0,
+    }
+}
+
+/// One pass over the wanted hosts of a chart: the trees that are asked for, or none where a list was cut, or left out what may be asked for.
 fn pass<'p, 'w, S: Shapes, F: Fulls<Cover = S::Cover>>(
     alloc: Global,
     _shapes: &S,
     plan: &'p Plan<'p, S, F>,
     wanted: &'w [Wanted<'w, F>],
     work: &mut F::Work,
+    memo: &mut Memo<F>,
     max: u32,
 ) -> Result<Option<Vec<Tree>>, UnpackFault>
     requires suits { Suits (grammar_of S.Shapes S.Cover.Cover.own _shapes.now) (F.wholes plan.now.fulls.now) plan.now.finished.now (S.full _shapes.now) (S.agrees _shapes.now) (F.named plan.now.fulls.now) (F.ruled plan.now.fulls.now) }
     requires skeleton { IsSkeleton (F.wholes plan.now.fulls.now) (leaves_of (S.meaning _shapes.now) (core_of plan.now.finished.now)) (chart_of (S.meaning _shapes.now) (core_of plan.now.finished.now)) (rows_in (core_of plan.now.finished.now)) plan.now.ranks.now (map asked_of wanted.now) }
     requires plan { IsPlan (F.named plan.now.fulls.now) (F.ruled plan.now.fulls.now) (rows_in (core_of plan.now.finished.now)) plan.now.members.now.last.items plan.now.members.now.before.items plan.now.ranks.now }
     requires wanted { AllBelow (length (rows_in (core_of plan.now.finished.now))) wanted.now }
-    ensures { MatchResult result
+    requires memo { IsMemo (F.value plan.now.fulls.now) (F.wholes plan.now.fulls.now) memo.old }
+    ensures memo { OnOk result (IsMemo (F.value plan.now.fulls.now) (F.wholes plan.now.fulls.now) memo.new) }
+    ensures answer { MatchResult result
         (λ o. MatchOption o (Unit {0}) (λ v. AreUnpacked (grammar_of S.Shapes S.Cover.Cover.own _shapes.now) (F.wholes plan.now.fulls.now) plan.now.finished.now max (map derivation_of v.items)))
         (IsUnpackFault (grammar_of S.Shapes S.Cover.Cover.own _shapes.now) (F.wholes plan.now.fulls.now) plan.now.finished.now max) }
 {
     let mut table = no_lists(alloc, plan.finished.rows() as usize)?;
-    let mut memo = Memo::new(alloc);
     let mut cut = false;
     let mut trees = Vec::new(alloc);
     let over = collect(
         alloc,
         plan,
         work,
-        &mut memo,
+        memo,
         wanted,
-        max as usize,
+        enough(plan.left, max),
         &mut table,
         &mut cut,
         &mut trees,
@@ -75,11 +94,63 @@ fn pass<'p, 'w, S: Shapes, F: Fulls<Cover = S::Cover>>(
     if over || cut {
         return Ok(None);
     }
+    if !are_enough(plan.left, &trees) {
+        return Ok(None);
+    }
     sort(&mut trees);
     Ok(Some(trees_of(alloc, trees)?))
 }
 
-/// The trees over a chart's leaves that are asked for, by the rows of its groups, their ranks and wanted hosts. Lists are cut first just above `max`, and later if need be.
+/// What is tried first where the groups of a chart may hold many trees: short lists, which are enough where more than `max` trees are asked for;
+/// and lists of one tree for each full structure, which are enough where none is.
+fn try_short<'w, S: Shapes, F: Fulls<Cover = S::Cover>>(
+    alloc: Global,
+    finished: &Finished<S>,
+    shapes: &S,
+    fulls: &F,
+    members: &Members,
+    ranks: &[u64],
+    wanted: &'w [Wanted<'w, F>],
+    work: &mut F::Work,
+    memo: &mut Memo<F>,
+    max: u32,
+) -> Result<Option<Vec<Tree>>, UnpackFault>
+    requires suits { Suits (grammar_of S.Shapes S.Cover.Cover.own shapes.now) (F.wholes fulls.now) finished.now (S.full shapes.now) (S.agrees shapes.now) (F.named fulls.now) (F.ruled fulls.now) }
+    requires skeleton { IsSkeleton (F.wholes fulls.now) (leaves_of (S.meaning shapes.now) (core_of finished.now)) (chart_of (S.meaning shapes.now) (core_of finished.now)) (rows_in (core_of finished.now)) ranks.now (map asked_of wanted.now) }
+    requires plan { IsPlan (F.named fulls.now) (F.ruled fulls.now) (rows_in (core_of finished.now)) members.now.last.items members.now.before.items ranks.now }
+    requires wanted { AllBelow (length (rows_in (core_of finished.now))) wanted.now }
+    requires memo { IsMemo (F.value fulls.now) (F.wholes fulls.now) memo.old }
+    ensures memo { OnOk result (IsMemo (F.value fulls.now) (F.wholes fulls.now) memo.new) }
+    ensures answer { MatchResult result
+        (λ o. MatchOption o (Unit {0}) (λ v. AreUnpacked (grammar_of S.Shapes S.Cover.Cover.own shapes.now) (F.wholes fulls.now) finished.now max (map derivation_of v.items)))
+        (IsUnpackFault (grammar_of S.Shapes S.Cover.Cover.own shapes.now) (F.wholes fulls.now) finished.now max) }
+{
+    let most = max as usize + 1;
+    let short = Plan {
+        fulls: &*fulls,
+        finished: &*finished,
+        members: &*members,
+        ranks: &*ranks,
+        left: LeftOut::Nothing,
+        most: FEW,
+        most_wanted: most,
+    };
+    if let Some(trees) = pass(alloc, shapes, &short, &*wanted, work, &mut *memo, max)? {
+        return Ok(Some(trees));
+    }
+    let classes = Plan {
+        fulls: &*fulls,
+        finished: &*finished,
+        members: &*members,
+        ranks: &*ranks,
+        left: LeftOut::Repeats,
+        most,
+        most_wanted: most,
+    };
+    pass(alloc, shapes, &classes, &*wanted, work, memo, max)
+}
+
+/// The trees over a chart's leaves that are asked for, by the rows of its groups, their ranks and wanted hosts. Lists are cut just above `max`, and later if need be.
 fn unpack_by<'w, S: Shapes, F: Fulls<Cover = S::Cover>>(
     alloc: Global,
     finished: &Finished<S>,
@@ -99,16 +170,26 @@ fn unpack_by<'w, S: Shapes, F: Fulls<Cover = S::Cover>>(
         (λ v. AreUnpacked (grammar_of S.Shapes S.Cover.Cover.own shapes.now) (F.wholes fulls.now) finished.now max (map derivation_of v.items))
         (IsUnpackFault (grammar_of S.Shapes S.Cover.Cover.own shapes.now) (F.wholes fulls.now) finished.now max) }
 {
+    let mut memo = Memo::new(alloc);
     let mut most = max as usize + 1;
+    if is_large(alloc, finished, ranks, (most as u64).saturating_mul(MANY))? {
+        if let Some(trees) = try_short(
+            alloc, finished, shapes, fulls, members, ranks, wanted, work, &mut memo, max,
+        )? {
+            return Ok(trees);
+        }
+    }
     loop {
         let plan = Plan {
             fulls: &*fulls,
             finished: &*finished,
             members: &*members,
             ranks: &*ranks,
+            left: LeftOut::Nothing,
             most,
+            most_wanted: most,
         };
-        if let Some(trees) = pass(alloc, shapes, &plan, &*wanted, work, max)? {
+        if let Some(trees) = pass(alloc, shapes, &plan, &*wanted, work, &mut memo, max)? {
             return Ok(trees);
         }
         if most == usize::MAX {

@@ -9,7 +9,9 @@ use Rattle.forest_unpack.specs.declared.listing.Making.{Making}
 use Rattle.forest_unpack.specs.declared.memo.Memo.{Memo}
 use Rattle.forest_unpack.specs.Groups.{IsTold}
 use Rattle.forest_unpack.specs.Items.{items_of, list_at, IsListed}
-use Rattle.forest_unpack.specs.Plans.{row_of, rank_at, AreGathered, GatherAll, Grows}
+use Rattle.forest_unpack.specs.declared.sifting.LeftOut.{LeftOut}
+use Rattle.forest_unpack.specs.Plans.{row_of, rank_at, GatherAll, Grows}
+use Rattle.forest_unpack.specs.Sifted.{AreGathered}
 use Rattle.forest_unpack.specs.Inner.Memos.{IsNumbered, StaysReady, known_in}
 
 abbrev pub daughters_in : model.GroupRow → List ℕ
@@ -71,11 +73,11 @@ module _ {X T C W V Y S D U B : Type 0} (value : T → V) (w : Wholes V C) (cut 
   AreMaking ranks (list ∷ lists) = IsMaking list × AreUnder ranks (rank_at ranks list.host) lists × AreMaking ranks lists
 
 -- what one step leaves: a list was made, or one more has to wait
-pub record Stepped {X T C W V Y S D U B : Type 0} (value : T → V) (w : Wholes V C) (rows : List (Row Y S D U B)) (ranks : List ℕ) (before after : Bool) (old new : Memo X T C W) (table grown : List (Option (Vec (Item X T C W) Global))) (lists left : List (Making X T C W)) : Type 0 where
+pub record Stepped {X T C W V Y S D U B : Type 0} (value : T → V) (w : Wholes V C) (left_out : LeftOut) (rows : List (Row Y S D U B)) (ranks : List ℕ) (before after : Bool) (old new : Memo X T C W) (table grown : List (Option (Vec (Item X T C W) Global))) (lists left : List (Making X T C W)) : Type 0 where
   pub grows : Grows value table grown
   pub ready : StaysReady value w old new grown
   pub cut : before ≡ true → after ≡ true
-  pub gathered : AreGathered value w after rows grown
+  pub gathered : AreGathered value w left_out after rows grown
   pub lists_are : AreMaking value w after rows (known_in value new) grown ranks left
   pub root : (root : ℕ) → IsRoot table root lists → IsRoot grown root left
   pub falls : (most : ℕ) → length lists ≤ most + 1 → left_of most grown left < left_of most table lists

@@ -52,8 +52,8 @@ loop-list-preserved g c =
       row_gone value w made c.loop-list.cut c.add_row.new.cut added.cut known (known_in value c.add_row.new.memo) added.ready.known c.args.table.now list row c.add_row.new.made low c.index-row.ensures c.loop-list.invariant.3 added.made added.numbered,
     )
 
-pub returns-then-len-plan-clause-list : goal.returns-then-len-plan-clause-list
-returns-then-len-plan-clause-list g c =
+pub returns-then-len-most-clause-list : goal.returns-then-len-most-clause-list
+returns-then-len-most-clause-list g c =
     let fulls = c.args.plan.now.fulls.now in
     let value = g.F.Fulls.value fulls in
     let w = g.F.Fulls.wholes fulls in
@@ -61,8 +61,8 @@ returns-then-len-plan-clause-list g c =
     let known = known_in value c.loop-list.memo in
     list_same value w made c.loop-list.cut true (λ x. refl) known known (extends_same known) c.args.table.now c.loop-list.list c.loop-list.invariant.3
 
-pub returns-then-len-plan-clause-done : goal.returns-then-len-plan-clause-done
-returns-then-len-plan-clause-done g c =
+pub returns-then-len-most-clause-done : goal.returns-then-len-most-clause-done
+returns-then-len-most-clause-done g c =
     let fulls = c.args.plan.now.fulls.now in
     let value = g.F.Fulls.value fulls in
     let w = g.F.Fulls.wholes fulls in
