@@ -1,5 +1,6 @@
-//! What one worker answers to a line or an MRS, with the sieves and the priority that it is lent.
+//! What one worker answers to a line or an MRS, with the sieves and the priority that it is lent, and what two answer to a line.
 
+ghost use Rattle.chart_workers.specs.Crews.{IsCrewSize};
 ghost use Rattle.morph_analysis.specs.Lattices.{IsValid};
 ghost use Rattle.morph_analysis.specs.LatticeViews.{lattice_of};
 ghost use Rattle.mrs_model.specs.Valid.{IsValid as IsValidMrs};
@@ -90,17 +91,19 @@ fn add_sentences(alloc: Global, answer: &GenAnswer, into: &mut Vec<u8>) -> Resul
 }
 
 impl Ready<'_, '_, '_, '_, '_, '_, '_, '_, '_> {
-    // Adds the trees of a line.
-    fn parsed<R: Wait + Threads + Sync, F: Filter + Send + Sync, P: Rank + Sync>(
+    /// Adds the trees of a line, which so many workers find.
+    pub fn parsed<R: Wait + Threads + Sync, F: Filter + Send + Sync, P: Rank + Sync>(
         &self,
         rt: &R,
         alloc: Global,
+        workers: u32,
         lattice: &Lattice,
         sieves: &[Sieve<F>],
         priority: &P,
         gate: &dyn Gate,
         into: &mut Vec<u8>,
     ) -> Result<(), NoMemory>
+        requires workers { IsCrewSize workers }
         requires ready { IsReady self.now }
         requires valid { IsValid (lattice_of lattice.now) }
     {
@@ -112,7 +115,7 @@ impl Ready<'_, '_, '_, '_, '_, '_, '_, '_, '_> {
             return Err(NoMemory);
         };
         let mut work = work(alloc);
-        let mut crew = Crew::new(alloc, 1);
+        let mut crew = Crew::new(alloc, workers);
         match parse_words(
             rt,
             alloc,
@@ -189,7 +192,7 @@ impl Ready<'_, '_, '_, '_, '_, '_, '_, '_, '_> {
         requires fit { IsFit asked }
     {
         match asked {
-            Asked::Line(lattice) => self.parsed(rt, alloc, lattice, sieves, priority, gate, into),
+            Asked::Line(lattice) => self.parsed(rt, alloc, 1, lattice, sieves, priority, gate, into),
             Asked::Mrs(mrs) => self.generated(rt, alloc, mrs, sieves, priority, gate, into),
         }
     }

@@ -13,6 +13,7 @@ use std::thread::Threads;
 mod alike;
 mod answers;
 mod grammars;
+mod held;
 mod lent;
 mod steps;
 

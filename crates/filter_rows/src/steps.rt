@@ -9,6 +9,7 @@ use crate::NoMemory;
 use crate::alike::Alike;
 use crate::answers::Asked;
 use crate::grammars::Ready;
+use crate::held::HoldingGate;
 use crate::lent::{Counting, LargerFirst, Listing, OneRank, SmallerFirst};
 use chart_workers::Rank;
 use item_reports::words_of_line;
@@ -125,6 +126,33 @@ impl Ready<'_, '_, '_, '_, '_, '_, '_, '_, '_> {
         Ok(())
     }
 
+    // Writes what two workers answer, of which the one that comes first is held at its first task until the other one has come: whether
+    // it came, whether exactly the tasks from 0 to 55 were begun, each once, and the trees.
+    fn show_held<R: Wait + Threads + Sync>(
+        &self,
+        rt: &R,
+        alloc: Global,
+        lattice: &Lattice,
+        out: &mut Vec<u8>,
+    ) -> Result<(), NoMemory>
+        requires ready { IsReady self.now }
+        requires valid { IsValid (lattice_of lattice.now) }
+    {
+        let sieves = [Sieve::new(TypesMeet)];
+        let gate = HoldingGate::new();
+        let mut text = Vec::new(alloc);
+        let priority = Priority::new(OneRank);
+        self.parsed(
+            rt, alloc, 2, lattice, &sieves, &priority, &gate, &mut text,
+        )?;
+        let came = gate.second_came();
+        let each = gate.began_each_below(56);
+        let line = format!(in alloc; "another came: {came}, each of 56 tasks once: {each}\n")?;
+        out.extend_from_slice(line.as_bytes())?;
+        out.extend_from_slice(&text)?;
+        Ok(())
+    }
+
     // Writes what a step about a line asks for.
     fn take_line<R: Wait + Threads + Sync>(
         &self,
@@ -141,6 +169,7 @@ impl Ready<'_, '_, '_, '_, '_, '_, '_, '_, '_> {
         match step {
             "parse" => self.show_answers(rt, alloc, asked, out),
             "calls" => self.show_calls(rt, alloc, asked, out),
+            "held" => self.show_held(rt, alloc, &lattice, out),
             "one-rank" => self.show_order(rt, alloc, asked, &Priority::new(OneRank), out),
             _ => self.show_order(rt, alloc, asked, &Priority::new(LargerFirst), out),
         }
@@ -182,7 +211,7 @@ impl Ready<'_, '_, '_, '_, '_, '_, '_, '_, '_> {
                 out.push(b'\n')?;
                 Ok(())
             }
-            "parse" | "calls" | "one-rank" | "larger-first" => {
+            "parse" | "calls" | "held" | "one-rank" | "larger-first" => {
                 self.take_line(rt, alloc, step, rest, out)
             }
             "generate" => self.take_mrs(rt, alloc, rest, out),
