@@ -192,7 +192,9 @@ impl Ready<'_, '_, '_, '_, '_, '_, '_, '_, '_> {
         requires fit { IsFit asked }
     {
         match asked {
-            Asked::Line(lattice) => self.parsed(rt, alloc, 1, lattice, sieves, priority, gate, into),
+            Asked::Line(lattice) => self.parsed(
+                rt, alloc, 1, lattice, sieves, priority, gate, into,
+            ),
             Asked::Mrs(mrs) => self.generated(rt, alloc, mrs, sieves, priority, gate, into),
         }
     }

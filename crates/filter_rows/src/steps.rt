@@ -142,9 +142,7 @@ impl Ready<'_, '_, '_, '_, '_, '_, '_, '_, '_> {
         let gate = HoldingGate::new();
         let mut text = Vec::new(alloc);
         let priority = Priority::new(OneRank);
-        self.parsed(
-            rt, alloc, 2, lattice, &sieves, &priority, &gate, &mut text,
-        )?;
+        self.parsed(rt, alloc, 2, lattice, &sieves, &priority, &gate, &mut text)?;
         let came = gate.second_came();
         let each = gate.began_each_below(56);
         let line = format!(in alloc; "another came: {came}, each of 56 tasks once: {each}\n")?;

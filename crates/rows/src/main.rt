@@ -1,5 +1,5 @@
-//! Worked rows of the program over devices in memory, which fail at calls that a row names or move one byte a call, and past a gate
-//! that holds a worker. What is to be run stands in the input, a step a line, and what came of each run is written.
+//! Worked rows of the program over devices in memory, which fail at calls that a row names or move one byte a call. What is to be run
+//! stands in the input, a step a line, and what came of each run is written.
 #![tactic(auto)]
 
 use row::Row;
@@ -10,7 +10,6 @@ use std::sync::Wait;
 use std::thread::Threads;
 
 mod devices;
-mod held;
 mod row;
 mod shown;
 

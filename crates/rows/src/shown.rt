@@ -1,6 +1,5 @@
 //! What is written of runs.
 use crate::devices::Devices;
-use crate::held::HoldingGate;
 use crate::row::{Call, Row, counted};
 use std::alloc::{AllocError, AllocGlobal, Global};
 use std::sync::Wait;
@@ -52,26 +51,6 @@ fn show_left<R: AllocGlobal + Threads + Wait + Sync>(
     put(out, line.as_str())
 }
 
-// Runs a row whose worker that comes first is held at its first task until another one comes, and writes whether one came, whether
-// exactly the tasks below a number were begun, each once, and the bytes of `out`.
-fn show_held<R: AllocGlobal + Threads + Wait + Sync>(
-    rt: &R,
-    row: &Row,
-    devices: &mut Devices,
-    tasks: u64,
-    out: &mut Vec<u8>,
-) -> Result<(), AllocError> {
-    let gate = HoldingGate::new();
-    let code = devices.run(rt, &row.words, &gate).code();
-    head(rt.alloc(), row, code, out)?;
-    let came = gate.second_came();
-    let each = gate.began_each_below(u32::try_from(tasks).unwrap_or(0));
-    let line = format!(in rt.alloc(); " {came} {each}\n")?;
-    put(out, line.as_str())?;
-    out.extend_from_slice(devices.out())?;
-    Ok(())
-}
-
 // Runs a row one of whose writes fails, and writes the number of that write, the status, how many lines were written, and whether
 // they are a front of the whole report.
 fn show_one<R: AllocGlobal + Threads + Wait + Sync>(
@@ -116,12 +95,11 @@ pub fn show<R: AllocGlobal + Threads + Wait + Sync>(
 ) -> Result<(), AllocError> {
     match step {
         "each" => show_each(rt, row, counted(rest).0, out),
-        "run" | "left" | "held" => {
+        "run" | "left" => {
             let mut devices = row.devices(rt.alloc())?;
             match step {
                 "run" => show_bytes(rt, row, &mut devices, out),
-                "left" => show_left(rt, row, &mut devices, out),
-                _ => show_held(rt, row, &mut devices, counted(rest).0, out),
+                _ => show_left(rt, row, &mut devices, out),
             }
         }
         _ => Ok(()),
