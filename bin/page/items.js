@@ -44,7 +44,7 @@ function itemsSection(head, text) {
   filter(state);
   section.state = state;
   section.keys = (key) => itemKeys(state, key);
-  if (items.length) openItem(state, items[0], false);
+  section.shown = () => { if (!state.open && items.length) openItem(state, items[0], false); };
   return section;
 }
 
