@@ -3,22 +3,16 @@ import json
 
 from . import mrs as mrss
 
-CARG = "CARG"
-
 
 class NoJson(Exception):
     """The text isn't of the form, or an MRS can't be said in it."""
 
 
 def value_of(mrs, role, value):
-    """A role's value: JSON has one kind of text for variables and for texts, so a role alone may tell them apart."""
-    if isinstance(value, mrss.Text):
-        if role != CARG and str(value) in mrs.variables:
-            raise NoJson(f"the text \"{value}\" of the role {role} is the name of a variable, which this form can't tell apart")
-        return str(value)
-    if role == CARG:
-        raise NoJson("the role CARG has a variable, which this form reads as a text")
-    return value
+    """A role's value. JSON has one kind of text for variables and for texts; a variable is what `variables` names."""
+    if isinstance(value, mrss.Text) and str(value) in mrs.variables:
+        raise NoJson(f"the text \"{value}\" of the role {role} is the name of a variable, which this form can't tell apart")
+    return str(value)
 
 
 def relation(mrs, ep):
@@ -76,7 +70,7 @@ def read(one):
         lnk = each.get("lnk") or {}
         span = (lnk["from"], lnk["to"]) if lnk.get("from", -1) >= 0 and lnk.get("to", -1) >= 0 else None
         ep = mrss.Ep(each["predicate"], span, named(each["label"]))
-        ep.roles = [(role, mrss.Text(value) if role == CARG or value not in said else named(value)) for role, value in each["arguments"].items()]
+        ep.roles = [(role, named(value) if value in said else mrss.Text(value)) for role, value in each["arguments"].items()]
         mrs.eps.append(ep)
     for each in one.get("constraints", []):
         if "high" in each:

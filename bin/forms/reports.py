@@ -120,13 +120,13 @@ def tree_of(lines):
 
 
 def mrs_of(lines, blanks):
-    text = lines.peek()[blanks:]
+    text = lines.whole()
     try:
-        mrss.read(text)
+        mrss.read(text[blanks:])
     except mrss.NoMrs as fault:
         raise lines.wrong(f"no MRS, at character {fault.at + blanks + 1} of the line: {fault}") from fault
-    lines.take()
-    return text
+    lines.pass_over(text)
+    return text[blanks:]
 
 
 def reading(lines):

@@ -11,19 +11,19 @@ def read_structures(where, text):
     """The structures of a text, one after the other; each is a list of lines `[path, type or None, first path or None]`."""
     lines, found, paths = Lines(where, text), [], {}
     while lines:
-        line = lines.peek()
+        line = lines.whole()
         node = NODE.fullmatch(line)
         if re.fullmatch(r"\S+ unknown", line) and not line.startswith("."):
             found.append([[line.split()[0], "unknown", None]])
             paths = {}
         elif node is None:
-            raise lines.wrong(f"expected `PATH TYPE` or `PATH = FIRSTPATH`, a path being `.` or features with a `.` before each, got {shown(line)}")
+            raise lines.wrong(f"expected `PATH TYPE` or `PATH = FIRSTPATH`, a path being `.` or features with a `.` before each, got {shown(lines.peek())}")
         else:
             if node[1] == "." and not node[2]:
                 found.append([])
                 paths = {}
             add_node(lines, node, paths, found)
-        lines.take()
+        lines.pass_over(line)
     if not found:
         raise lines.wrong("expected a structure: a first line `. TYPE`")
     return found

@@ -1,5 +1,9 @@
 """What is wrong with an input, in plain words, and how the programs say so."""
+import re
 import sys
+
+# A text in quotes is open at the end.
+OPEN = re.compile(r'(?:[^"]++|"(?:[^"\\]|\\.)*")*+"(?:[^"\\]|\\.)*+', re.DOTALL)
 
 
 class Wrong(Exception):
@@ -33,6 +37,17 @@ class Lines:
     def take(self):
         self.at += 1
         return self.lines[self.at - 1]
+
+    def whole(self):
+        """The line that comes next, with those after it where a text in quotes goes on over the line's end; it isn't taken."""
+        line, more = self.peek(), self.at + 1
+        while OPEN.fullmatch(line) and more < len(self.lines):
+            line += "\n" + self.lines[more]
+            more += 1
+        return line
+
+    def pass_over(self, text):
+        self.at += text.count("\n") + 1
 
     def wrong(self, what, back=0):
         """The fault of the line that comes next, or of one before it."""

@@ -59,7 +59,7 @@ item 3 new 1
 batch items 3 same 0 differs 2 new 1 bad 0
 """
 GENERATED = "item 1 classes 94 sentences 2\n  kim gave sandy a book\n  kim had given sandy a book\nitem 2 no-mrs 7\n"
-STRUCTURE = '. t\n.A cons\n.A.FIRST "it\'s \\"so\\" <b>"\n.A.REST cons\n.A.REST.FIRST a\n.A.REST.REST null\n.B = .A.REST.FIRST\n.C d\n.C.LAST list\n.C.LIST = .C.LAST\n'
+STRUCTURE = '. t\n.A cons\n.A.FIRST "it\'s \\"so\\" <b>"\n.A.REST cons\n.A.REST.FIRST a\n.A.REST.REST null\n.B = .A.REST.FIRST\n.C d\n.C.LAST "over a\nline\'s end"\n.C.LIST = .C.LAST\n'
 TYPES = "*top*:\nstring: *top*\na: *top*\nb: *top*\nc: a b\nglbtype1: a b\nd: c glbtype1\n"
 
 # Each wrong input, and what standard error must say of it.
