@@ -13,7 +13,7 @@ use Rattle.item_model.specs.Signs.{Signs, an_entry, a_lexical_rule}
 use Rattle.item_model.specs.Lexical as item
 use Rattle.item_model.specs.Trees.{full_lexical}
 use Rattle.parse_items.specs.Lattices.{spans_lexical}
-use Rattle.parse_items.specs.Licensed.{IsLexicalTree}
+use Rattle.parse_items.specs.Licensed.{IsLexicalTree, IsTooDeep}
 use Rattle.morph_analysis.specs.Lattices.{LatticeTree, IsValid}
 use Rattle.morph_analysis.specs.Allowed.{FeedsTree}
 use Rattle.morph_analysis.specs.Chains.{ChainTree, chain_order, AreInOrder, IsChain}
@@ -76,6 +76,13 @@ module _ (g : Signs) (entries rules : List ℕ) where
   kept_once (keeps_tree c f own more) order one (suc n) (suc m) x y (there a) (there b) e =
       ap suc (kept_once more order.1 (λ p q u v w. one p q (inr u) (inr v) w) n m x y a b e)
 
+-- a chain with a full structure that has more rules than the limit is a lexical tree that is too deep
+pub deep_chain : (g : Signs) (entries rules : List ℕ) → ArePlaces g an_entry entries → ArePlaces g a_lexical_rule rules → (lexicon : List EntryTree) (s : SpellingTree) → AreNumbered entries rules lexicon s → (feeds : FeedsTree) → ForbidsNone g entries rules feeds → (l : LatticeTree) (most : ℕ) (words : item.Words)
+    → AreSaid entries rules lexicon s words → (c : ChainTree) (f : Structure) → IsChain lexicon s feeds l (most + 1) c → IsFullOf g entries rules c f → most < length c.rules → IsTooDeep g words (lattice_seen l) most
+deep_chain g entries rules p q lexicon s numbered feeds harmless l most words said c f i full low =
+    let deep : length (map (place_in rules) c.rules) ≡ most + 1 = length_map (place_in rules) c.rules ∙ omega (arith, i.shallow, low) in
+    record { tree = tree_of entries rules c; is = is_tree g entries rules p q lexicon s numbered feeds harmless l (most + 1) words said c f i full; deep = deep }
+
 module _ (g : Signs) (entries rules : List ℕ) (entry_places : ArePlaces g an_entry entries) (rule_places : ArePlaces g a_lexical_rule rules) (lexicon : List EntryTree) (s : SpellingTree) (numbered : AreNumbered entries rules lexicon s) (feeds : FeedsTree) (harmless : ForbidsNone g entries rules feeds) (l : LatticeTree) (valid : IsValid l) (most : ℕ) (chains : List ChainTree) (are : AreFull g entries rules lexicon s feeds l (most + 1) chains) (words : item.Words) (said : AreSaid entries rules lexicon s words) where
   back : (t : Derivation) → IsLexicalTree g words (lattice_seen l) t → item.rule_count t ≤ most + 1 → FromChain g entries rules entry_places rule_places lexicon s numbered feeds harmless l (most + 1) words said t
   back = from_chain g entries rules entry_places rule_places lexicon s numbered feeds harmless l (most + 1) words said
@@ -98,12 +105,7 @@ module _ (g : Signs) (entries rules : List ℕ) (entry_places : ArePlaces g an_e
       some c i = subst (λ ws. 0 < length ws) (sym i.spells.is) (snoc_some i.spells.front i.spells.form)
 
   pub answered : (a : Lexical) → AreKept g entries rules most chains a → IsLexicalAnswer g words (lattice_seen l) most a
-  answered TooDeep k =
-      let c = k.0 in
-      let f = k.1 in
-      let i = are.have c k.2 in
-      let deep : length (map (place_in rules) c.rules) ≡ most + 1 = length_map (place_in rules) c.rules ∙ omega (arith, i.shallow, k.4) in
-      record { tree = tree_of entries rules c; is = tree c f i k.3; deep = deep }
+  answered TooDeep k = deep_chain g entries rules entry_places rule_places lexicon s numbered feeds harmless l most words said k.0 k.1 (are.have k.0 k.2) k.3 k.4
   answered (Trees xs) k = (
     λ deep.
         let b = back deep.tree deep.is (omega (arith, deep.deep)) in

@@ -14,6 +14,7 @@ use Rattle.morph_analysis.specs.Lattices.{LatticeTree, IsValid}
 use Rattle.morph_analysis.specs.Views.{made_of}
 use Rattle.morph_analysis.specs.declared.made.MadeChain.{MadeChain}
 use Rattle.morph_analysis.proofs.Lists.{Has-snoc, Has-at, Has-map, has_map}
+use Rattle.parse_items.specs.Licensed.{IsTooDeep}
 use Rattle.lexical_items.specs.Places.{ArePlaces}
 use Rattle.lexical_items.specs.Said.{AreNumbered, words_said}
 use Rattle.lexical_items.proofs.Saying.{are_said}
@@ -24,7 +25,7 @@ use Rattle.lexical_items.specs.declared.LexTrees.{LexTrees}
 use Rattle.lexical_items.specs.Inner.Making.{IsAllowedFull}
 use Rattle.lexical_items.specs.Inner.Kept.{IsInside, AreInside, chain_in, IsFullOf, AreFull, lexeme_of, Keeps, keeps_none, keeps_tree, AreShallow, AreKept}
 use Rattle.lexical_items.proofs.Treed.{inside}
-use Rattle.lexical_items.proofs.Answered.{answered}
+use Rattle.lexical_items.proofs.Answered.{answered, deep_chain}
 
 module _ (g : Signs) (entries rules : List ℕ) where
   keeps_push : {cs : List ChainTree} {xs : List Lexeme} (c : ChainTree) (f : Structure) → Keeps g entries rules cs xs → IsFullOf g entries rules c f → Keeps g entries rules (cs ++ c ∷ []) (xs ++ lexeme_of entries rules c f ∷ [])
@@ -114,3 +115,10 @@ pub all_answered : {T : Type 0} (g : Signs) (entries rules : List ℕ) (value : 
     → IsLexicalAnswer g (words_said entries rules lexicon s) (lattice_seen l) most (lexical_seen value t)
 all_answered g entries rules value p q lexicon s numbered feeds harmless l valid most chains are t k =
     answered g entries rules p q lexicon s numbered feeds harmless l valid most chains are (words_said entries rules lexicon s) (are_said entries rules lexicon s p.rising q.rising numbered) (lexical_seen value t) k
+
+-- a chain that ends the search
+pub deep_answer : (g : Signs) (entries rules : List ℕ) → ArePlaces g an_entry entries → ArePlaces g a_lexical_rule rules → (lexicon : List EntryTree) (s : SpellingTree) → AreNumbered entries rules lexicon s → (feeds : FeedsTree) → ForbidsNone g entries rules feeds → (l : LatticeTree) (most : ℕ) (x : MadeTree Structure)
+    → IsMadeChain (IsAllowedFull g entries rules feeds) lexicon s l (most + 1) x → most < length x.chain.rules → IsTooDeep g (words_said entries rules lexicon s) (lattice_seen l) most
+deep_answer g entries rules p q lexicon s numbered feeds harmless l most x i low =
+    deep_chain g entries rules p q lexicon s numbered feeds harmless l most (words_said entries rules lexicon s) (are_said entries rules lexicon s p.rising q.rising numbered) x.chain x.value
+    (record { spells = i.spells; carried = i.carried; allowed = i.made.allowed; shallow = i.shallow }) i.made.full low

@@ -22,7 +22,7 @@ pub use fulls::LexicalFulls;
 pub use lexeme::LexTree;
 use lexicon::Lexicon;
 use making::FullChains;
-use morph_analysis::{Feeds, Lattice, made_chains};
+use morph_analysis::{Feeds, Halt, Lattice, made_chains};
 use spelling_rules::Spelling;
 use std::alloc::{AllocError, AllocFailed, Global};
 use trees::trees_of;
@@ -68,7 +68,8 @@ pub enum LexTrees<T> {
 ///
 /// The lexicon and the spelling are those of the grammar, with its entries and lexical rules by number. `feeds` forbids no
 /// lexical tree; it only spares work. The search goes outwards from each entry and ends where a rule makes nothing, so that it
-/// costs a unification for each beginning of a chain with a full structure, and one for each rule that fails there.
+/// costs a unification for each beginning of a chain with a full structure, and one for each rule that fails there. The first tree
+/// that is too deep ends it, and the longest chains come first.
 pub fn lexical_trees<F: LexicalFulls>(
     alloc: Global,
     fulls: &F,
@@ -86,8 +87,13 @@ pub fn lexical_trees<F: LexicalFulls>(
     ensures { IfOk result (λ trees. IsLexicalAnswer (F.signs fulls.now) (words_said (F.entries_of fulls.now) (F.rules_of fulls.now) lexicon.now spelling.now) (lattice_seen (lattice_of lattice.now)) most (lexical_seen (F.value fulls.now) trees)) }
 {
     fulls.laws();
-    let maker = FullChains { fulls, feeds };
-    let chains = made_chains(alloc, &maker, work, lexicon, spelling, lattice, most + 1)?;
-    let trees = trees_of(alloc, fulls, chains, most)?;
-    Ok(trees)
+    let maker = FullChains { fulls, feeds, most };
+    match made_chains(alloc, &maker, work, lexicon, spelling, lattice, most + 1) {
+        Ok(chains) => {
+            let trees = trees_of(alloc, fulls, chains, most)?;
+            Ok(trees)
+        }
+        Err(Halt::Enough) => Ok(LexTrees::TooDeep),
+        Err(Halt::NoMemory) => Err(NoMemory),
+    }
 }

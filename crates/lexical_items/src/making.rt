@@ -7,16 +7,18 @@ use crate::trees::{entry_place, rule_place};
 use morph_analysis::{Feeds, Maker, NoMemory};
 use std::alloc::Global;
 
-/// The full structures of the chains that a table allows.
+/// The full structures of the chains that a table allows. One of more than so many rules is enough.
 #[derive(Drop)]
 pub(crate) struct FullChains<'a, F> {
     pub(crate) fulls: &'a F,
     pub(crate) feeds: &'a Feeds,
+    pub(crate) most: u32,
 }
 
 impl<'a, F: LexicalFulls> Maker for FullChains<'a, F> {
     ghost use Rattle.rule_model.specs.Structures.{Structure};
     ghost use Rattle.lexical_items.specs.Inner.Making.{IsAllowedFull};
+    ghost use Rattle.std.specs.Prelude.{◌<◌, length};
 
     type Made = F::Full;
 
@@ -27,6 +29,8 @@ impl<'a, F: LexicalFulls> Maker for FullChains<'a, F> {
     ghost value = { λ s full. F.value s.fulls.now full };
 
     ghost makes = { λ s entry rules f. IsAllowedFull (F.signs s.fulls.now) (F.entries_of s.fulls.now) (F.rules_of s.fulls.now) s.feeds.now entry rules f };
+
+    ghost enough = { λ s rules. s.most < length rules };
 
     fn begin(
         &self,
@@ -65,6 +69,10 @@ impl<'a, F: LexicalFulls> Maker for FullChains<'a, F> {
             Ok(full) => Ok(full),
             Err(_) => Err(NoMemory),
         }
+    }
+
+    fn is_enough(&self, rules: &[u32]) -> bool {
+        rules.len() > self.most as usize
     }
 
     fn laws(&self) {

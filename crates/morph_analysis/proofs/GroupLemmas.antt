@@ -60,24 +60,26 @@ last_snoc [] last = refl
 last_snoc (x ∷ []) last = refl
 last_snoc (x ∷ y ∷ ys) last = last_snoc (y ∷ ys) last
 
+-- a chain of one of the groups of a node's word is one of an entry that ends with it
+pub group_node : {V : Type 0} (lexicon : List EntryTree) (nodes : List NodeTree) (A : ℕ → List ℕ → V → Type 0) (depth : ℕ) (steps : List StepTree) (s : StepTree) (n : ℕ) (groups : List GroupTree) → AreGroupsOf lexicon (node_at nodes n).word groups → (c : MadeTree V)
+    → OfSome (OfWords nodes A depth steps s n) groups c → OfNode lexicon nodes A depth steps s n c
+group_node lexicon nodes A depth steps s n groups are c o =
+    let g = o.0 in
+    let w = o.2 in
+    let last : last_word g.words ≡ (node_at nodes n).word = Each-at (λ g. last_word g.words ≡ (node_at nodes n).word) g groups are.only o.1 in
+    let is : w.last ≡ (node_at nodes n).word = sym (last_snoc w.front w.last) ∙ ap last_word (sym w.split) ∙ last in
+    let h : Has c.chain.entry (with_words lexicon g.words) = subst (Has c.chain.entry) (are.all g.words last) (has_found groups g c.chain.entry are.apart o.1 w.rest.entry) in
+    record {
+      front = w.front;
+      entry = subst (λ l. Has (record { number = c.chain.entry; words = l }) lexicon) (w.split ∙ ap (λ x. w.front ++ x ∷ []) is) (entry_has lexicon g.words c.chain.entry h);
+      rest = record { entry = refl; rules = w.rest.rules; from = w.rest.from; words_are = w.rest.words_are; to_is = w.rest.to_is };
+    }
+
 -- the chains of the groups of a node's word are those of entries that end with it
 pub of_node : {V : Type 0} (lexicon : List EntryTree) (nodes : List NodeTree) (A : ℕ → List ℕ → V → Type 0) (depth : ℕ) (steps : List StepTree) (s : StepTree) (n : ℕ) (groups : List GroupTree) (xs ys : List (MadeTree V)) → AreGroupsOf lexicon (node_at nodes n).word groups
     → AddsThose (OfSome (OfWords nodes A depth steps s n) groups) xs ys → AddsThose (OfNode lexicon nodes A depth steps s n) xs ys
-of_node {V} lexicon nodes A depth steps s n groups xs ys are a = adds_like (OfSome (OfWords nodes A depth steps s n) groups) (OfNode lexicon nodes A depth steps s n) xs ys there back a
+of_node {V} lexicon nodes A depth steps s n groups xs ys are a = adds_like (OfSome (OfWords nodes A depth steps s n) groups) (OfNode lexicon nodes A depth steps s n) xs ys (group_node lexicon nodes A depth steps s n groups are) back a
   where
-    there : (c : MadeTree V) → OfSome (OfWords nodes A depth steps s n) groups c → OfNode lexicon nodes A depth steps s n c
-    there c o =
-        let g = o.0 in
-        let w = o.2 in
-        let last : last_word g.words ≡ (node_at nodes n).word = Each-at (λ g. last_word g.words ≡ (node_at nodes n).word) g groups are.only o.1 in
-        let is : w.last ≡ (node_at nodes n).word = sym (last_snoc w.front w.last) ∙ ap last_word (sym w.split) ∙ last in
-        let h : Has c.chain.entry (with_words lexicon g.words) = subst (Has c.chain.entry) (are.all g.words last) (has_found groups g c.chain.entry are.apart o.1 w.rest.entry) in
-        record {
-          front = w.front;
-          entry = subst (λ l. Has (record { number = c.chain.entry; words = l }) lexicon) (w.split ∙ ap (λ x. w.front ++ x ∷ []) is) (entry_has lexicon g.words c.chain.entry h);
-          rest = record { entry = refl; rules = w.rest.rules; from = w.rest.from; words_are = w.rest.words_are; to_is = w.rest.to_is };
-        }
-
     back : (c : MadeTree V) → OfNode lexicon nodes A depth steps s n c → OfSome (OfWords nodes A depth steps s n) groups c
     back c o =
         let words : List Word = o.front ++ (node_at nodes n).word ∷ [] in

@@ -10,3 +10,4 @@ pub mod LatticeLemmas
 pub mod LineLemmas
 pub mod LineLaws
 pub mod RouteLemmas
+pub mod EnoughLemmas

@@ -94,6 +94,11 @@ drop_nat [] i lt = absurd (omega arith)
 drop_nat (y ∷ ys) zero lt = refl
 drop_nat (y ∷ ys) (suc i) lt = drop_nat ys i (omega arith) ∙ ap (λ k. get_or ys i 0 ∷ drop k (y ∷ ys)) (let k : suc (i + 1) ≡ suc i + 1 = omega arith in k)
 
+pub has_nat : (xs : List ℕ) (i : ℕ) → i < length xs → Has (get_or xs i 0) xs
+has_nat [] i lt = absurd (omega arith)
+has_nat (y ∷ ys) zero lt = inl refl
+has_nat (y ∷ ys) (suc i) lt = inr (has_nat ys i (omega arith))
+
 pub Has-at : {A B : Type 0} (f : A → B) (xs : List A) (i : ℕ) (x : A) (y : B) → i < length xs → x ≡ get_or xs i x → f x ≡ y → Has y (map f xs)
 Has-at f [] i x y lt e q = absurd (omega arith)
 Has-at f (z ∷ zs) zero x y lt e q = inl (sym q ∙ ap f e)

@@ -64,7 +64,7 @@ module _ {V : Type 0} (nodes : List NodeTree) (A : ℕ → List ℕ → V → Ty
   along_or_ended rules node k entry all v _ z is (goes r rs _ m _ lt h run) a s =
       inl (record { rule = r; to = m }, h, record { more = rs; is = is ∙ sym (append_assoc rules (r ∷ []) rs); runs = subst (λ q. Runs nodes rs m q) z run; made = a; shallow = s })
 
-  along_on : (rules : List ℕ) (node entry : ℕ) (all : List ℕ) (v : V) (e : EdgeTree) → node < length nodes → Has e (node_at nodes node).edges → IsAlong nodes A depth rules e entry all v → IsOn nodes A depth rules node entry all v
+  pub along_on : (rules : List ℕ) (node entry : ℕ) (all : List ℕ) (v : V) (e : EdgeTree) → node < length nodes → Has e (node_at nodes node).edges → IsAlong nodes A depth rules e entry all v → IsOn nodes A depth rules node entry all v
   along_on rules node entry all v e lt h on = record {
     more = e.rule ∷ on.more;
     is = on.is ∙ append_assoc rules (e.rule ∷ []) on.more;
@@ -73,7 +73,7 @@ module _ {V : Type 0} (nodes : List NodeTree) (A : ℕ → List ℕ → V → Ty
     shallow = on.shallow;
   }
 
-  ended_on : (rules : List ℕ) (node entry : ℕ) (all : List ℕ) (v : V) → length rules ≤ depth → IsEnded A rules node entry all v → IsOn nodes A depth rules node entry all v
+  pub ended_on : (rules : List ℕ) (node entry : ℕ) (all : List ℕ) (v : V) → length rules ≤ depth → IsEnded A rules node entry all v → IsOn nodes A depth rules node entry all v
   ended_on rules node entry all v le d = record {
     more = [];
     is = d.is ∙ sym (append-nil rules);

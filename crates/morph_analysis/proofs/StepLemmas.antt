@@ -43,28 +43,30 @@ pub carries_same : (xs ys : List StepTree) (from : ℕ) (words : List Word) (to 
 carries_same xs ys from _ _ f (stays _) = stays from
 carries_same xs ys _ _ to f (goes s words _ h c) = goes s words to (f s h) (carries_same xs ys s.to words to f c)
 
+-- a chain over a graph of a step's word is one of the step
+pub node_step : {V : Type 0} (lexicon : List EntryTree) (sp : SpellingTree) (nodes : List NodeTree) (A : ℕ → List ℕ → V → Type 0) (depth : ℕ) (steps others : List StepTree) (s : StepTree) → IsSpelled sp s.word depth nodes → ((t : StepTree) → Has t others → Has t steps) → (c : MadeTree V)
+    → OfNodes lexicon nodes A depth others s (length nodes) c → OfStep lexicon sp A depth steps s c
+node_step lexicon sp nodes A depth steps others s p moved c o =
+    let n = o.0 in
+    let q = o.2 in
+    let r = q.rest in
+    record {
+      front = q.front;
+      stem = (node_at nodes n).word;
+      is_entry = q.entry;
+      leads = leads_along sp s.word depth nodes c.chain.rules n 0 p refl r.rules.0;
+      carried = carries_same others steps c.chain.from q.front s.from moved r.from;
+      words_are = r.words_are;
+      to_is = r.to_is;
+      made = r.rules.1;
+      shallow = r.rules.2;
+    }
+
 -- the chains over a graph of a step's word
 pub of_step : {V : Type 0} (lexicon : List EntryTree) (sp : SpellingTree) (nodes : List NodeTree) (A : ℕ → List ℕ → V → Type 0) (depth : ℕ) (steps others : List StepTree) (s : StepTree) (xs ys : List (MadeTree V)) → IsSpelled sp s.word depth nodes → HaveSame others steps
     → AddsThose (OfNodes lexicon nodes A depth others s (length nodes)) xs ys → AddsThose (OfStep lexicon sp A depth steps s) xs ys
-of_step {V} lexicon sp nodes A depth steps others s xs ys p same a = adds_like (OfNodes lexicon nodes A depth others s (length nodes)) (OfStep lexicon sp A depth steps s) xs ys to back a
+of_step {V} lexicon sp nodes A depth steps others s xs ys p same a = adds_like (OfNodes lexicon nodes A depth others s (length nodes)) (OfStep lexicon sp A depth steps s) xs ys (node_step lexicon sp nodes A depth steps others s p same.there) back a
   where
-    to : (c : MadeTree V) → OfNodes lexicon nodes A depth others s (length nodes) c → OfStep lexicon sp A depth steps s c
-    to c o =
-        let n = o.0 in
-        let q = o.2 in
-        let r = q.rest in
-        record {
-          front = q.front;
-          stem = (node_at nodes n).word;
-          is_entry = q.entry;
-          leads = leads_along sp s.word depth nodes c.chain.rules n 0 p refl r.rules.0;
-          carried = carries_same others steps c.chain.from q.front s.from same.there r.from;
-          words_are = r.words_are;
-          to_is = r.to_is;
-          made = r.rules.1;
-          shallow = r.rules.2;
-        }
-
     back : (c : MadeTree V) → OfStep lexicon sp A depth steps s c → OfNodes lexicon nodes A depth others s (length nodes) c
     back c o =
         let w = p.ways c.chain.rules o.stem o.shallow o.leads in (
@@ -117,25 +119,26 @@ chain_is lexicon sp A l depth c p =
       },
     )
 
+-- a chain over some steps is one over others that have them
+pub step_moved : {V : Type 0} (lexicon : List EntryTree) (sp : SpellingTree) (A : ℕ → List ℕ → V → Type 0) (depth : ℕ) (a b : List StepTree) → ((s : StepTree) → Has s a → Has s b) → (s : StepTree) (c : MadeTree V) → OfStep lexicon sp A depth a s c → OfStep lexicon sp A depth b s c
+step_moved lexicon sp A depth a b f s c o = record {
+  front = o.front;
+  stem = o.stem;
+  is_entry = o.is_entry;
+  leads = o.leads;
+  carried = carries_same a b c.chain.from o.front s.from f o.carried;
+  words_are = o.words_are;
+  to_is = o.to_is;
+  made = o.made;
+  shallow = o.shallow;
+}
+
 -- the steps in one order for those in another
 pub steps_same : {V : Type 0} (lexicon : List EntryTree) (sp : SpellingTree) (A : ℕ → List ℕ → V → Type 0) (depth : ℕ) (steps others sorted : List StepTree) (xs ys : List (MadeTree V)) → HaveSame others steps → HaveSame sorted steps
     → AddsThose (OfSome (OfStep lexicon sp A depth others) sorted) xs ys → AddsThose (OfSome (OfStep lexicon sp A depth steps) steps) xs ys
 steps_same {V} lexicon sp A depth steps others sorted xs ys same order a =
     adds_like (OfSome (OfStep lexicon sp A depth others) sorted) (OfSome (OfStep lexicon sp A depth steps) steps) xs ys
-    (λ c o. (o.0, order.there o.0 o.1, moved others steps same.there o.0 c o.2)) (λ c o. (o.0, order.back o.0 o.1, moved steps others same.back o.0 c o.2)) a
-  where
-    moved : (a b : List StepTree) → ((s : StepTree) → Has s a → Has s b) → (s : StepTree) (c : MadeTree V) → OfStep lexicon sp A depth a s c → OfStep lexicon sp A depth b s c
-    moved a b f s c o = record {
-      front = o.front;
-      stem = o.stem;
-      is_entry = o.is_entry;
-      leads = o.leads;
-      carried = carries_same a b c.chain.from o.front s.from f o.carried;
-      words_are = o.words_are;
-      to_is = o.to_is;
-      made = o.made;
-      shallow = o.shallow;
-    }
+    (λ c o. (o.0, order.there o.0 o.1, step_moved lexicon sp A depth others steps same.there o.0 c o.2)) (λ c o. (o.0, order.back o.0 o.1, step_moved lexicon sp A depth steps others same.back o.0 c o.2)) a
 
 pub same_refl : (xs : List StepTree) → HaveSame xs xs
 same_refl xs = record { there = λ s h. h; back = λ s h. h }

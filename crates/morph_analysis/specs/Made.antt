@@ -5,6 +5,8 @@ use Rattle.lexicon.specs.Entries.{EntryTree}
 use Rattle.spelling_rules.specs.Trees.{SpellingTree}
 use Rattle.morph_analysis.specs.Lattices.{LatticeTree, Carries}
 use Rattle.morph_analysis.specs.Chains.{ChainTree, Spells, AreInOrder}
+use Rattle.morph_analysis.specs.declared.made.Halt.{Halt}
+use Rattle.morph_analysis.specs.declared.made.Halt.TheVariants.{Enough, NoMemory}
 
 -- a chain, and what is made of its entry and its rules
 pub record MadeTree (V : Type 0) : Type 0 where
@@ -17,6 +19,11 @@ pub record IsMadeChain {V : Type 0} (makes : ℕ → List ℕ → V → Type 0) 
   pub carried : Carries l.steps x.chain.from x.chain.words x.chain.to
   pub made : makes x.chain.entry x.chain.rules x.value
   pub shallow : length x.chain.rules ≤ depth
+
+-- why a search for chains of which P holds may end before all are found: one of them is enough, by its rules, or memory was wanting
+abbrev pub MayHalt : {V : Type 0} → (List ℕ → Type 0) → (MadeTree V → Type 0) → Halt → Type 0
+MayHalt {V} enough P Enough = (x : MadeTree V) × P x × enough x.chain.rules
+MayHalt enough P NoMemory = Unit {0}
 
 -- Exactly those of which something is made, each once, in the order of chains.
 pub record AreMadeChains {V : Type 0} (makes : ℕ → List ℕ → V → Type 0) (lexicon : List EntryTree) (s : SpellingTree) (l : LatticeTree) (depth : ℕ) (xs : List (MadeTree V)) : Type 0 where

@@ -35,6 +35,8 @@ impl<'a> Maker for Allowed<'a> {
 
     ghost makes = { λ s entry rules v. IsAllowed s.feeds.now entry rules };
 
+    ghost enough = { λ _ _. ⊥ };
+
     fn begin(&self, _alloc: Global, _work: &mut (), _entry: u32) -> Result<Option<()>, NoMemory> {
         Ok(Some(()))
     }
@@ -53,6 +55,10 @@ impl<'a> Maker for Allowed<'a> {
         } else {
             Ok(None)
         }
+    }
+
+    fn is_enough(&self, _rules: &[u32]) -> bool {
+        false
     }
 
     fn laws(&self) {}
@@ -87,7 +93,10 @@ pub fn chains(
     ensures { IfOk result (λ v. AreChains lexicon.now spelling.now feeds.now (lattice_of lattice.now) depth (map chain_of v.items)) }
 {
     let allowed = Allowed { feeds };
-    let made = made_chains(alloc, &allowed, &mut (), lexicon, spelling, lattice, depth)?;
+    // no chain is enough, so nothing but memory ends the search
+    let Ok(made) = made_chains(alloc, &allowed, &mut (), lexicon, spelling, lattice, depth) else {
+        return Err(NoMemory);
+    };
     let chains = without_made(alloc, made)?;
     Ok(chains)
 }

@@ -1,6 +1,6 @@
 //! Chains in a lattice.
 
-ghost use Rattle.std.specs.Prelude.{◌≡◌, ◌++◌, ◌-◌, ◌<◌, ◌∷◌, [], ℕ, List, length, map, take, IfOk, OnOk, string_bytes};
+ghost use Rattle.std.specs.Prelude.{◌≡◌, ◌++◌, ◌-◌, ◌<◌, ◌∷◌, [], ℕ, List, length, map, take, IfErr, IfOk, OnOk, string_bytes};
 ghost use Rattle.std.specs.List.Sorted.{IsStrictlySortedBy};
 ghost use Rattle.std.specs.declared.cmp.Ordering.TheVariants.{Equal};
 ghost use Rattle.lexicon.specs.Groups.{group_of};
@@ -8,7 +8,7 @@ ghost use Rattle.word_lists.specs.Words.{Has};
 ghost use Rattle.morph_analysis.specs.Chains.{HaveWords};
 ghost use Rattle.morph_analysis.specs.Lattices.{IsValid, HaveSame};
 ghost use Rattle.morph_analysis.specs.LatticeViews.{lattice_of, step_of};
-ghost use Rattle.morph_analysis.specs.Made.{AreMadeChains};
+ghost use Rattle.morph_analysis.specs.Made.{AreMadeChains, MayHalt, IsMadeChain};
 ghost use Rattle.morph_analysis.specs.Views.{made_of};
 ghost use Rattle.morph_analysis.specs.Spelled.{IsSpelled, node_at};
 ghost use Rattle.morph_analysis.specs.Inner.Adding.{AddsThose, IsOf, OfGroup, OfWords, OfNode, OfNodes, OfSome, OfStep};
@@ -17,7 +17,7 @@ ghost use Rattle.morph_analysis.specs.Inner.Routes.{AreWithin, IsRouteOf};
 use crate::arrivals::Arrivals;
 use crate::graph::Graph;
 use crate::lattice::{Lattice, Step};
-use crate::made::{MadeChain, Maker};
+use crate::made::{Halt, MadeChain, Maker};
 use crate::outward::add_from;
 use lexicon::{Group, Lexicon};
 use spelling_rules::Spelling;
@@ -37,10 +37,11 @@ fn add_entry<M: Maker>(
     step: &Step,
     froms: &[u32],
     out: &mut Vec<MadeChain<M::Made>>,
-) -> Result<(), NoMemory>
+) -> Result<(), Halt>
     requires node { node < length graph.now }
     requires within { AreWithin graph.now }
-    ensures { OnOk result (AddsThose (IsOf (λ e. e ≡ entry) (IsRouteOf graph.now (M.makes maker.now) depth node) (λ m. Has m froms.now) (map string_bytes front.now ++ string_bytes step.now.word ∷ []) step.now.to) (map (made_of (M.value maker.now)) out.old.items) (map (made_of (M.value maker.now)) out.new.items)) }
+    ensures all { OnOk result (AddsThose (IsOf (λ e. e ≡ entry) (IsRouteOf graph.now (M.makes maker.now) depth node) (λ m. Has m froms.now) (map string_bytes front.now ++ string_bytes step.now.word ∷ []) step.now.to) (map (made_of (M.value maker.now)) out.old.items) (map (made_of (M.value maker.now)) out.new.items)) }
+    ensures halt { IfErr result (MayHalt (M.enough maker.now) (IsOf (λ e. e ≡ entry) (IsRouteOf graph.now (M.makes maker.now) depth node) (λ m. Has m froms.now) (map string_bytes front.now ++ string_bytes step.now.word ∷ []) step.now.to)) }
 {
     for from in froms {
         add_from(
@@ -63,10 +64,11 @@ fn add_entries<M: Maker>(
     front: &[String],
     step: &Step,
     out: &mut Vec<MadeChain<M::Made>>,
-) -> Result<(), NoMemory>
+) -> Result<(), Halt>
     requires node { node < length graph.now }
     requires within { AreWithin graph.now }
-    ensures { OnOk result (AddsThose (OfGroup graph.now (M.makes maker.now) depth arrivals.now (step_of step.now) node (map string_bytes front.now) (λ e. Has e entries.now)) (map (made_of (M.value maker.now)) out.old.items) (map (made_of (M.value maker.now)) out.new.items)) }
+    ensures all { OnOk result (AddsThose (OfGroup graph.now (M.makes maker.now) depth arrivals.now (step_of step.now) node (map string_bytes front.now) (λ e. Has e entries.now)) (map (made_of (M.value maker.now)) out.old.items) (map (made_of (M.value maker.now)) out.new.items)) }
+    ensures halt { IfErr result (MayHalt (M.enough maker.now) (OfGroup graph.now (M.makes maker.now) depth arrivals.now (step_of step.now) node (map string_bytes front.now) (λ e. Has e entries.now))) }
 {
     let froms = arrivals.fronts(alloc, front, step.from)?;
     if froms.is_empty() {
@@ -100,10 +102,11 @@ fn add_group<M: Maker>(
     group: &Group,
     step: &Step,
     out: &mut Vec<MadeChain<M::Made>>,
-) -> Result<(), NoMemory>
+) -> Result<(), Halt>
     requires node { node < length graph.now }
     requires within { AreWithin graph.now }
-    ensures { OnOk result (AddsThose (OfWords graph.now (M.makes maker.now) depth arrivals.now (step_of step.now) node (group_of group.now)) (map (made_of (M.value maker.now)) out.old.items) (map (made_of (M.value maker.now)) out.new.items)) }
+    ensures all { OnOk result (AddsThose (OfWords graph.now (M.makes maker.now) depth arrivals.now (step_of step.now) node (group_of group.now)) (map (made_of (M.value maker.now)) out.old.items) (map (made_of (M.value maker.now)) out.new.items)) }
+    ensures halt { IfErr result (MayHalt (M.enough maker.now) (OfWords graph.now (M.makes maker.now) depth arrivals.now (step_of step.now) node (group_of group.now))) }
 {
     if group.words.is_empty() {
         return Ok(());
@@ -137,10 +140,11 @@ fn add_node<M: Maker>(
     node: usize,
     step: &Step,
     out: &mut Vec<MadeChain<M::Made>>,
-) -> Result<(), NoMemory>
+) -> Result<(), Halt>
     requires node { node < length graph.now }
     requires within { AreWithin graph.now }
-    ensures { OnOk result (AddsThose (OfNode lexicon.now graph.now (M.makes maker.now) depth arrivals.now (step_of step.now) node) (map (made_of (M.value maker.now)) out.old.items) (map (made_of (M.value maker.now)) out.new.items)) }
+    ensures all { OnOk result (AddsThose (OfNode lexicon.now graph.now (M.makes maker.now) depth arrivals.now (step_of step.now) node) (map (made_of (M.value maker.now)) out.old.items) (map (made_of (M.value maker.now)) out.new.items)) }
+    ensures halt { IfErr result (MayHalt (M.enough maker.now) (OfNode lexicon.now graph.now (M.makes maker.now) depth arrivals.now (step_of step.now) node)) }
 {
     let groups = lexicon.by_last(graph.word(node));
     for group in groups {
@@ -162,9 +166,10 @@ fn add_step<M: Maker>(
     arrivals: &Arrivals<'_>,
     step: &Step,
     out: &mut Vec<MadeChain<M::Made>>,
-) -> Result<(), NoMemory>
+) -> Result<(), Halt>
     requires { AreWithin graph.now }
-    ensures { OnOk result (AddsThose (OfNodes lexicon.now graph.now (M.makes maker.now) depth arrivals.now (step_of step.now) (length graph.now)) (map (made_of (M.value maker.now)) out.old.items) (map (made_of (M.value maker.now)) out.new.items)) }
+    ensures all { OnOk result (AddsThose (OfNodes lexicon.now graph.now (M.makes maker.now) depth arrivals.now (step_of step.now) (length graph.now)) (map (made_of (M.value maker.now)) out.old.items) (map (made_of (M.value maker.now)) out.new.items)) }
+    ensures halt { IfErr result (MayHalt (M.enough maker.now) (OfNodes lexicon.now graph.now (M.makes maker.now) depth arrivals.now (step_of step.now) (length graph.now))) }
 {
     for node in 0..graph.len() {
         add_node(
@@ -215,8 +220,9 @@ fn add_steps<M: Maker>(
     arrivals: &Arrivals<'_>,
     sorted: &[&Step],
     out: &mut Vec<MadeChain<M::Made>>,
-) -> Result<(), NoMemory>
-    ensures { OnOk result (AddsThose (OfSome (OfStep lexicon.now spelling.now (M.makes maker.now) depth arrivals.now) (map (λ s. step_of s.now) sorted.now)) (map (made_of (M.value maker.now)) out.old.items) (map (made_of (M.value maker.now)) out.new.items)) }
+) -> Result<(), Halt>
+    ensures all { OnOk result (AddsThose (OfSome (OfStep lexicon.now spelling.now (M.makes maker.now) depth arrivals.now) (map (λ s. step_of s.now) sorted.now)) (map (made_of (M.value maker.now)) out.old.items) (map (made_of (M.value maker.now)) out.new.items)) }
+    ensures halt { IfErr result (MayHalt (M.enough maker.now) (OfSome (OfStep lexicon.now spelling.now (M.makes maker.now) depth arrivals.now) (map (λ s. step_of s.now) sorted.now))) }
 {
     let first = Graph::of_word(alloc, spelling, "", depth)?;
     let mut graph = first;
@@ -239,8 +245,9 @@ fn chains_of<M: Maker>(
     spelling: &Spelling,
     steps: &[Step],
     depth: u32,
-) -> Result<Vec<MadeChain<M::Made>>, NoMemory>
-    ensures { IfOk result (λ v. AddsThose (OfSome (OfStep lexicon.now spelling.now (M.makes maker.now) depth (map step_of steps.now)) (map step_of steps.now)) [] (map (made_of (M.value maker.now)) v.items)) }
+) -> Result<Vec<MadeChain<M::Made>>, Halt>
+    ensures all { IfOk result (λ v. AddsThose (OfSome (OfStep lexicon.now spelling.now (M.makes maker.now) depth (map step_of steps.now)) (map step_of steps.now)) [] (map (made_of (M.value maker.now)) v.items)) }
+    ensures halt { IfErr result (MayHalt (M.enough maker.now) (OfSome (OfStep lexicon.now spelling.now (M.makes maker.now) depth (map step_of steps.now)) (map step_of steps.now))) }
 {
     let mut out = Vec::new(alloc);
     let arrivals = Arrivals::make(alloc, steps)?;
@@ -263,10 +270,12 @@ fn sort_once<T: Ord + Drop>(items: &mut Vec<T>) -> Result<(), NoMemory>
 }
 
 /// The chains of at most `depth` rules that spell words which a path of the lattice carries and of which something is made,
-/// with what is made of them: exactly those, each once, by `from`, `to`, entry, rules and words.
+/// with what is made of them: exactly those, each once, by `from`, `to`, entry, rules and words; or `Enough`, where one of them is
+/// enough.
 ///
 /// Every entry of the lexicon must have a word, and the lattice must be valid. The search goes outwards from each entry and
-/// ends where nothing is made; for chains from one node that begin alike, what their beginning makes is made once.
+/// ends where nothing is made; for chains from one node that begin alike, what their beginning makes is made once. It goes on from
+/// what was made before that is added, so the longest chains come first, and the first that is enough ends it.
 pub fn made_chains<M: Maker>(
     alloc: Global,
     maker: &M,
@@ -275,10 +284,11 @@ pub fn made_chains<M: Maker>(
     spelling: &Spelling,
     lattice: &Lattice,
     depth: u32,
-) -> Result<Vec<MadeChain<M::Made>>, NoMemory>
+) -> Result<Vec<MadeChain<M::Made>>, Halt>
     requires words { HaveWords lexicon.now }
     requires valid { IsValid (lattice_of lattice.now) }
-    ensures { IfOk result (λ v. AreMadeChains (M.makes maker.now) lexicon.now spelling.now (lattice_of lattice.now) depth (map (made_of (M.value maker.now)) v.items)) }
+    ensures halt { IfErr result (MayHalt (M.enough maker.now) (IsMadeChain (M.makes maker.now) lexicon.now spelling.now (lattice_of lattice.now) depth)) }
+    ensures all { IfOk result (λ v. AreMadeChains (M.makes maker.now) lexicon.now spelling.now (lattice_of lattice.now) depth (map (made_of (M.value maker.now)) v.items)) }
 {
     maker.laws();
     let mut out = chains_of(alloc, maker, work, lexicon, spelling, &lattice.steps, depth)?;

@@ -23,6 +23,6 @@ pub use chain::Chain;
 pub use feeds::Feeds;
 pub use graph::Graph;
 pub use lattice::{Lattice, LatticeFault, Step};
-pub use made::{MadeChain, Maker};
+pub use made::{Halt, MadeChain, Maker};
 pub use nodes::Edge;
 pub use word_lists::NoMemory;

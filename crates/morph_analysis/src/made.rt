@@ -1,9 +1,10 @@
 //! Chains with what is made of them.
 
-ghost use Rattle.std.specs.Prelude.{◌≡◌, ◌++◌, ◌∷◌, [], ℕ, List, IfOk, MatchOption};
+ghost use Rattle.std.specs.Prelude.{◌≡◌, ◌++◌, ◌∷◌, [], ℕ, List, true, IfOk, MatchOption};
+ghost use Rattle.morph_analysis.specs.declared.made.Halt.TheVariants as halt;
 
 use crate::chain::Chain;
-use std::alloc::Global;
+use std::alloc::{AllocError, AllocFailed, Global};
 use std::cmp::Ordering;
 use word_lists::NoMemory;
 
@@ -12,6 +13,39 @@ use word_lists::NoMemory;
 pub struct MadeChain<T> {
     pub chain: Chain,
     pub made: T,
+}
+
+/// Why a search for chains ended before all were found.
+#[derive(Clone, Copy, Debug, PartialEq, Eq)]
+pub enum Halt {
+    /// a chain was found that is enough
+    Enough,
+    /// memory was wanting
+    NoMemory,
+}
+
+impl From<NoMemory> for Halt {
+    ghost from_gives = { λ _ e. e ≡ halt.NoMemory };
+
+    fn from(_: NoMemory) -> Halt {
+        Halt::NoMemory
+    }
+}
+
+impl From<AllocError> for Halt {
+    ghost from_gives = { λ _ e. e ≡ halt.NoMemory };
+
+    fn from(_: AllocError) -> Halt {
+        Halt::NoMemory
+    }
+}
+
+impl<T: Drop> From<AllocFailed<T>> for Halt {
+    ghost from_gives = { λ _ e. e ≡ halt.NoMemory };
+
+    fn from(_: AllocFailed<T>) -> Halt {
+        Halt::NoMemory
+    }
 }
 
 /// Something that is made of an entry and then, from the inside out, of what each lexical rule makes of it, as a structure
@@ -28,6 +62,9 @@ pub trait Maker {
     ghost value: { Self → Self.Made → Value };
 
     ghost makes: { Self → ℕ → List ℕ → Value → Type 0 };
+
+    // which rules over an entry are enough, so that a chain with them ends the search
+    ghost enough: { Self → List ℕ → Type 0 };
 
     /// What is made of an entry; none exactly where there is nothing.
     fn begin(
@@ -54,6 +91,10 @@ pub trait Maker {
         ensures { IfOk result (λ o. MatchOption o
             ((v : Value) → makes self.now entry (rules.now ++ rule ∷ []) v → ⊥)
             (λ next. makes self.now entry (rules.now ++ rule ∷ []) (value self.now next))) };
+
+    /// Whether a chain with these rules is enough, so that no other is looked for. Takes no memory.
+    fn is_enough(&self, rules: &[u32]) -> bool
+        ensures { result ≡ true → enough self.now rules.now };
 
     /// A law: an entry and rules make one thing at most, and what they make with one rule more is made of what they make. It
     /// does nothing.

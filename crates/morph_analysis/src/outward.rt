@@ -1,15 +1,16 @@
 //! The search outwards: from an entry over rules to the word at node 0, as long as something is made.
 
-ghost use Rattle.std.specs.Prelude.{◌≡◌, ◌++◌, ◌<◌, ◌≤◌, ◌∷◌, [], ℕ, List, length, map, IfOk, OnOk, MatchOption, string_bytes};
+ghost use Rattle.std.specs.Prelude.{◌≡◌, ◌++◌, ◌<◌, ◌≤◌, ◌∷◌, [], ℕ, List, length, map, IfErr, IfOk, OnOk, MatchOption, string_bytes};
 ghost use Rattle.morph_analysis.specs.Inner.Adding.{AddsThose, IsOf};
 ghost use Rattle.morph_analysis.specs.Inner.Routes.{AreWithin, IsOn, IsAlong, IsEnded, IsLonger, IsRouteOf};
+ghost use Rattle.morph_analysis.specs.Made.{MayHalt};
 ghost use Rattle.morph_analysis.specs.Spelled.{node_at};
 ghost use Rattle.morph_analysis.specs.Views.{edge_of, made_of};
 
 use crate::chain::Chain;
 use crate::graph::Graph;
 use crate::lattice::Step;
-use crate::made::{MadeChain, Maker};
+use crate::made::{Halt, MadeChain, Maker};
 use crate::nodes::Edge;
 use std::alloc::Global;
 use word_lists::{NoMemory, copied};
@@ -56,7 +57,7 @@ fn longer<M: Maker>(
     }
 }
 
-// Adds the chain of a route that has come to node 0, from a node over a front and a step.
+// Adds the chain of a route that has come to node 0, from a node over a front and a step, unless it is enough.
 fn add_ended<M: Maker>(
     alloc: Global,
     maker: &M,
@@ -66,13 +67,17 @@ fn add_ended<M: Maker>(
     step: &Step,
     from: u32,
     out: &mut Vec<MadeChain<M::Made>>,
-) -> Result<(), NoMemory>
+) -> Result<(), Halt>
     requires { M.makes maker.now entry route.rules.items (M.value maker.now route.made) }
-    ensures { OnOk result (AddsThose (IsOf (λ e. e ≡ entry) (IsEnded (M.makes maker.now) route.rules.items route.node) (λ m. m ≡ from) (map string_bytes front.now ++ string_bytes step.now.word ∷ []) step.now.to) (map (made_of (M.value maker.now)) out.old.items) (map (made_of (M.value maker.now)) out.new.items)) }
+    ensures all { OnOk result (AddsThose (IsOf (λ e. e ≡ entry) (IsEnded (M.makes maker.now) route.rules.items route.node) (λ m. m ≡ from) (map string_bytes front.now ++ string_bytes step.now.word ∷ []) step.now.to) (map (made_of (M.value maker.now)) out.old.items) (map (made_of (M.value maker.now)) out.new.items)) }
+    ensures halt { IfErr result (MayHalt (M.enough maker.now) (IsOf (λ e. e ≡ entry) (IsEnded (M.makes maker.now) route.rules.items route.node) (λ m. m ≡ from) (map string_bytes front.now ++ string_bytes step.now.word ∷ []) step.now.to)) }
 {
     maker.laws();
     if route.node != 0 {
         return Ok(());
+    }
+    if maker.is_enough(&route.rules) {
+        return Err(Halt::Enough);
     }
     let mut words = copied(alloc, front)?;
     words.push(step.word.clone()?)?;
@@ -90,7 +95,7 @@ fn add_ended<M: Maker>(
     Ok(())
 }
 
-// Adds the chains that go on from a route.
+// Adds the chains that go on from a route, the longer ones first.
 fn add_on<M: Maker>(
     alloc: Global,
     maker: &M,
@@ -103,12 +108,13 @@ fn add_on<M: Maker>(
     step: &Step,
     from: u32,
     out: &mut Vec<MadeChain<M::Made>>,
-) -> Result<(), NoMemory>
+) -> Result<(), Halt>
     requires within { AreWithin graph.now }
     requires node { route.node < length graph.now }
     requires shallow { length route.rules.items ≤ depth }
     requires made { M.makes maker.now entry route.rules.items (M.value maker.now route.made) }
-    ensures { OnOk result (AddsThose (IsOf (λ e. e ≡ entry) (IsOn graph.now (M.makes maker.now) depth route.rules.items route.node) (λ m. m ≡ from) (map string_bytes front.now ++ string_bytes step.now.word ∷ []) step.now.to) (map (made_of (M.value maker.now)) out.old.items) (map (made_of (M.value maker.now)) out.new.items)) }
+    ensures all { OnOk result (AddsThose (IsOf (λ e. e ≡ entry) (IsOn graph.now (M.makes maker.now) depth route.rules.items route.node) (λ m. m ≡ from) (map string_bytes front.now ++ string_bytes step.now.word ∷ []) step.now.to) (map (made_of (M.value maker.now)) out.old.items) (map (made_of (M.value maker.now)) out.new.items)) }
+    ensures halt { IfErr result (MayHalt (M.enough maker.now) (IsOf (λ e. e ≡ entry) (IsOn graph.now (M.makes maker.now) depth route.rules.items route.node) (λ m. m ≡ from) (map string_bytes front.now ++ string_bytes step.now.word ∷ []) step.now.to)) }
 {
     for edge in graph.edges(route.node) {
         match longer(alloc, maker, work, graph, depth, entry, &route, *edge)? {
@@ -136,10 +142,11 @@ pub(crate) fn add_from<M: Maker>(
     step: &Step,
     from: u32,
     out: &mut Vec<MadeChain<M::Made>>,
-) -> Result<(), NoMemory>
+) -> Result<(), Halt>
     requires node { node < length graph.now }
     requires within { AreWithin graph.now }
-    ensures { OnOk result (AddsThose (IsOf (λ e. e ≡ entry) (IsRouteOf graph.now (M.makes maker.now) depth node) (λ m. m ≡ from) (map string_bytes front.now ++ string_bytes step.now.word ∷ []) step.now.to) (map (made_of (M.value maker.now)) out.old.items) (map (made_of (M.value maker.now)) out.new.items)) }
+    ensures all { OnOk result (AddsThose (IsOf (λ e. e ≡ entry) (IsRouteOf graph.now (M.makes maker.now) depth node) (λ m. m ≡ from) (map string_bytes front.now ++ string_bytes step.now.word ∷ []) step.now.to) (map (made_of (M.value maker.now)) out.old.items) (map (made_of (M.value maker.now)) out.new.items)) }
+    ensures halt { IfErr result (MayHalt (M.enough maker.now) (IsOf (λ e. e ≡ entry) (IsRouteOf graph.now (M.makes maker.now) depth node) (λ m. m ≡ from) (map string_bytes front.now ++ string_bytes step.now.word ∷ []) step.now.to)) }
 {
     maker.laws();
     match maker.begin(alloc, work, entry)? {

@@ -8,6 +8,8 @@ use Rattle.morph_analysis.proofs.Lists.{all_taken, Has-at}
 use Rattle.morph_analysis.proofs.AddLemmas.{some_more}
 use Rattle.morph_analysis.proofs.RouteLemmas.{all_on, on_longer, no_along}
 use Rattle.morph_analysis.proofs.outward.+add_on.Goals.{in-Some+in_ok-add_on-in-Some, in-None}
+use Rattle.morph_analysis.specs.Inner.Routes.{IsOn, IsEnded}
+use Rattle.morph_analysis.proofs.EnoughLemmas.{at_exit, longer_is, ended_is}
 use Rattle.morph_analysis.proofs.outward.+add_on.Goals as goal
 
 pub longer-requires-clause-to : goal.longer-requires-clause-to
@@ -46,14 +48,14 @@ loop-edge-preserved g t c =
       | in-Some+in_ok-add_on-in-Some w ↦
           subst (λ o. AddsThose (IsOf (λ z. z ≡ c.args.entry) (IsAlong c.args.graph.now A c.args.depth rules (edge_of x)) (λ m. m ≡ c.args.from) words c.args.step.now.to) old (map view o.items)) (sym w.out-is)
           (on_longer c.args.graph.now A c.args.depth (λ z. z ≡ c.args.entry) (λ m. m ≡ c.args.from) words c.args.step.now.to rules w.in-Some.next.rules.items (edge_of x) c.args.entry w.in-Some.next.node (g.M.Maker.value c.args.maker.now w.in-Some.next.made) old (map view w.add_on.new.out.items)
-          (rw w.in-Some.is at c.in_ok-longer.ensures) w.in_ok-add_on-in-Some.ensures)
+          (rw w.in-Some.is at c.in_ok-longer.ensures) w.in_ok-add_on-in-Some.ensures.all)
       | in-None w ↦
           subst (λ o. AddsThose (IsOf (λ z. z ≡ c.args.entry) (IsAlong c.args.graph.now A c.args.depth rules (edge_of x)) (λ m. m ≡ c.args.from) words c.args.step.now.to) old (map view o.items)) (sym w.out-is)
           (no_along c.args.graph.now A c.args.depth c.args.entry (λ m. m ≡ c.args.from) words c.args.step.now.to rules (edge_of x) old (rw w.in-None.is at c.in_ok-longer.ensures))
     ])
 
-pub returns : goal.returns
-returns g t c =
+pub returns-clause-all : goal.returns-clause-all
+returns-clause-all g t c =
     let A = g.M.Maker.makes c.args.maker.now in
     let view = made_of (g.M.Maker.value c.args.maker.now) in
     let words = map string_bytes c.args.front.now ++ string_bytes c.args.step.now.word ∷ [] in
@@ -61,4 +63,28 @@ returns g t c =
     let items = c.edges-edge-items.result.now in
     all_on c.args.graph.now A c.args.depth (λ e. e ≡ c.args.entry) (λ m. m ≡ c.args.from) words c.args.step.now.to rules c.args.route.node (map view c.args.out.now.items) (map view c.loop-edge.out.items) (map view c.add_ended.new.out.items) c.requires.node c.requires.shallow
     (subst (λ l. AddsThose (OfSome (λ e. IsOf (λ z. z ≡ c.args.entry) (IsAlong c.args.graph.now A c.args.depth rules e) (λ m. m ≡ c.args.from) words c.args.step.now.to) l) (map view c.args.out.now.items) (map view c.loop-edge.out.items))
-    (ap (map edge_of) (all_taken items c.loop-edge.edge-index c.loop-edge-test.false) ∙ c.edges-edge-items.ensures) c.loop-edge.invariant) c.in_ok-add_ended.ensures
+    (ap (map edge_of) (all_taken items c.loop-edge.edge-index c.loop-edge-test.false) ∙ c.edges-edge-items.ensures) c.loop-edge.invariant) c.in_ok-add_ended.ensures.all
+
+pub returns-in_err-add_on-in-Some-clause-halt : goal.returns-in_err-add_on-in-Some-clause-halt
+returns-in_err-add_on-in-Some-clause-halt g t c =
+    let A = g.M.Maker.makes c.args.maker.now in
+    let words = map string_bytes c.args.front.now ++ string_bytes c.args.step.now.word ∷ [] in
+    let rules = c.args.route.rules.items in
+    let next = c.in-Some.next in
+    let items = c.edges-edge-items.result.now in
+    let i = c.loop-edge.edge-index in
+    let x = get_or items i (record { rule = 0; to = 0 }) in
+    let has = subst (Has (edge_of x)) c.edges-edge-items.ensures (Has-at edge_of items i x (edge_of x) c.loop-edge-test.true (get_or_default items i (record { rule = 0; to = 0 }) x c.loop-edge-test.true) refl) in
+    at_exit (g.M.Maker.enough c.args.maker.now) (IsOf (λ e. e ≡ c.args.entry) (IsOn c.args.graph.now A c.args.depth next.rules.items next.node) (λ m. m ≡ c.args.from) words c.args.step.now.to) (IsOf (λ e. e ≡ c.args.entry) (IsOn c.args.graph.now A c.args.depth rules c.args.route.node) (λ m. m ≡ c.args.from) words c.args.step.now.to)
+    c.from_residual-in_err-add_on-in-Some.result c.in_err-add_on-in-Some.field-0.0 c.from_residual-in_err-add_on-in-Some.ensures.1
+    (longer_is c.args.graph.now A c.args.depth (λ e. e ≡ c.args.entry) (λ m. m ≡ c.args.from) words c.args.step.now.to rules next.rules.items (edge_of x) c.args.entry next.node c.args.route.node (g.M.Maker.value c.args.maker.now next.made) c.requires.node has (rw c.in-Some.is at c.in_ok-longer.ensures))
+    c.in_err-add_on-in-Some.ensures.halt
+
+pub returns-in_err-add_ended-clause-halt : goal.returns-in_err-add_ended-clause-halt
+returns-in_err-add_ended-clause-halt g t c =
+    let A = g.M.Maker.makes c.args.maker.now in
+    let words = map string_bytes c.args.front.now ++ string_bytes c.args.step.now.word ∷ [] in
+    let rules = c.args.route.rules.items in
+    at_exit (g.M.Maker.enough c.args.maker.now) (IsOf (λ e. e ≡ c.args.entry) (IsEnded A rules c.args.route.node) (λ m. m ≡ c.args.from) words c.args.step.now.to) (IsOf (λ e. e ≡ c.args.entry) (IsOn c.args.graph.now A c.args.depth rules c.args.route.node) (λ m. m ≡ c.args.from) words c.args.step.now.to)
+    c.from_residual-in_err-add_ended.result c.in_err-add_ended.field-0.0 c.from_residual-in_err-add_ended.ensures.1 (ended_is c.args.graph.now A c.args.depth (λ e. e ≡ c.args.entry) (λ m. m ≡ c.args.from) words c.args.step.now.to rules c.args.route.node c.requires.shallow)
+    c.in_err-add_ended.ensures.halt
