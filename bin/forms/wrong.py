@@ -2,8 +2,8 @@
 import re
 import sys
 
-# A text in quotes is open at the end.
-OPEN = re.compile(r'(?:[^"]++|"(?:[^"\\]|\\.)*")*+"(?:[^"\\]|\\.)*+', re.DOTALL)
+# The rest of a text in quotes, with the quote that ends it.
+END = re.compile(r'[^"\\]*(?:\\.[^"\\]*)*"', re.DOTALL)
 
 
 class Wrong(Exception):
@@ -17,6 +17,20 @@ def shown(text, most=60):
     """A text as a message quotes it: not too long, and with nothing that a terminal would obey."""
     short = text if len(text) <= most else text[: most - 3] + "..."
     return "'" + "".join(c if c.isprintable() else "?" for c in short) + "'"
+
+
+def is_open_after(line, is_open):
+    """Whether a text in quotes is open where a line ends, if it was open, or none was, where the line begins."""
+    at = 0
+    while True:
+        if not is_open:
+            at = line.find('"', at) + 1
+            if at == 0:
+                return False
+        end = END.match(line, at)
+        if end is None:
+            return True
+        at, is_open = end.end(), False
 
 
 class Lines:
@@ -40,11 +54,13 @@ class Lines:
 
     def whole(self):
         """The line that comes next, with those after it where a text in quotes goes on over the line's end; it isn't taken."""
-        line, more = self.peek(), self.at + 1
-        while OPEN.fullmatch(line) and more < len(self.lines):
-            line += "\n" + self.lines[more]
+        parts, more = [self.peek()], self.at + 1
+        is_open = is_open_after(parts[0], False)
+        while is_open and more < len(self.lines):
+            parts.append(self.lines[more])
+            is_open = is_open_after(parts[-1], True)
             more += 1
-        return line
+        return "\n".join(parts)
 
     def pass_over(self, text):
         self.at += text.count("\n") + 1

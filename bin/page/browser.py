@@ -35,7 +35,7 @@ class Browser:
         os.close(read_end)
         os.close(write_end)
         self.buffer, self.number, self.session, self.faults, self.loaded = b"", 0, None, [], False
-        target = self.call("Target.createTarget", url="about:blank", width=width, height=height)["targetId"]
+        target = self.call("Target.createTarget", url="about:blank")["targetId"]
         self.session = self.call("Target.attachToTarget", targetId=target, flatten=True)["sessionId"]
         for name in ("Page", "Runtime", "Log"):
             self.call(name + ".enable")
