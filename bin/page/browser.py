@@ -35,6 +35,13 @@ class Browser:
         os.close(read_end)
         os.close(write_end)
         self.buffer, self.number, self.session, self.faults, self.loaded = b"", 0, None, [], False
+        try:
+            self.begin(width, height)
+        except BaseException:
+            self.close()
+            raise
+
+    def begin(self, width, height):
         target = self.call("Target.createTarget", url="about:blank")["targetId"]
         self.session = self.call("Target.attachToTarget", targetId=target, flatten=True)["sessionId"]
         for name in ("Page", "Runtime", "Log"):
