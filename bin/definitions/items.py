@@ -64,16 +64,20 @@ class Item:
         self.rules = [(name, grammar.arity_of(name), covers.begin(name)) for name, _ in grammar.case["rules"]]
 
     def tuples(self, arity, begin, found, size):
-        """The covers found of so many daughters that join, with what the rule begins with, to one of this size."""
-        fronts = [] if begin is None else [(begin, ())]
+        """The covers found of so many daughters that join, with what the rule begins with, to one of this size: sizes add up."""
+        fronts, by_size = [] if begin is None else [(begin, ())], {}
+        for cover in found:
+            by_size.setdefault(self.covers.size(cover), []).append(cover)
         for k in range(arity):
+            rest = arity - 1 - k
             fronts = [
                 (joined, (*parts, cover))
                 for sum_of, parts in fronts
-                for cover in found
-                if (joined := self.covers.join(sum_of, cover)) is not None and self.covers.size(joined) <= size - (arity - 1 - k)
+                for left in [size - self.covers.size(sum_of) - rest]
+                for cover in itertools.chain(*(by_size.get(part, ()) for part in (range(1, left + 1) if rest else [left])))
+                if (joined := self.covers.join(sum_of, cover)) is not None
             ]
-        return [(cover, parts) for cover, parts in fronts if self.covers.size(cover) == size]
+        return fronts
 
     def class_answer(self):
         """The number of packed classes, or the limit that is broken at the least size."""
@@ -200,21 +204,34 @@ def spans_of(lattice, words):
     return sorted(fronts)
 
 
-def generate_answer(grammar, number, bag, means, contributions):
-    """The report on an MRS with this bag of predicates, and whether it is refused. What leaves and rules contribute, and which
-    structures mean the MRS, is given."""
+def generation_of(grammar, bag, contributions):
+    """What may be generated with this bag of predicates, its classes not yet counted; none where there are too many lexical rules."""
     of_leaf, of_rule = contributions
     most, preds = grammar.case["lexical-limit"], sorted(bag)
     counts = Counts(preds, bag, grammar.case["empty"], {name: of_rule(name) for name, _ in grammar.case["rules"]})
     chains = [(of_leaf(chain[3]), chain) for chain in grammar.chains(most + 1)]
     if any(len(chain[1]) == most + 1 and counts.cover(said) is not None for said, chain in chains):
-        return [f"item {number} refused lexical-depth"], True
+        return None
     leaves = [(cover, chain, None) for said, chain in chains if (cover := counts.leaf(said)) is not None]
-    item = Item(grammar, counts, leaves)
+    return Item(grammar, counts, leaves)
+
+
+def generate_answer(grammar, number, bag, means, contributions):
+    """The report on an MRS with this bag of predicates, and whether it is refused. What leaves and rules contribute, and which
+    structures mean the MRS, is given."""
+    item = generation_of(grammar, bag, contributions)
+    if item is None:
+        return [f"item {number} refused lexical-depth"], True
     classes = item.class_answer()
     if isinstance(classes, str):
         return [f"item {number} refused {classes}"], True
-    whole = [(full, trees) for cover, row in item.trees().items() if cover[:-1] == counts.bound[:-1] for full, trees in row.items()]
+    return sentences_of(grammar, number, item, classes, means)
+
+
+def sentences_of(grammar, number, item, classes, means):
+    """The report on an MRS whose classes are counted."""
+    bound = item.covers.bound[:-1]
+    whole = [(full, trees) for cover, row in item.trees().items() if cover[:-1] == bound for full, trees in row.items()]
     found = [t for full, trees in whole if grammar.is_rooted(full) and means(full) for t in trees]
     if len(found) > grammar.case["readings"]:
         return [f"item {number} refused readings"], True
