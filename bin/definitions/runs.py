@@ -14,17 +14,17 @@ from .spelling_cases import lines_of, spelling_case
 from .structures import TooMuch
 from .type_cases import types_asked
 
-MOST_MRSS, BROKEN, SCOPES = 12, 20, 30
+MOST_MRSS, BROKEN, SCOPES, DEFAULT_READINGS = 12, 20, 30, 10000
 CHECK = ["check", "g", "--settings", "set"]
 
 
 class Asked:
     """The words of one process, its input, for each case of it the lines that must come, the status and a fault's text; and files
-    that stand in place of the run's."""
+    that stand in place of the run's. Cases too large for the definitions are no cases; `passed` counts them."""
 
-    def __init__(self, words, cases, lines=(), status=0, fault="", files=None):
+    def __init__(self, words, cases, lines=(), status=0, fault="", files=None, passed=0):
         self.words, self.cases, self.lines, self.status, self.fault = words, cases, lines, status, fault
-        self.files = files or {}
+        self.files, self.passed = files or {}, passed
 
 
 def parsed(chance, case, grammar, mrs_lines=None):
@@ -151,21 +151,23 @@ def broken_run(chance):
 
 def scope_run(chance):
     """MRSs, a line each, with a limit of readings. No grammar is read, and a file of settings that isn't there is no fault."""
-    limit, lines, reports, refused = chance.choice(LIMITS), [], [], False
+    limit, lines, reports, refused, passed = chance.choice(LIMITS), [], [], False, 0
     for text, mrs in asked_lines(chance, SCOPES):
         number = len(lines) + 1
         if isinstance(mrs, int):
             report, is_refused = [f"item {number} no-mrs {mrs}"], True
         else:
             try:
-                report, is_refused = lines_of_scopes(number, mrs, limit)
+                report, is_refused = lines_of_scopes(number, mrs, limit or DEFAULT_READINGS)
             except TooMuch:
+                passed += 1
                 continue
         refused |= is_refused
         lines.append(text)
         reports.append(report)
     more = ["--settings", "missing"] if chance.random() < 0.1 else []
-    return {}, [Asked(["scope", "--readings", str(limit), *more, *workers_of(chance)], reports, lines, 4 if refused else 0)]
+    readings = ["--readings", str(limit)] if limit else []
+    return {}, [Asked(["scope", *readings, *more, *workers_of(chance)], reports, lines, 4 if refused else 0, passed=passed)]
 
 
 RUNS = {

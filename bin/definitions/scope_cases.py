@@ -3,7 +3,7 @@ that are spoilt in one place or several."""
 from .mrs import Mrs
 from .mrs_texts import Free, broken_of, changed_of, front_of, spaced
 
-LIMITS = (1, 1, 1, 2, 2, 3, 5, 10000)
+LIMITS = (1, 1, 1, 2, 2, 3, 5, None)
 
 
 class Draft:

@@ -1,8 +1,11 @@
-"""Scoped readings by plain slow definitions (Copestake, Flickinger, Pollard and Sag 2005): all trees of labels, made from the top
-down, and of each whether it binds what quantifiers bind, and whether it meets the constraints."""
+"""Scoped readings by plain slow definitions (Copestake, Flickinger, Pollard and Sag 2005): all ways to give the top and each hole a
+label, and of each whether it is a tree, binds what quantifiers bind, and meets the constraints. Where these are too many, trees
+of labels are made from the top down; where they aren't, both must give the same."""
+import itertools
+
 from .structures import TooMuch
 
-MOST_STEPS = 20000
+MOST_STEPS, MOST_WAYS = 20000, 4000
 TOP_HOLE = ("the top hole",)
 
 
@@ -32,12 +35,17 @@ def readings_of(mrs):
         raise OtherRelation
     frame = Frame(mrs)
     number = {v: k for k, v in enumerate(mrs.occurring())}
-    found = []
-    for plugging in pluggings(frame):
-        if is_reading(frame, plugging):
-            holes = sorted((number[hole], number[plugging[hole]]) for hole in frame.holes)
-            found.append((number[plugging[TOP_HOLE]], holes))
-    return sorted(found)
+
+    def readings(ways):
+        for plugging in filter(lambda plugging: is_reading(frame, plugging), ways):
+            yield number[plugging[TOP_HOLE]], sorted((number[hole], number[plugging[hole]]) for hole in frame.holes)
+
+    if len(frame.labels) ** (len(frame.holes) + 1) > MOST_WAYS:
+        return sorted(readings(pluggings(frame)))
+    found = sorted(readings(whole_pluggings(frame)))
+    if found != sorted(readings(pluggings(frame))):
+        raise AssertionError("pluggings made from the top down aren't those of all ways")
+    return found
 
 
 class Frame:
@@ -57,6 +65,15 @@ class Frame:
                 if bound[0] == "var":
                     others = (other for k, (_, other, said, _) in enumerate(mrs.eps) if k != place and bound in said.values())
                     self.bindings += [(restriction, body, other) for other in others]
+
+
+def whole_pluggings(frame):
+    """All ways to give the top and each hole a label, one after the other. A hole that is a label has itself."""
+    holes = [TOP_HOLE, *frame.holes]
+    for labels in itertools.product(frame.labels, repeat=len(holes)):
+        plugging = dict(zip(holes, labels))
+        if all(plugging[hole] == hole for hole in frame.holes if hole in frame.labels):
+            yield plugging
 
 
 def pluggings(frame, most=MOST_STEPS):

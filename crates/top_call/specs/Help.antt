@@ -14,6 +14,7 @@ help_lines =
     ∷ codes "  check GRAMMAR          one line that counts types, features, entries, rules and roots"
     ∷ codes "  expand GRAMMAR NAME    the structure of a type, entry, rule or root: a line for each path"
     ∷ codes "  self-test NUMBER SIZE  the workload of NUMBER with SIZE lines (1 to 1000), parsed and summed up in a line"
+    ∷ codes "  scope                  for each MRS of the input the number of its scoped readings, and all of them"
     ∷ codes "  --help, --version      this text; the version"
     ∷ []
     ∷ codes "GRAMMAR is the top file of a grammar; .tdl is added to a name without an ending."
@@ -21,11 +22,11 @@ help_lines =
     ∷ codes "Options, in any order after the command, each with its default:"
     ∷ codes "  --settings NAME  a file of settings (each setting's default)"
     ∷ codes "  --edges N        the most packed classes of a line, 1 to 20000 (5000)"
-    ∷ codes "  --readings N     the most trees of a line, 1 to 100000 (10000)"
+    ∷ codes "  --readings N     the most trees of a line, or the most readings of an MRS, 1 to 100000 (10000)"
     ∷ codes "  --lexical N      the most lexical rules over an entry, 0 to 15 (7)"
     ∷ codes "  --unary N        the most unary rules one over another, 0 to 32 (8)"
     ∷ codes "  --empty N        the most words without a predicate in a generated sentence, 0 to 16 (4)"
-    ∷ codes "  --workers N      how many workers fill a chart, 1 to 64 (1); no answer depends on it"
+    ∷ codes "  --workers N      how many workers fill a chart, or answer lines, 1 to 64 (1); no answer depends on it"
     ∷ codes "  --lattice        each line writes a lattice, FROM:TO:WORD for each step (a line is its words)"
     ∷ codes "  --mrs            each tree is followed by its MRS (trees alone)"
     ∷ []

@@ -28,6 +28,7 @@ use generate_commands::{Generate, generate_lines};
 use grammar_commands::{Check, Expand, Types};
 use line_commands::{Parse, parse_lines};
 use lkb_io::{Shelf, Sink, Source};
+use scope_commands::{Scoper, scope_lines};
 use self_tests::SelfTest;
 use std::alloc::Global;
 use std::sync::Wait;
@@ -97,6 +98,14 @@ fn limits_of(options: &Options) -> Limits
         unary: options.unary as u32,
         empty: options.empty as u32,
     }
+}
+
+// The most readings of an MRS that the options ask for.
+fn readings_of(options: &Options) -> u32
+    requires { AreWithin (options_in options.now) }
+    ensures { result ≡ (options_in options.now).readings }
+{
+    options.readings as u32
 }
 
 // How many workers the options ask for.
@@ -179,6 +188,13 @@ fn do_task<S: Shelf, I: Source, O: Sink, Rt: Threads + Wait + Sync>(
             };
             write_whole(rt, alloc, &command, shelf, input, out, gate)
         }
+        Task::Scope => {
+            let scoper = Scoper {
+                max: readings_of(&options),
+                workers: workers_of(&options),
+            };
+            scope_lines(rt, alloc, &scoper, input, out, gate)
+        }
         // No words ask for these: they are outside the form until they are built.
         _ => Err(Fault::Stopped(Stop::NoMemory)),
     }
@@ -195,7 +211,8 @@ fn is_built(command: &Command) -> bool
         | Command::Run(Task::Types(_), _)
         | Command::Run(Task::Expand(_, _), _)
         | Command::Run(Task::Check(_), _)
-        | Command::Run(Task::SelfTest(_, _), _) => true,
+        | Command::Run(Task::SelfTest(_, _), _)
+        | Command::Run(Task::Scope, _) => true,
         Command::Run(_, _) => false,
     }
 }

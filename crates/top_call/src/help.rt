@@ -13,6 +13,7 @@ const HELP: &[u8] = b"\
     \x20 check GRAMMAR          one line that counts types, features, entries, rules and roots\n\
     \x20 expand GRAMMAR NAME    the structure of a type, entry, rule or root: a line for each path\n\
     \x20 self-test NUMBER SIZE  the workload of NUMBER with SIZE lines (1 to 1000), parsed and summed up in a line\n\
+    \x20 scope                  for each MRS of the input the number of its scoped readings, and all of them\n\
     \x20 --help, --version      this text; the version\n\
     \n\
     GRAMMAR is the top file of a grammar; .tdl is added to a name without an ending.\n\
@@ -20,11 +21,11 @@ const HELP: &[u8] = b"\
     Options, in any order after the command, each with its default:\n\
     \x20 --settings NAME  a file of settings (each setting's default)\n\
     \x20 --edges N        the most packed classes of a line, 1 to 20000 (5000)\n\
-    \x20 --readings N     the most trees of a line, 1 to 100000 (10000)\n\
+    \x20 --readings N     the most trees of a line, or the most readings of an MRS, 1 to 100000 (10000)\n\
     \x20 --lexical N      the most lexical rules over an entry, 0 to 15 (7)\n\
     \x20 --unary N        the most unary rules one over another, 0 to 32 (8)\n\
     \x20 --empty N        the most words without a predicate in a generated sentence, 0 to 16 (4)\n\
-    \x20 --workers N      how many workers fill a chart, 1 to 64 (1); no answer depends on it\n\
+    \x20 --workers N      how many workers fill a chart, or answer lines, 1 to 64 (1); no answer depends on it\n\
     \x20 --lattice        each line writes a lattice, FROM:TO:WORD for each step (a line is its words)\n\
     \x20 --mrs            each tree is followed by its MRS (trees alone)\n\
     \n\

@@ -2,13 +2,14 @@ use Rattle.std.proofs.Common.{◌≡◌, ap, subst, option_map}
 use Rattle.command_line.specs.declared.tasks.Command.TheVariants.{Run}
 use Rattle.command_line.specs.Commands.{task}
 use Rattle.command_line.specs.declared.tasks.Task.{Task}
-use Rattle.command_line.specs.declared.tasks.Task.TheVariants.{Parse, Generate, Types, Expand, Check, SelfTest}
+use Rattle.command_line.specs.declared.tasks.Task.TheVariants.{Parse, Generate, Types, Expand, Check, SelfTest, Scope}
 use Rattle.endings.specs.Meanings.{Shelves, shelves}
 use Rattle.endings.specs.Reports.{Streams, streams}
 use Rattle.endings.specs.Endings.{Ended}
 use Rattle.packed_items.specs.Answers.{limits_in}
 use Rattle.line_commands.specs.Parsing.{parse_meaning}
 use Rattle.generate_commands.specs.Generating.{generate_meaning}
+use Rattle.scope_commands.specs.Scoping.{scope_meaning}
 use Rattle.self_tests.specs.SelfTests.{self_test_meaning}
 use Rattle.top_call.proofs.Arms.{as-asked}
 use Rattle.top_call.proofs.asked.do_task.Goals as goal
@@ -73,3 +74,14 @@ returns-in-SelfTest-clause-ended g c =
     let sized = subst (λ size. Ended (self_test_meaning c.in-SelfTest.number size (limits_in c.limits_of-in-SelfTest.result) c.limits_of-in-SelfTest.result.lexical) h o idle untouched done.result) c.size_of.ensures done.ensures.ended in
     let ended = subst (λ a. Ended (self_test_meaning c.in-SelfTest.number c.in-SelfTest.size a.limits a.lexical) h o idle untouched done.result) c.limits_of-in-SelfTest.ensures.asked sized in
     as-asked (run c.args.task) (run (SelfTest c.in-SelfTest.number c.in-SelfTest.size)) h o idle untouched done.result (ap run c.in-SelfTest.is) ended
+
+pub returns-in-Scope-clause-ended : goal.returns-in-Scope-clause-ended
+returns-in-Scope-clause-ended g c =
+    let run = λ (t : Task). Run t c.args.options in
+    let done = c.scope_lines in
+    let h : Shelves = shelves g.S.Shelf.files g.S.Shelf.faults g.S.Shelf.asked c.args.shelf.now c.args.shelf.now in
+    let o : Streams = streams g.I.Source.left g.I.Source.faults g.O.Sink.written g.O.Sink.flushed g.O.Sink.faults c.args.input.now done.new.input c.args.out.now done.new.out in
+    let idle = done.new.input ≡ c.args.input.now in
+    let untouched = (done.new.input ≡ c.args.input.now) × (done.new.out ≡ c.args.out.now) in
+    let ended = subst (λ max. Ended (scope_meaning max) h o idle untouched done.result) c.readings_of.ensures (done.ensures h) in
+    as-asked (run c.args.task) (run Scope) h o idle untouched done.result (ap run c.in-Scope.is) ended

@@ -35,6 +35,6 @@ returns c = by_cases
     by_cases (run (expand grammar entry) options) = c.expand_lawful.ensures grammar entry options.settings
     by_cases (run (check grammar) options) = c.check_lawful.ensures grammar options.settings
     by_cases (run (self_test number size) options) = c.self_test_lawful.ensures number size (asked_of options).limits options.lexical
-    by_cases (run scope options) = none
+    by_cases (run scope options) = c.scope_lawful.ensures options.readings
     by_cases (run (batch grammar profile) options) = none
     by_cases (run (transfer rules) options) = none

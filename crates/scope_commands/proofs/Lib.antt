@@ -1,0 +1,3 @@
+pub mod Answered
+pub mod OneAnswers
+pub mod ScopeLaws

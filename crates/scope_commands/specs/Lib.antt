@@ -1,0 +1,4 @@
+pub mod Reports
+pub mod Answers
+pub mod Scoping
+pub mod Inner

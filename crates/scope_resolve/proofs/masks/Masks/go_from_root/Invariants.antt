@@ -1,0 +1,8 @@
+use Rattle.std.proofs.Common.{◌≡◌}
+use Rattle.scope_model.specs.Frames.{Frame}
+use Rattle.scope_model.specs.States.{State}
+use Rattle.scope_resolve.specs.Inner.Pruning.{IsPlan, IsSeen, AreMasks}
+use Rattle.scope_resolve.proofs.masks.Masks.go_from_root.Given as goal
+
+abbrev pub invariant-loop-k : goal.invariant-loop-k
+invariant-loop-k l = (f : Frame) (s : State) → IsSeen f s l.ways → s.root ≡ l.root → IsPlan f l.plan → AreMasks f s l.ways.opens.items l.fn.self.sets.items → AreMasks f s l.ways.opens.items l.self.sets.items

@@ -1,0 +1,13 @@
+use Rattle.std.proofs.Common.{◌≡◌, ◌≤◌, length, take}
+use Rattle.std.specs.Prelude.{reverse}
+use Rattle.scope_resolve.specs.Inner.Ways.{plugged_at}
+use Rattle.scope_resolve.proofs.trail.Trail.label_at.Given as goal
+
+abbrev pub invariant-loop-left : goal.invariant-loop-left
+invariant-loop-left l = record {
+  within : l.left ≤ length l.self.plugs.items;
+  scan : plugged_at l.hole (reverse l.self.plugs.items) ≡ plugged_at l.hole (reverse (take l.left l.self.plugs.items));
+}
+
+abbrev pub decreases-loop-left : goal.decreases-loop-left
+decreases-loop-left l = l.left
