@@ -1,5 +1,5 @@
 -- The labels that are tried in an open hole.
-use Rattle.std.proofs.Common.{ℕ, zero, suc, ◌≡◌, ◌≢◌, ◌<◌, ◌≤◌, ◌+◌, ◌-◌, ◌⊎◌, inl, inr, ◌∙◌, Bool, true, false, List, [], ◌∷◌, ◌++◌, append_assoc, length, get_or, take, drop, refl, sym, ap, subst, arith, ◌==◌}
+use Rattle.std.proofs.Common.{ℕ, ◌≡◌, ◌<◌, ◌≤◌, ◌+◌, ◌-◌, inl, inr, ◌∙◌, Bool, true, false, List, [], ◌∷◌, ◌++◌, append_assoc, length, get_or, take, drop, refl, sym, ap, subst, arith, ◌==◌}
 use Rattle.std.specs.Prelude.{Contains, if◌then◌else◌, slice_index_or}
 use Rattle.std.proofs.lemmas.Bool.{eq-eqb, eqb-true}
 use Rattle.std.proofs.lemmas.List.{take_more, get_or-drop, length-drop}
@@ -16,7 +16,7 @@ use Rattle.scope_resolve.specs.declared.hole_set.HoleSet.{HoleSet}
 use Rattle.scope_resolve.specs.declared.nets.Net.{Net}
 use Rattle.scope_resolve.specs.declared.ways.Ways.{Ways}
 use Rattle.scope_resolve.specs.Inner.Nets.{IsNet, frame_in}
-use Rattle.scope_resolve.specs.Inner.Filling.{IsOpenAt, AreFound, GoesOn, HasOneOf}
+use Rattle.scope_resolve.specs.Inner.Filling.{AreFound, GoesOn, HasOneOf}
 use Rattle.scope_resolve.specs.Inner.Masks.{has, set_at, IsAt}
 use Rattle.scope_resolve.specs.Inner.Pruning.{IsSeen, AreSeats, AreCandidates, ArePut, suits, may_stand, those}
 use Rattle.scope_resolve.proofs.Founds.{found_none}

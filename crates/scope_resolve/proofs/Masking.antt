@@ -1,12 +1,11 @@
 -- Which open holes a label may go under.
-use Rattle.std.proofs.Common.{ℕ, zero, suc, ◌≡◌, ◌≢◌, ◌<◌, ◌≤◌, ◌+◌, ◌⊎◌, inl, inr, ◌∙◌, Bool, true, false, List, [], ◌∷◌, length, get_or, set, refl, sym, ap, subst, arith, ◌==◌}
-use Rattle.std.specs.Prelude.{Contains, slice_index_or, Option, Some, None, ◌&&◌, ◌||◌}
+use Rattle.std.proofs.Common.{ℕ, zero, suc, ◌≡◌, ◌≢◌, ◌<◌, ◌≤◌, ◌⊎◌, inl, inr, ◌∙◌, Bool, true, false, List, [], ◌∷◌, length, refl, sym, ap, subst, arith}
+use Rattle.std.specs.Prelude.{Contains, slice_index_or, Some, ◌||◌}
 use Rattle.scope_model.specs.declared.Opening.{Opening}
-use Rattle.scope_model.specs.declared.Quantifier.{Quantifier}
 use Rattle.scope_model.specs.declared.Plug.{Plug}
 use Rattle.scope_model.specs.Frames.{Frame}
 use Rattle.scope_model.specs.Readings.{Plugged, IsLabel, label_at, Below, Reaches, IsReading}
-use Rattle.scope_model.specs.States.{State, IsPlaced, IsOpen, IsFromTop, Extends, IsLedOnce, GoesUnder, IsOnWay, IsByBodies, IsDead}
+use Rattle.scope_model.specs.States.{State, IsPlaced, IsOpen, IsFromTop, Extends, GoesUnder, IsOnWay, IsDead}
 use Rattle.scope_model.proofs.Lists.{In, in_of, contains_of}
 use Rattle.scope_model.proofs.Led.{led_once_in}
 use Rattle.scope_model.proofs.Under.{homes, placed_above}
@@ -20,9 +19,8 @@ use Rattle.scope_resolve.specs.declared.trail.Trail.{Trail}
 use Rattle.scope_resolve.specs.Inner.Ways.{plugged_at}
 use Rattle.scope_resolve.specs.Inner.Filling.{path, state_of}
 use Rattle.scope_resolve.specs.Inner.Masks.{has, set_at, every, IsAt}
-use Rattle.scope_resolve.specs.Inner.Pruning.{IsUnderIn, IsHoleChain, IsLabelChain, IsRootChain, IsPair, IsSeen, MayGo, AreMasks, AreSeats}
+use Rattle.scope_resolve.specs.Inner.Pruning.{IsUnderIn, IsHoleChain, IsRootChain, IsPair, IsSeen, MayGo, AreMasks, AreSeats}
 use Rattle.scope_resolve.proofs.Climbs.{plugged_of}
-use Rattle.scope_resolve.proofs.Tests.{yes}
 
 -- tables of sets
 past : (sets : List HoleSet) (l : ℕ) → length sets ≤ l → set_at sets l ≡ every
@@ -54,7 +52,7 @@ module _ (f : Frame) (s : State) (w : Ways) (seen : IsSeen f s w) where
   abbrev opens : List Opening
   opens = w.opens.items
 
-  never_placed : (l : ℕ) → IsLabel f l → slice_index_or w.placed.items l false ≡ false → IsPlaced s l → ⊥
+  pub never_placed : (l : ℕ) → IsLabel f l → slice_index_or w.placed.items l false ≡ false → IsPlaced s l → ⊥
   never_placed l is n p = let z : true ≡ false = sym ((seen.placed l is).1 p) ∙ n in absurd (cc)
 
   open_at : (place : ℕ) (o : Opening) → IsAt opens place o → IsOpen f s o

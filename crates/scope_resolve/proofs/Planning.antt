@@ -1,5 +1,5 @@
 -- What holds in each reading of a net.
-use Rattle.std.proofs.Common.{ℕ, ◌≡◌, ◌⊎◌, inl, inr, ◌∙◌, Bool, true, false, List, [], ◌∷◌, ◌++◌, map, get_or, refl, sym, ap, subst}
+use Rattle.std.proofs.Common.{ℕ, ◌≡◌, ◌⊎◌, inl, inr, ◌∙◌, true, false, List, [], ◌∷◌, ◌++◌, refl, sym, ap, subst}
 use Rattle.std.specs.Prelude.{Contains, slice_index_or}
 use Rattle.std.proofs.lemmas.List.Elements.{Contains-append_cases}
 use Rattle.scope_model.specs.declared.Opening.{Opening}
@@ -18,10 +18,8 @@ use Rattle.scope_model.proofs.Plugs.{found}
 use Rattle.scope_model.proofs.First.{holds_at}
 use Rattle.scope_resolve.specs.declared.nets.Net.{Net}
 use Rattle.scope_resolve.specs.declared.plan.Under.{Under}
-use Rattle.scope_resolve.specs.declared.plan.Link.{Link}
-use Rattle.scope_resolve.specs.declared.plan.Plan.{Plan}
 use Rattle.scope_resolve.specs.Inner.Nets.{IsNet, frame_in}
-use Rattle.scope_resolve.specs.Inner.Pruning.{IsUnderIn, IsHoleChain, IsLabelChain, IsRootChain, IsPair, IsPlan}
+use Rattle.scope_resolve.specs.Inner.Pruning.{IsUnderIn, IsHoleChain, IsLabelChain, IsRootChain, IsPair}
 use Rattle.scope_resolve.proofs.Each.{all_in}
 
 -- one more

@@ -1,19 +1,17 @@
 -- One more plug.
-use Rattle.std.proofs.Common.{ℕ, zero, suc, ◌≡◌, ◌≢◌, ◌<◌, ◌≤◌, ◌+◌, ◌⊎◌, inl, inr, ◌∙◌, Bool, true, false, List, [], ◌∷◌, ◌++◌, map, length, get_or, take, refl, sym, ap, subst, arith, ◌==◌}
-use Rattle.std.specs.Prelude.{◌↔◌, IsTrue, Contains, All, if◌then◌else◌, reverse, Option, Some, None}
+use Rattle.std.proofs.Common.{ℕ, zero, suc, ◌≡◌, ◌≢◌, ◌<◌, ◌≤◌, ◌+◌, ◌⊎◌, inl, inr, ◌∙◌, Bool, true, false, List, [], ◌∷◌, ◌++◌, length, get_or, take, refl, sym, ap, subst, arith, ◌==◌}
+use Rattle.std.specs.Prelude.{◌↔◌, IsTrue, Contains, if◌then◌else◌, reverse, Some, None}
 use Rattle.std.proofs.lemmas.Bool.{eq-eqb, eqb-true, eqb-false, ne_eqb}
 use Rattle.std.proofs.lemmas.List.{take_more}
 use Rattle.std.proofs.lemmas.List.Elements.{Contains-append_left, Contains-append_cases}
 use Rattle.scope_model.specs.declared.Opening.{Opening}
 use Rattle.scope_model.specs.declared.Plug.{Plug}
 use Rattle.scope_model.specs.Frames.{Frame}
-use Rattle.scope_model.specs.Readings.{Plugged, IsLabel, IsHole, label_at, IsPlugging, IsReading}
-use Rattle.scope_model.specs.States.{State, IsPlaced, IsFilled, IsOpen, IsFull, IsTrail, MayPlug, IsWellPlugged, Extends, HasLabels, AreOnce, state}
+use Rattle.scope_model.specs.Readings.{Plugged, IsLabel, IsHole, label_at, IsReading}
+use Rattle.scope_model.specs.States.{IsPlaced, IsFilled, IsOpen, IsFull, IsTrail, MayPlug, IsWellPlugged, Extends, HasLabels, AreOnce, state}
 use Rattle.scope_model.proofs.Lists.{In, in_of, contains_of, of_map, in_at}
-use Rattle.scope_model.proofs.Led.{hole_label}
 use Rattle.scope_model.proofs.Under.{filled_or}
-use Rattle.scope_model.proofs.Whole.{hole_is}
-use Rattle.scope_model.proofs.Going.{step, full_at}
+use Rattle.scope_model.proofs.Going.{full_at}
 use Rattle.scope_model.proofs.Plugs.{found}
 use Rattle.scope_resolve.specs.declared.nets.Net.{Net}
 use Rattle.scope_resolve.specs.declared.trail.Trail.{Trail}
@@ -22,7 +20,6 @@ use Rattle.scope_resolve.specs.Inner.Nets.{IsNet, frame_in}
 use Rattle.scope_resolve.specs.Inner.Filling.{IsGoing, IsKept, IsOpenAt, path, state_of, AreFound, GoesOn, HasAt, HasOneOf}
 use Rattle.scope_resolve.proofs.Climbs.{placed_of, not_placed, plugged_of, not_plugged}
 use Rattle.scope_resolve.proofs.Founds.{found_none, found_on, found_as}
-use Rattle.scope_resolve.proofs.Each.{each_more, there_at}
 use Rattle.scope_resolve.proofs.Tests.{yes, no, push_back, take_whole}
 
 -- whether a label is plugged in

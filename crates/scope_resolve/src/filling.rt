@@ -1,6 +1,6 @@
 //! The search: plugs from the top down.
 
-ghost use Rattle.std.specs.Prelude.{◌≡◌, ◌<◌, ◌≤◌, ◌++◌, ◌∷◌, [], ◌↔◌, IsTrue, ℕ, Contains, MatchOption, IfOk, OnOk, map, length, drop, true, false};
+ghost use Rattle.std.specs.Prelude.{◌≡◌, ◌<◌, ◌≤◌, ◌++◌, ◌∷◌, [], ◌↔◌, IsTrue, ℕ, Contains, MatchOption, IfOk, OnOk, map, length, drop, slice_index_or, true, false};
 ghost use Rattle.scope_model.specs.declared.Opening.{Opening};
 ghost use Rattle.scope_model.specs.States.{IsOpen, IsPlaced, IsFilled, IsFull};
 ghost use Rattle.scope_model.specs.Answers.{plugged_of};
@@ -8,10 +8,11 @@ ghost use Rattle.scope_resolve.specs.Inner.Nets.{IsNet, frame_in};
 ghost use Rattle.scope_resolve.specs.Inner.Filling.{IsGoing, IsKept, IsOpenAt, state_of, AreFound, GoesOn, HasAt, path, plug_here, plugged_here};
 ghost use Rattle.scope_resolve.specs.Inner.Pruning.{IsPlan, IsSeen, AreSeats, AreCandidates};
 
-use crate::nets::Net;
+use crate::nets::{Net, mark_at};
 use crate::search::Search;
 use crate::sounding::is_sound;
 use crate::trail::Trail;
+use crate::ways::Ways;
 use mrs_model::NoMemory;
 use scope_model::{Plug, Plugging};
 use std::alloc::Global;
@@ -24,12 +25,12 @@ struct Turn {
 }
 
 // A label that isn't plugged in.
-fn unplaced(net: &Net, trail: &Trail) -> Option<u32>
-    ensures { MatchOption result ((l : ℕ) → Contains net.now.labels.items l → IsPlaced (state_of trail.now) l) (λ l. Contains net.now.labels.items l × (IsPlaced (state_of trail.now) l → ⊥)) }
+fn unplaced(net: &Net, ways: &Ways) -> Option<u32>
+    ensures { MatchOption result ((l : ℕ) → Contains net.now.labels.items l → slice_index_or ways.now.placed.items l false ≡ true) (λ l. Contains net.now.labels.items l × (slice_index_or ways.now.placed.items l false ≡ false)) }
 {
     for k in 0..net.labels.len() {
         let label = net.labels[k];
-        if !trail.is_placed(label) {
+        if !mark_at(&ways.placed, label) {
             return Some(label);
         }
     }
@@ -101,15 +102,17 @@ fn end(
     alloc: Global,
     net: &Net,
     max: u32,
+    ways: &Ways,
     trail: &Trail,
     out: &mut Vec<Plugging>,
 ) -> Result<bool, NoMemory>
     requires net { IsNet net.now }
     requires going { IsGoing (frame_in net.now.parts) trail.now }
+    requires seen { IsSeen (frame_in net.now.parts) (state_of trail.now) ways.now }
     requires closed { (o : Opening) → IsOpen (frame_in net.now.parts) (state_of trail.now) o → ⊥ }
     ensures { IfOk result (λ done. AreFound (frame_in net.now.parts) (GoesOn (state_of trail.now)) max done (map plugged_of out.old.items) (map plugged_of out.new.items)) }
 {
-    match unplaced(net, trail) {
+    match unplaced(net, ways) {
         Some(_) => Ok(true),
         None => close(alloc, net, max, trail, out),
     }
@@ -135,9 +138,10 @@ pub(crate) fn fill(
 {
     search.see(net, trail)?;
     if search.ways.opens.len() == 0 {
-        return end(alloc, net, max, trail, out);
+        return end(alloc, net, max, &search.ways, trail, out);
     }
-    if !search.mask(net, trail) {
+    let goes_on = search.mask(net, trail)?;
+    if !goes_on {
         return Ok(true);
     }
     fill_open(alloc, net, max, search, trail, out)

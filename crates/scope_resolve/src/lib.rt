@@ -5,6 +5,7 @@ mod building;
 mod choosing;
 mod filling;
 mod hole_set;
+mod live;
 mod masks;
 mod nets;
 mod plan;

@@ -7,9 +7,10 @@ ghost use Rattle.scope_model.specs.States.{State, IsPlaced, IsDead, Extends};
 ghost use Rattle.scope_resolve.specs.Inner.Nets.{IsNet, frame_in};
 ghost use Rattle.scope_resolve.specs.Inner.Filling.{IsGoing, state_of};
 ghost use Rattle.scope_resolve.specs.Inner.Masks.{has, set_at};
-ghost use Rattle.scope_resolve.specs.Inner.Pruning.{IsUnderIn, IsPair, IsHoleChain, IsLabelChain, IsPlan, IsSeen, AreMasks, AreSeats};
+ghost use Rattle.scope_resolve.specs.Inner.Pruning.{IsUnderIn, IsPair, IsHoleChain, IsLabelChain, IsPlan, ArePairs, IsSeen, AreMasks, AreSeats};
 
 use crate::hole_set::HoleSet;
+use crate::live::Live;
 use crate::nets::{Net, mark_at};
 use crate::plan::{Link, Plan, Under};
 use crate::trail::Trail;
@@ -66,6 +67,10 @@ impl Masks {
         ensures { (f : Frame) (s : State) → IsSeen f s ways.now → IsUnderIn f under → AreMasks f s ways.now.opens.items self.old.sets.items → AreMasks f s ways.now.opens.items self.new.sets.items }
     {
         if !mark_at(&ways.placed, under.owner) {
+            return;
+        }
+        // (where it is plugged in itself there is nothing to learn)
+        if mark_at(&ways.placed, under.label) {
             return;
         }
         let set = ways.below_at(under.first).join(ways.below_at(under.second));
@@ -153,39 +158,57 @@ impl Masks {
     }
 
     // The same for each pair in turn.
-    fn spread_once(&mut self, ways: &Ways, plan: &Plan) -> bool
-        ensures { (f : Frame) (s : State) → IsSeen f s ways.now → IsPlan f plan.now → AreMasks f s ways.now.opens.items self.old.sets.items → AreMasks f s ways.now.opens.items self.new.sets.items }
+    fn spread_once(&mut self, ways: &Ways, live: &Live) -> bool
+        ensures { (f : Frame) (s : State) → IsSeen f s ways.now → ArePairs f live.now.pairs.items → AreMasks f s ways.now.opens.items self.old.sets.items → AreMasks f s ways.now.opens.items self.new.sets.items }
     {
         let mut learned = false;
-        for k in 0..plan.pairs.len() {
-            if self.go_together(ways, plan.pairs[k]) {
+        for k in 0..live.pairs.len() {
+            if self.go_together(ways, live.pairs[k]) {
                 learned = true;
             }
         }
         learned
     }
 
-    // The same until nothing more is learned.
-    fn spread(&mut self, ways: &Ways, plan: &Plan)
-        ensures { (f : Frame) (s : State) → IsSeen f s ways.now → IsPlan f plan.now → AreMasks f s ways.now.opens.items self.old.sets.items → AreMasks f s ways.now.opens.items self.new.sets.items }
+    // The same for each pair in turn, the last one first.
+    fn spread_back(&mut self, ways: &Ways, live: &Live) -> bool
+        ensures { (f : Frame) (s : State) → IsSeen f s ways.now → ArePairs f live.now.pairs.items → AreMasks f s ways.now.opens.items self.old.sets.items → AreMasks f s ways.now.opens.items self.new.sets.items }
     {
-        for _ in 0..plan.pairs.len() {
-            if !self.spread_once(ways, plan) {
+        let mut learned = false;
+        let mut left = live.pairs.len();
+        while left > 0 {
+            left -= 1;
+            if self.go_together(ways, live.pairs[left]) {
+                learned = true;
+            }
+        }
+        learned
+    }
+
+    // The same to and fro until nothing more is learned: what one end of a chain of pairs learns reaches the other one in one turn.
+    fn spread(&mut self, ways: &Ways, live: &Live)
+        ensures { (f : Frame) (s : State) → IsSeen f s ways.now → ArePairs f live.now.pairs.items → AreMasks f s ways.now.opens.items self.old.sets.items → AreMasks f s ways.now.opens.items self.new.sets.items }
+    {
+        for _ in 0..live.pairs.len() {
+            if !self.spread_once(ways, live) {
+                return;
+            }
+            if !self.spread_back(ways, live) {
                 return;
             }
         }
     }
 
     /// The masks of a state.
-    pub(crate) fn mask(&mut self, ways: &Ways, trail: &Trail, plan: &Plan)
-        ensures { (f : Frame) → IsSeen f (state_of trail.now) ways.now → IsPlan f plan.now → AreMasks f (state_of trail.now) ways.now.opens.items self.new.sets.items }
+    pub(crate) fn mask(&mut self, ways: &Ways, trail: &Trail, plan: &Plan, live: &Live)
+        ensures { (f : Frame) → IsSeen f (state_of trail.now) ways.now → IsPlan f plan.now → ArePairs f live.now.pairs.items → AreMasks f (state_of trail.now) ways.now.opens.items self.new.sets.items }
     {
         self.widen();
         self.go_under_all(ways, plan);
         self.go_from_holes(ways, trail, plan);
         self.go_from_labels(ways, plan);
         self.go_from_root(ways, trail.root, plan);
-        self.spread(ways, plan);
+        self.spread(ways, live);
     }
 
     // Whether a label has no open hole left to go under.
@@ -225,33 +248,11 @@ impl Masks {
     }
 
     /// Leaves to each label the open holes that it may be plugged into.
-    pub(crate) fn seat(&mut self, ways: &Ways, plan: &Plan)
-        ensures { (f : Frame) (s : State) → IsSeen f s ways.now → IsPlan f plan.now → AreMasks f s ways.now.opens.items self.old.sets.items → AreSeats f s ways.now.opens.items self.new.sets.items }
+    pub(crate) fn seat(&mut self, ways: &Ways, live: &Live)
+        ensures { (f : Frame) (s : State) → IsSeen f s ways.now → ArePairs f live.now.pairs.items → AreMasks f s ways.now.opens.items self.old.sets.items → AreSeats f s ways.now.opens.items self.new.sets.items }
     {
-        for k in 0..plan.pairs.len() {
-            self.wait(ways, plan.pairs[k]);
+        for k in 0..live.pairs.len() {
+            self.wait(ways, live.pairs[k]);
         }
     }
-}
-
-// Whether a label is plugged in below one that isn't.
-fn is_torn(ways: &Ways, pair: Link) -> bool
-    ensures { result ≡ true → (f : Frame) (s : State) → IsSeen f s ways.now → IsPair f pair → IsDead f s }
-{
-    if mark_at(&ways.placed, pair.from) {
-        return false;
-    }
-    mark_at(&ways.placed, pair.to)
-}
-
-/// Whether some label is plugged in below one that isn't: no reading goes on then.
-pub(crate) fn is_upside_down(ways: &Ways, plan: &Plan) -> bool
-    ensures { result ≡ true → (f : Frame) (s : State) → IsSeen f s ways.now → IsPlan f plan.now → IsDead f s }
-{
-    for k in 0..plan.pairs.len() {
-        if is_torn(ways, plan.pairs[k]) {
-            return true;
-        }
-    }
-    false
 }

@@ -108,10 +108,33 @@ impl Plan {
         ensures { OnOk result ((f : Frame) → IsUnderIn f under → IsPlan f self.old → IsPlan f self.new) }
     {
         self.unders.push(under)?;
-        self.pairs.push(Link {
+        let pair = Link {
             from: under.owner,
             to: under.label,
-        })?;
+        };
+        self.put_pair(pair)?;
+        Ok(())
+    }
+
+    // Whether a pair is there.
+    fn has_pair(&self, pair: Link) -> bool {
+        for k in 0..self.pairs.len() {
+            let other = self.pairs[k];
+            if other == pair {
+                return true;
+            }
+        }
+        false
+    }
+
+    // A pair, once.
+    fn put_pair(&mut self, pair: Link) -> Result<(), NoMemory>
+        ensures { OnOk result ((f : Frame) → IsPair f pair → IsPlan f self.old → IsPlan f self.new) }
+    {
+        if self.has_pair(pair) {
+            return Ok(());
+        }
+        self.pairs.push(pair)?;
         Ok(())
     }
 
@@ -129,7 +152,7 @@ impl Plan {
         ensures { OnOk result ((f : Frame) → IsLabelChain f link → IsPair f link → IsPlan f self.old → IsPlan f self.new) }
     {
         self.label_chains.push(link)?;
-        self.pairs.push(link)?;
+        self.put_pair(link)?;
         Ok(())
     }
 

@@ -7,7 +7,8 @@ ghost use Rattle.scope_resolve.specs.Inner.Filling.{IsGoing, state_of};
 ghost use Rattle.scope_resolve.specs.Inner.Pruning.{IsPlan, IsSeen, AreSeats, ArePut};
 
 use crate::choosing::{choose, put_candidates};
-use crate::masks::{Masks, is_upside_down};
+use crate::live::Live;
+use crate::masks::Masks;
 use crate::nets::Net;
 use crate::plan::{Plan, plan_of};
 use crate::trail::Trail;
@@ -21,6 +22,7 @@ use std::alloc::Global;
 pub(crate) struct Search {
     pub(crate) plan: Plan,
     pub(crate) ways: Ways,
+    pub(crate) live: Live,
     pub(crate) masks: Masks,
     pub(crate) stack: Vec<u32>,
 }
@@ -35,6 +37,9 @@ pub(crate) fn search_of(alloc: Global, net: &Net) -> Result<Search, NoMemory>
     Ok(Search {
         plan,
         ways: Ways::new(alloc),
+        live: Live {
+            pairs: Vec::new(alloc),
+        },
         masks,
         stack: Vec::new(alloc),
     })
@@ -54,25 +59,25 @@ impl Search {
     }
 
     /// Finds what may be plugged into each open hole of the state that was taken in; false only where no reading goes on from it.
-    pub(crate) fn mask(&mut self, net: &Net, trail: &Trail) -> bool
+    pub(crate) fn mask(&mut self, net: &Net, trail: &Trail) -> Result<bool, NoMemory>
         requires net { IsNet net.now }
         requires plan { IsPlan (frame_in net.now.parts) self.old.plan }
         requires seen { IsSeen (frame_in net.now.parts) (state_of trail.now) self.old.ways }
-        ensures dead { result ≡ false → IsDead (frame_in net.now.parts) (state_of trail.now) }
-        ensures seats { result ≡ true → AreSeats (frame_in net.now.parts) (state_of trail.now) self.old.ways.opens.items self.new.masks.sets.items }
-        ensures ways { self.new.ways ≡ self.old.ways }
-        ensures plan { self.new.plan ≡ self.old.plan }
-        ensures stack { self.new.stack.items ≡ self.old.stack.items }
+        ensures dead { IfOk result (λ goes_on. goes_on ≡ false → IsDead (frame_in net.now.parts) (state_of trail.now)) }
+        ensures seats { IfOk result (λ goes_on. goes_on ≡ true → AreSeats (frame_in net.now.parts) (state_of trail.now) self.old.ways.opens.items self.new.masks.sets.items) }
+        ensures ways { OnOk result (self.new.ways ≡ self.old.ways) }
+        ensures plan { OnOk result (self.new.plan ≡ self.old.plan) }
+        ensures stack { OnOk result (self.new.stack.items ≡ self.old.stack.items) }
     {
-        if is_upside_down(&self.ways, &self.plan) {
-            return false;
+        if !self.live.pick(&self.ways, &self.plan)? {
+            return Ok(false);
         }
-        self.masks.mask(&self.ways, trail, &self.plan);
+        self.masks.mask(&self.ways, trail, &self.plan, &self.live);
         if self.masks.is_stuck(&self.ways, net) {
-            return false;
+            return Ok(false);
         }
-        self.masks.seat(&self.ways, &self.plan);
-        true
+        self.masks.seat(&self.ways, &self.live);
+        Ok(true)
     }
 
     /// Puts the labels that may be plugged into an open hole with few of them at the end of the stack, and gives the hole.

@@ -43,13 +43,16 @@ pub record IsPair (f : Frame) (k : Link) : Type 0 where
   pub to : IsLabel f k.to
   pub below : LiesBelow f k.from k.to
 
+abbrev pub ArePairs : Frame → List Link → Type 0
+ArePairs f ks = (k : Link) → Contains ks k → IsPair f k
+
 -- what the plan says holds in each reading
 pub record IsPlan (f : Frame) (p : Plan) : Type 0 where
   pub unders : (k : Under) → Contains p.unders.items k → IsUnderIn f k
   pub holes : (k : Link) → Contains p.hole_chains.items k → IsHoleChain f k
   pub labels : (k : Link) → Contains p.label_chains.items k → IsLabelChain f k
   pub root : (l : ℕ) → Contains p.root_chains.items l → IsRootChain f l
-  pub pairs : (k : Link) → Contains p.pairs.items k → IsPair f k
+  pub pairs : ArePairs f p.pairs.items
 
 -- the tables are those of the state
 pub record IsSeen (f : Frame) (s : State) (w : Ways) : Type 0 where

@@ -1,4 +1,4 @@
-use Rattle.std.proofs.Common.{◌≡◌, ◌<◌, ◌≤◌, ◌++◌, length, vec_len, take, ap, sym, ◌∙◌, arith, rules}
+use Rattle.std.proofs.Common.{◌≡◌, ◌<◌, ◌≤◌, ◌++◌, length, vec_len, ap, ◌∙◌, arith, rules}
 use Rattle.scope_resolve.specs.Inner.Pruning.{may_stand, those}
 use Rattle.scope_resolve.proofs.Tests.{take_whole}
 use Rattle.scope_resolve.proofs.Candidates.{those_on}

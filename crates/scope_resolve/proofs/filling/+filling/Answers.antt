@@ -21,8 +21,8 @@ fill-end-requires-clause-closed t c = λ o w.
     let l = m.1 in
     absurd (omega (arith, l, e, c.len.ensures, c.if-len-eq0.true))
 
-pub fill-returns-then-not-mask-clause-found : goal.fill-returns-then-not-mask-clause-found
-fill-returns-then-not-mask-clause-found t c = dead_none (frame_in c.args.net.now.parts) (state_of c.args.trail.now) c.args.max _ (c.mask.ensures.dead c.if-not-mask.true)
+pub fill-returns-then-not-goes_on-clause-found : goal.fill-returns-then-not-goes_on-clause-found
+fill-returns-then-not-goes_on-clause-found t c = dead_none (frame_in c.args.net.now.parts) (state_of c.args.trail.now) c.args.max _ (c.in_ok-goes_on.ensures.dead c.if-not-goes_on.true)
 
 pub fill-fill_open-requires : goal.fill-fill_open-requires
 fill-fill_open-requires t c =
@@ -37,12 +37,12 @@ fill-fill_open-requires t c =
         (
           c.requires.going,
           (
-            subst (IsPlan f) (sym (c.mask.ensures.plan ∙ c.in_ok-see.ensures.plan)) c.requires.plan,
+            subst (IsPlan f) (sym (c.in_ok-goes_on.ensures.plan ∙ c.in_ok-see.ensures.plan)) c.requires.plan,
             (
-              subst (IsSeen f s) (sym c.mask.ensures.ways) c.in_ok-see.ensures.seen,
+              subst (IsSeen f s) (sym c.in_ok-goes_on.ensures.ways) c.in_ok-see.ensures.seen,
               (
-                subst (λ (w : Ways). AreSeats f s w.opens.items c.mask.new.self.masks.sets.items) (sym c.mask.ensures.ways) (c.mask.ensures.seats c.if-not-mask.false),
-                subst (λ (w : Ways). 0 < length w.opens.items) (sym c.mask.ensures.ways) some,
+                subst (λ (w : Ways). AreSeats f s w.opens.items c.mask.new.self.masks.sets.items) (sym c.in_ok-goes_on.ensures.ways) (c.in_ok-goes_on.ensures.seats c.if-not-goes_on.false),
+                subst (λ (w : Ways). 0 < length w.opens.items) (sym c.in_ok-goes_on.ensures.ways) some,
               ),
             ),
           ),

@@ -1,4 +1,4 @@
-use Rattle.std.proofs.Common.{◌≡◌, ◌∙◌, sym, ap, true, false}
+use Rattle.std.proofs.Common.{◌∙◌, sym, ap, false}
 use Rattle.std.specs.Prelude.{slice_index_or}
 use Rattle.scope_resolve.proofs.Planning.{forced_in}
 use Rattle.scope_resolve.proofs.plan.forced.Goals as goal

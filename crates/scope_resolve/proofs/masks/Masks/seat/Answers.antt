@@ -8,8 +8,8 @@ loop-k-init c = λ f s seen plan are. seated f s c.args.ways.now seen c.args.sel
 
 pub loop-k-preserved : goal.loop-k-preserved
 loop-k-preserved c = λ f s seen plan old.
-    let xs = c.args.plan.now.pairs in
+    let xs = c.args.live.now.pairs in
     let e : vec_len xs ≡ length xs.items = search rules in
     let lt : c.loop-k.k < length xs.items = omega (arith, e, c.len-k-end.ensures, c.loop-k-test.true) in
     let there = there_at xs.items c.loop-k.k c.index.result.now lt c.index.ensures in
-    c.wait.ensures f s seen (plan.pairs c.index.result.now there) (c.loop-k.invariant f s seen plan old)
+    c.wait.ensures f s seen (plan c.index.result.now there) (c.loop-k.invariant f s seen plan old)

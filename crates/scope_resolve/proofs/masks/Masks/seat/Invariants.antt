@@ -1,7 +1,7 @@
 use Rattle.scope_model.specs.Frames.{Frame}
 use Rattle.scope_model.specs.States.{State}
-use Rattle.scope_resolve.specs.Inner.Pruning.{IsPlan, IsSeen, AreMasks, AreSeats}
+use Rattle.scope_resolve.specs.Inner.Pruning.{ArePairs, IsSeen, AreMasks, AreSeats}
 use Rattle.scope_resolve.proofs.masks.Masks.seat.Given as goal
 
 abbrev pub invariant-loop-k : goal.invariant-loop-k
-invariant-loop-k l = (f : Frame) (s : State) → IsSeen f s l.ways → IsPlan f l.plan → AreMasks f s l.ways.opens.items l.fn.self.sets.items → AreSeats f s l.ways.opens.items l.self.sets.items
+invariant-loop-k l = (f : Frame) (s : State) → IsSeen f s l.ways → ArePairs f l.live.pairs.items → AreMasks f s l.ways.opens.items l.fn.self.sets.items → AreSeats f s l.ways.opens.items l.self.sets.items
