@@ -20,3 +20,4 @@ pub mod Seeing
 pub mod Planning
 pub mod Masking
 pub mod Candidates
+pub mod Rooms

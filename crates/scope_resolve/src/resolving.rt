@@ -1,10 +1,10 @@
 //! All scoped readings of an MRS.
 
-ghost use Rattle.std.specs.Prelude.{◌≡◌, ◌≢◌, ◌<◌, ◌≤◌, ℕ, ◌↔◌, IfOk, IfErr, MatchOption, All, IsTrue, map, length, codes};
+ghost use Rattle.std.specs.Prelude.{◌≡◌, ◌≢◌, ◌<◌, ◌≤◌, ℕ, ◌↔◌, IfOk, IfErr, MatchOption, All, IsTrue, map, length, codes, false};
 ghost use Rattle.mrs_model.specs.Meanings.{Meaning};
 ghost use Rattle.mrs_model.specs.Valid.{IsValid};
 ghost use Rattle.mrs_model.specs.Views.{meaning_of, hcon_of};
-ghost use Rattle.scope_model.specs.Readings.{IsReading};
+ghost use Rattle.scope_model.specs.Readings.{Plugged, IsReading};
 ghost use Rattle.scope_model.specs.Answers.{AreReadings, AreAll, IsOver, IsQeq, IsFirstOther, IsScopeFault, Rises, frame, plugged_of};
 ghost use Rattle.scope_resolve.specs.Inner.Nets.{IsLinked, IsNet, frame_in};
 ghost use Rattle.scope_resolve.specs.Inner.Resolving.{IsOtherAt, AreMore};
@@ -36,12 +36,23 @@ fn first_other(hcons: &[Hcon]) -> Option<usize>
     None
 }
 
+// Whether the labels are one more than the holes, as they are in each reading. Where they aren't, nothing is looked for.
+fn has_room(net: &Net) -> bool
+    requires { IsNet net.now }
+    ensures { result ≡ false → (p : Plugged) → IsReading (frame_in net.now.parts) p → ⊥ }
+{
+    net.labels.len() == net.parts.openings.len() + 1
+}
+
 // The readings of a net in order, or none where there are more than `max`.
 fn resolve_net(alloc: Global, net: &Net, max: u32) -> Result<Option<Vec<Plugging>>, NoMemory>
     requires { IsNet net.now }
     ensures { IfOk result (λ r. MatchOption r (AreMore (frame_in net.now.parts) max) (λ ps. AreReadings (frame_in net.now.parts) (map plugged_of ps.items) × (length ps.items ≤ max))) }
 {
     let mut out = Vec::new(alloc);
+    if !has_room(net) {
+        return Ok(Some(out));
+    }
     let done = fill_all(alloc, net, max, &mut out)?;
     out.sort()?;
     if !done {
