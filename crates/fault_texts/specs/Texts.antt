@@ -90,3 +90,7 @@ cause_text why = codes ":" ++ (spaced (why_words why) ++ 10 ∷ [])
 -- `lkb: FILE:AT: NAME`, and after a blank each the names that the fault carries
 abbrev pub found_text : FoundFault → List ℕ
 found_text f = (codes "lkb: " ++ f.file) ++ (place_text f.why f.at ++ cause_text f.why)
+
+-- `lkb: FILE:AT: WORD`
+abbrev pub word_text : List ℕ → ℕ → List ℕ → List ℕ
+word_text file at word = (codes "lkb: " ++ file) ++ ((58 ∷ decimal at) ++ (codes ": " ++ (word ++ 10 ∷ [])))

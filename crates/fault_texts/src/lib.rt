@@ -3,7 +3,8 @@
 
 ghost use Rattle.std.specs.Prelude.{◌≡◌, ◌++◌, ◌∷◌, [], codes, map, IfOk, OnOk};
 ghost use Rattle.std.specs.String.{string_bytes};
-ghost use Rattle.fault_texts.specs.Texts.{spaced, lex_fault_name, read_fault_name, type_fault_words, feature_name, expand_fault_words, why_words, has_place, place_text, cause_text, found_text};
+ghost use Rattle.std.specs.Fmt.{decimal};
+ghost use Rattle.fault_texts.specs.Texts.{spaced, lex_fault_name, read_fault_name, type_fault_words, feature_name, expand_fault_words, why_words, has_place, place_text, cause_text, found_text, word_text};
 
 use grammar_files::Why;
 use itoa::Buffer;
@@ -162,6 +163,16 @@ fn has_place(why: &Why) -> bool
     }
 }
 
+// Adds `:` and a place to a line.
+fn add_at(line: &mut Vec<u8>, at: u32) -> Result<(), NoMemory>
+    ensures { OnOk result (line.new.items ≡ line.old.items ++ 58 ∷ decimal at) }
+{
+    let mut digits = Buffer::new();
+    line.push(b':')?;
+    line.extend_from_slice(digits.format(at).as_bytes())?;
+    Ok(())
+}
+
 // Adds the place of a fault to a line, where its cause has one.
 fn add_place(line: &mut Vec<u8>, at: u32, why: &Why) -> Result<(), NoMemory>
     ensures { OnOk result (line.new.items ≡ line.old.items ++ place_text why.now at) }
@@ -169,10 +180,7 @@ fn add_place(line: &mut Vec<u8>, at: u32, why: &Why) -> Result<(), NoMemory>
     if !has_place(why) {
         return Ok(());
     }
-    let mut digits = Buffer::new();
-    line.push(b':')?;
-    line.extend_from_slice(digits.format(at).as_bytes())?;
-    Ok(())
+    add_at(line, at)
 }
 
 // Adds the end of a line that tells a cause.
@@ -202,5 +210,17 @@ pub fn found_line(alloc: Global, file: &str, at: u32, why: &Why) -> Result<Vec<u
     let mut line = line_on(alloc, file)?;
     add_place(&mut line, at, why)?;
     add_cause(alloc, &mut line, why)?;
+    Ok(line)
+}
+
+/// The line that tells of a file, at this place in it, what one word names.
+pub fn word_line(alloc: Global, file: &str, at: u32, word: &str) -> Result<Vec<u8>, NoMemory>
+    ensures { IfOk result (λ line. line.items ≡ word_text file.now at word.now) }
+{
+    let mut line = line_on(alloc, file)?;
+    add_at(&mut line, at)?;
+    line.push(b':')?;
+    add_word(&mut line, word)?;
+    line.push(b'\n')?;
     Ok(line)
 }

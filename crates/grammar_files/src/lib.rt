@@ -11,5 +11,5 @@ mod walking;
 
 pub use fault::{LoadFault, Why};
 pub use grammar_settings::{NoMemory, Settings, SettingsFault, SortLine, ValueForm};
-pub use reading::found;
+pub use reading::{found, read_settings, said};
 pub use walking::{MOST_FILES, Walked, walk};

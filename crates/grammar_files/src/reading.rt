@@ -106,7 +106,7 @@ fn file_statements(alloc: Global, name: &str, bytes: &[u8]) -> Result<Vec<Statem
 }
 
 /// What a file says, read whole: its statements, or its first fault.
-pub(crate) fn said<S: Shelf>(
+pub fn said<S: Shelf>(
     alloc: Global,
     shelf: &mut S,
     name: &str,
@@ -149,7 +149,7 @@ fn named_settings<S: Shelf>(alloc: Global, shelf: &mut S, name: &str) -> Result<
 }
 
 /// The settings of the settings file, or the default ones where there is none.
-pub(crate) fn read_settings<S: Shelf>(
+pub fn read_settings<S: Shelf>(
     alloc: Global,
     shelf: &mut S,
     settings: Option<&str>,

@@ -19,7 +19,7 @@ ghost use Rattle.std.specs.Prelude.{◌≡◌};
 pub use digest::digests_agree;
 pub use equality::{Renaming, equality_is_an_equivalence, matching};
 use std::alloc::{AllocError, AllocFailed};
-pub use texts::{ends_name, first};
+pub use texts::{ends_name, first, is_name};
 
 /// An MRS (Copestake, Flickinger, Pollard and Sag 2005). A variable is named by its place in `vars`, from 0.
 #[derive(Debug, Drop)]

@@ -30,7 +30,7 @@ fn in_name(c: char) -> bool
 }
 
 /// Whether a text is one or more characters of names, without ASCII capitals.
-pub(crate) fn is_name(text: &str) -> bool
+pub fn is_name(text: &str) -> bool
     ensures { IsTrue result ↔ IsName text.now }
 {
     !text.is_empty() && are_in_name(text)

@@ -12,3 +12,4 @@ mod texts;
 
 pub use laws::{all_valid, no_fault, one_meaning, one_place};
 pub use lines::{MrsFault, read};
+pub use texts::normalized;

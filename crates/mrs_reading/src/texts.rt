@@ -5,6 +5,7 @@ ghost use Rattle.std.specs.String.{string_bytes};
 ghost use Rattle.std.specs.Str.{encode_utf8_all, str_to_ascii_lowercase};
 ghost use Rattle.mrs_reading.specs.Meaning.{Normal, IsNumber, Spans, plain, without_escapes};
 ghost use Rattle.mrs_model.specs.declared.Extent.{Extent};
+ghost use Rattle.mrs_model.specs.Texts.{IsPred};
 
 use mrs_model::{Extent, NoMemory, first};
 use std::alloc::Global;
@@ -63,8 +64,10 @@ fn bare(pred: &str) -> &str
 }
 
 /// A predicate in ASCII lower case, without an ending `_rel` as often as there is one. `work` is a text that is written over.
-pub(crate) fn normalized(alloc: Global, pred: &str, work: &mut String) -> Result<String, NoMemory>
-    ensures { IfOk result (λ s. Normal (str_to_ascii_lowercase pred.now) (string_bytes s)) }
+#[tactic(auto, using(crate::proofs::Valued::pred_is))]
+pub fn normalized(alloc: Global, pred: &str, work: &mut String) -> Result<String, NoMemory>
+    ensures normal { IfOk result (λ s. Normal (str_to_ascii_lowercase pred.now) (string_bytes s)) }
+    ensures predicate { IfOk result (λ s. IsPred (string_bytes s)) }
 {
     lower_into(pred, work)?;
     Ok(String::from_str(alloc, bare(work.as_str()))?)
