@@ -106,11 +106,7 @@ fn file_statements(alloc: Global, name: &str, bytes: &[u8]) -> Result<Vec<Statem
 }
 
 /// What a file says, read whole: its statements, or its first fault.
-pub fn said<S: Shelf>(
-    alloc: Global,
-    shelf: &mut S,
-    name: &str,
-) -> Result<Vec<Statement>, LoadFault>
+pub fn said<S: Shelf>(alloc: Global, shelf: &mut S, name: &str) -> Result<Vec<Statement>, LoadFault>
     ensures said { IfOk result (λ v. (fails : Name → Bool) → Says (S.files shelf.old) fails name.now (Ok (map statement_of v.items))) }
     ensures fault { IfErr result (IsFaultBy (λ f. (fails : Name → Bool) → Covers (S.faults shelf.old) (S.faults shelf.new) (S.asked shelf.new) fails → Says (S.files shelf.old) fails name.now (Err f))) }
     ensures same { S.files shelf.new ≡ S.files shelf.old }
