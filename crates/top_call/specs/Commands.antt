@@ -1,6 +1,6 @@
 -- What the program does. A command is one case of `meaning_of`, and one of `is_built`.
 use Rattle.std.specs.Prelude.{◌≡◌, ◌++◌, ◌∷◌, [], ℕ, List, Bool, true, false, codes}
-use Rattle.command_line.specs.Words.{Form, help, version, run, parse, generate, types, expand, check, self_test, scope, Task, Options, IsForm, AreWithin, IsWithin, in_range}
+use Rattle.command_line.specs.Words.{Form, help, version, run, parse, generate, types, expand, check, self_test, scope, transfer, Task, Options, IsForm, AreWithin, IsWithin, in_range}
 use Rattle.endings.specs.Meanings.{Meaning}
 use Rattle.endings.specs.PlainTexts.{plain_meaning}
 use Rattle.grammar_commands.specs.Commands.{types_meaning, expand_meaning, check_meaning}
@@ -10,6 +10,7 @@ use Rattle.generate_commands.specs.Answers.{Bounds}
 use Rattle.generate_commands.specs.Generating.{generate_meaning}
 use Rattle.scope_commands.specs.Scoping.{scope_meaning}
 use Rattle.self_tests.specs.SelfTests.{self_test_meaning}
+use Rattle.transfer_commands.specs.Transferring.{transfer_meaning}
 use Rattle.top_call.specs.Help.{help_page}
 
 abbrev pub version_line : List ℕ
@@ -38,6 +39,7 @@ meaning_of (run (expand grammar entry) options) = expand_meaning grammar entry o
 meaning_of (run (check grammar) options) = check_meaning grammar options.settings
 meaning_of (run (self_test number size) options) = self_test_meaning number size (asked_of options).limits options.lexical
 meaning_of (run scope options) = scope_meaning options.readings
+meaning_of (run (transfer rules) options) = transfer_meaning rules options.settings
 meaning_of (run task options) = not_built
 
 -- whether the program does this yet
@@ -51,6 +53,7 @@ is_built (run (expand grammar entry) options) = true
 is_built (run (check grammar) options) = true
 is_built (run (self_test number size) options) = true
 is_built (run scope options) = true
+is_built (run (transfer rules) options) = true
 is_built (run task options) = false
 
 -- The words are of this form, and the program does what it asks for. Every other command is outside the form until it is there.

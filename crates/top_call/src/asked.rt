@@ -33,6 +33,7 @@ use self_tests::SelfTest;
 use std::alloc::Global;
 use std::sync::Wait;
 use std::thread::Threads;
+use transfer_commands::{Transfer, transfer_lines};
 use worker_gate::Gate;
 
 /// The version and its line end.
@@ -195,6 +196,14 @@ fn do_task<S: Shelf, I: Source, O: Sink, Rt: Threads + Wait + Sync>(
             };
             scope_lines(rt, alloc, &scoper, input, out, gate)
         }
+        Task::Transfer(rules) => {
+            let command = Transfer {
+                rules,
+                settings,
+                workers: workers_of(&options),
+            };
+            transfer_lines(rt, alloc, &command, shelf, input, out, gate)
+        }
         // No words ask for these: they are outside the form until they are built.
         _ => Err(Fault::Stopped(Stop::NoMemory)),
     }
@@ -212,7 +221,8 @@ fn is_built(command: &Command) -> bool
         | Command::Run(Task::Expand(_, _), _)
         | Command::Run(Task::Check(_), _)
         | Command::Run(Task::SelfTest(_, _), _)
-        | Command::Run(Task::Scope, _) => true,
+        | Command::Run(Task::Scope, _)
+        | Command::Run(Task::Transfer(_), _) => true,
         Command::Run(_, _) => false,
     }
 }

@@ -8,6 +8,7 @@ use grammar_commands::laws::{check_lawful, expand_lawful, types_lawful};
 use line_commands::laws::parse_lawful;
 use scope_commands::laws::scope_lawful;
 use self_tests::laws::self_test_lawful;
+use transfer_commands::laws::transfer_lawful;
 
 /// What holds of every command. It calls the law of each.
 pub fn built_lawful()
@@ -20,4 +21,5 @@ pub fn built_lawful()
     check_lawful();
     self_test_lawful();
     scope_lawful();
+    transfer_lawful();
 }

@@ -37,4 +37,4 @@ returns c = by_cases
     by_cases (run (self_test number size) options) = c.self_test_lawful.ensures number size (asked_of options).limits options.lexical
     by_cases (run scope options) = c.scope_lawful.ensures options.readings
     by_cases (run (batch grammar profile) options) = none
-    by_cases (run (transfer rules) options) = none
+    by_cases (run (transfer rules) options) = c.transfer_lawful.ensures rules options.settings

@@ -1,0 +1,5 @@
+pub mod Answered
+pub mod OneFiles
+pub mod OneAnswers
+pub mod TransferLaws
+pub mod Exits

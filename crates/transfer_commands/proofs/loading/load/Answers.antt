@@ -1,0 +1,42 @@
+use Rattle.std.proofs.Common.{◌≡◌, map, option_map}
+use Rattle.tdl_reader.specs.Views.{statement_of}
+use Rattle.grammar_settings.specs.SettingsViews.{settings_of}
+use Rattle.endings.specs.Meanings.{Shelves, shelves, has_failed}
+use Rattle.endings.specs.Endings.{NotCome}
+use Rattle.transfer_rules.specs.Forms.{AreRules}
+use Rattle.transfer_commands.specs.Rewriters.{HasRewriter, never, skipped_by}
+use Rattle.transfer_commands.specs.Transferring.{transfer_meaning}
+use Rattle.transfer_commands.specs.Views.{rewriter_of}
+use Rattle.transfer_commands.specs.Inner.{IsOutOfForm}
+use Rattle.transfer_commands.proofs.Answered.{if-both}
+use Rattle.transfer_commands.proofs.Exits.{if-err, not-read, not-rules}
+use Rattle.transfer_commands.proofs.loading.load.Goals as goal
+
+pub returns-in-Ok-clause-rewriter : goal.returns-in-Ok-clause-rewriter
+returns-in-Ok-clause-rewriter g c =
+    let files = g.S.Shelf.files c.args.shelf.now in
+    let name = c.args.command.now.rules.now in
+    let settings = option_map (λ s. s.now) c.args.command.now.settings in
+    let ss = map statement_of c.in-Ok.said.statements.items in
+    let t = settings_of c.in-Ok.said.settings in
+    if-both c.transferrer_of.result
+    (λ r. AreRules ss (rewriter_of r).rules)
+    (λ r. (rewriter_of r).skipped ≡ skipped_by t.transfer_skip (rewriter_of r).rules)
+    (λ r. HasRewriter files name settings (rewriter_of r))
+    (λ r are skipped. record { settled = t; statements = ss; settings_are = c.in-Ok.ensures.settled never; says = c.in-Ok.ensures.says never; rules_are = are; skipped_are = skipped })
+    c.transferrer_of.ensures.rules c.transferrer_of.ensures.skipped
+
+pub returns-in-Ok-clause-fault : goal.returns-in-Ok-clause-fault
+returns-in-Ok-clause-fault g c =
+    let h : Shelves = shelves g.S.Shelf.files g.S.Shelf.faults g.S.Shelf.asked c.args.shelf.now c.read_files.new.shelf in
+    let name = c.args.command.now.rules.now in
+    let settings = option_map (λ s. s.now) c.args.command.now.settings in
+    let ss = map statement_of c.in-Ok.said.statements.items in
+    let t = settings_of c.in-Ok.said.settings in
+    if-err c.transferrer_of.result (IsOutOfForm name ss) (NotCome (transfer_meaning name settings) h)
+    (λ end x. not-rules h name settings t ss end (c.in-Ok.ensures.settled (has_failed h)) (c.in-Ok.ensures.says (has_failed h)) x) c.transferrer_of.ensures.fault
+
+pub returns-in-Err-clause-fault : goal.returns-in-Err-clause-fault
+returns-in-Err-clause-fault g c =
+    let h : Shelves = shelves g.S.Shelf.files g.S.Shelf.faults g.S.Shelf.asked c.args.shelf.now c.read_files.new.shelf in
+    not-read h c.args.command.now.rules.now (option_map (λ s. s.now) c.args.command.now.settings) c.in-Err.fault c.fault_of.result c.in-Err.ensures.fault c.fault_of.ensures

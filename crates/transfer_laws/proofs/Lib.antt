@@ -1,0 +1,16 @@
+pub mod Lists
+pub mod Roles
+pub mod Places
+pub mod Trimmed
+pub mod Made
+pub mod Kept
+pub mod Shaped
+pub mod Trimming
+pub mod RenumberMoved
+pub mod RenumberPlaces
+pub mod RenumberBack
+pub mod RenumberSites
+pub mod RenumberRewritten
+pub mod RenumberTrimmed
+pub mod RenumberRuns
+pub mod RenumberText

@@ -1,0 +1,17 @@
+pub mod Lists
+pub mod Numbering
+pub mod Naming
+pub mod Ending
+pub mod Written
+pub mod Whole
+pub mod One
+pub mod Fronts
+pub mod Drafting
+pub mod Ruling
+pub mod Shapes
+pub mod Stepping
+pub mod Taking
+pub mod Joining
+pub mod Ruled
+pub mod Partly
+pub mod Refusing
