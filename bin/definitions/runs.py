@@ -7,14 +7,20 @@ from .items import generate_answer, parse_answer
 from .mrs import Mrs, are_equal, contribution, mrs_line, mrs_of, DEFAULTS
 from .faults import draft_of
 from .mrs_texts import asked_texts
+from .rule_reader import rules_of as rules_of_text
 from .scope_cases import LIMITS, asked_lines
 from .scopes import lines_of_scopes
 from .semantic_cases import semantic_case
 from .spelling_cases import lines_of, spelling_case
 from .structures import TooMuch
+from .transfer_cases import (
+    Written, asked_lines as lines_to_transfer, changed_characters, changed_tokens, many_brackets, mrs_of as mrs_to_transfer, mrss_at_budget,
+    rules_at_budget, rules_of as random_rules, text_of as rules_text,
+)
+from .transfers import lines_of_transfer
 from .type_cases import types_asked
 
-MOST_MRSS, BROKEN, SCOPES, DEFAULT_READINGS = 12, 20, 30, 10000
+MOST_MRSS, BROKEN, SCOPES, TRANSFERS, TEXTS, DEFAULT_READINGS = 12, 20, 30, 25, 6, 10000
 CHECK = ["check", "g", "--settings", "set"]
 
 
@@ -170,6 +176,71 @@ def scope_run(chance):
     return {}, [Asked(["scope", *readings, *more, *workers_of(chance)], reports, lines, 4 if refused else 0, passed=passed)]
 
 
+def transfer_run(chance):
+    """Rules with lines of MRSs; and texts of rules that are out of form, or changed, with some of the lines."""
+    mrss = [mrs_to_transfer(chance) for _ in range(chance.randint(2, 6))]
+    lines = list(lines_to_transfer(chance, [chance.choice(mrss) for _ in range(TRANSFERS)]))
+    tokens = Written(chance, 0).rules(random_rules(chance, mrss))
+    asked = [transferred(chance, rules_text(chance, tokens), lines)]
+    if chance.random() < 0.2:
+        n, mrs = chance.choice(list(mrss_at_budget()))
+        asked.append(transferred(chance, rules_text(chance, Written(chance, 0).rules(rules_at_budget(chance, n))), list(lines_to_transfer(chance, [mrs] * 2))))
+    for _ in range(TEXTS):
+        draw = chance.random()
+        if draw < 0.4:
+            text = rules_text(chance, Written(chance, 0.03).rules(random_rules(chance, mrss)))
+        elif draw < 0.75:
+            text = rules_text(chance, changed_tokens(chance, tokens))
+        elif draw < 0.97:
+            text = changed_characters(chance, rules_text(chance, tokens))
+        else:
+            text = many_brackets(chance, rules_text(chance, tokens))
+        asked.append(transferred(chance, text, chance.sample(lines, min(3, len(lines)))))
+    return {}, asked
+
+
+def transferred(chance, text, lines):
+    """What comes of lines by the rules of a text and the settings' names of rules that are skipped."""
+    files, words, skipped, fault = {"rules": [text]}, ["transfer", "rules", *workers_of(chance)], [], None
+    if chance.random() < 0.3:
+        files["set"], skipped, fault = skips_of(chance)
+        words += ["--settings", "set"]
+    if fault is None:
+        if chance.random() < 0.02:
+            words[1], fault = "missing", "missing: Shelf"
+        else:
+            rules, found = rules_of_text((text + "\n").encode(errors="surrogateescape"))
+            fault = found and f"rules:{found[0]}: {found[1]}"
+    if fault is not None:
+        return Asked(words, [[]], [line for line, _ in lines], 3, f"lkb: {fault}\n", files)
+    said, reports, refused, passed = [], [], False, 0
+    for line, mrs in lines:
+        number = len(said) + 1
+        try:
+            report, is_refused = ([f"item {number} no-mrs {mrs}"], True) if isinstance(mrs, int) else lines_of_transfer(number, rules, skipped, mrs)
+        except TooMuch:
+            passed += 1
+            continue
+        refused |= is_refused
+        said.append(line)
+        reports.append(report)
+    return Asked(words, reports, said, 4 if refused else 0, files=files, passed=passed)
+
+
+def skips_of(chance):
+    """A file of settings, the names of rules that it skips, and what is told of it where it is broken."""
+    names = lambda: [chance.choice(("r0", "r1", "R2", "r3", "r9", "ü")) for _ in range(chance.choice((0, 1, 1, 2)))]
+    skipped = names()
+    lines = ["; rules that are passed over", " ".join(["transfer-skip", *names()]), "first HD", " ".join(["\ttransfer-skip", *skipped])]
+    lines = lines[chance.choice((0, 2, 3)) :]
+    if chance.random() < 0.1:
+        at = chance.randrange(len(lines))
+        lines.insert(at, chance.choice(("transfer-skip a.b", "transfer_skip r0", "transfer-skip #x1", "path-limit many", "\udcff")))
+        return lines, [], f"set:{at + 1}: Settings"
+    return lines, [name.lower() for name in skipped], None
+
+
 RUNS = {
     "syntax": syntax_run, "semantics": semantics_run, "spelling": spelling_run, "types": types_run, "broken": broken_run, "scope": scope_run,
+    "transfer": transfer_run,
 }
