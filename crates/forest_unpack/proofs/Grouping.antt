@@ -15,7 +15,7 @@ use Rattle.forest_unpack.specs.declared.rows.GroupRow.{GroupRow}
 use Rattle.forest_unpack.specs.Plans.{row_of}
 use Rattle.forest_unpack.specs.Groups.{told_by, TellsAt, IsTold}
 use Rattle.forest_unpack.specs.Inner.Memos.{places_left}
-use Rattle.forest_unpack.specs.Inner.Members.{last_at, IsBelow, Chain, chain_end, chain_on, AreMembersOf, AreMembers, Gains, gains_none, gains_one}
+use Rattle.forest_unpack.specs.Inner.Members.{last_at, IsBelow, Chain, chain_end, chain_on, AreMembers, Gains, gains_none, gains_one}
 
 along_insert : {A B : Type 0} (R : A → B → Type 0) (i : ℕ) {xs : List A} {ys : List B} {x : A} {y : B} → Along R xs ys → R x y → Along R (insert xs i x) (insert ys i y)
 along_insert R zero rest r = along_more r rest

@@ -22,3 +22,6 @@ pub mod Ready
 pub mod Waiting
 pub mod Repeats
 pub mod Classes
+pub mod Raising
+pub mod Products
+pub mod Totals

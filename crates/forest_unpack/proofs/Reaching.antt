@@ -1,6 +1,6 @@
 -- What lists hold are full structures of leaves and of phrases.
-use Rattle.std.specs.Prelude.{◌≡◌, ℕ, ◌<◌, Bool, Option, Some, None, All, List, [], ◌∷◌, ◌++◌, length, map, slice_get}
-use Rattle.std.proofs.Common.{Vec, Global, refl, ap, subst, sym, arith, get_or, zero, suc}
+use Rattle.std.specs.Prelude.{◌≡◌, ℕ, ◌<◌, Bool, Option, Some, All, List, [], ◌∷◌, ◌++◌, length, map}
+use Rattle.std.proofs.Common.{Vec, Global, ap, subst, sym, get_or}
 use Rattle.std.proofs.lemmas.List.Elements.{All-head, All-tail, All-nil, All-cons, All-append, All-contains, All-push, All-map}
 use Rattle.std.specs.Arc.{arc_value}
 use Rattle.chart_core.specs.declared.Row.{Row}

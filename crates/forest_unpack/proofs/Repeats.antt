@@ -1,5 +1,5 @@
 -- Lists that leave out what repeats.
-use Rattle.std.specs.Prelude.{◌≡◌, ◌⊎◌, ℕ, ◌<◌, All, Bool, true, Some, List, [], ◌∷◌, ◌++◌, length, map, slice_get, refl}
+use Rattle.std.specs.Prelude.{◌≡◌, ◌⊎◌, ℕ, ◌<◌, All, Bool, true, List, [], ◌∷◌, ◌++◌, length, map, refl}
 use Rattle.std.proofs.Common.{inl, inr, ap, subst, sym, ◌∙◌, append_assoc, append-nil, arith, get_or, ◌==◌}
 use Rattle.std.proofs.lemmas.Bool.Decides.{Decides-eqb}
 use Rattle.std.proofs.lemmas.List.Elements.{All-contains, All-cons, All-nil, All-push}

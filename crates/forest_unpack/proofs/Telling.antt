@@ -1,5 +1,5 @@
 -- What is told of the groups of code is told of the groups of the chart.
-use Rattle.std.specs.Prelude.{◌≡◌, ℕ, Bool, true, false, if◌then◌else◌, Option, Some, List, [], ◌∷◌, length, map, slice_get, refl}
+use Rattle.std.specs.Prelude.{◌≡◌, ℕ, Bool, true, false, if◌then◌else◌, Option, Some, List, [], ◌∷◌, map, slice_get, refl}
 use Rattle.std.proofs.Common.{ap, subst, sym, ◌∙◌, zero, suc}
 use Rattle.cover.specs.Calculus.{Calculus, Along, along_none, along_more}
 use Rattle.chart_model.specs.At.{At, here, there, at_one, at_found, to_get}

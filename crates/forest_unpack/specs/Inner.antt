@@ -2,3 +2,4 @@
 pub mod Memos
 pub mod Members
 pub mod Making
+pub mod Classes

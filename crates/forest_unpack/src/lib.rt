@@ -23,6 +23,9 @@ mod memo;
 mod ranks;
 mod rows;
 mod sifting;
+mod summing;
+mod tallies;
+mod tallying;
 mod unpacking;
 mod weighing;
 

@@ -21,6 +21,7 @@ use crate::members::{Members, members_of};
 use crate::memo::Memo;
 use crate::ranks::ranks_of;
 use crate::sifting::{LeftOut, are_enough};
+use crate::summing::are_more;
 use crate::weighing::is_large;
 use crate::{Fulls, NoMemory, UnpackFault};
 use chart_core::Finished;
@@ -30,6 +31,9 @@ use std::alloc::Global;
 
 /// How many trees lists have that are tried first.
 const FEW: usize = 128;
+
+/// How many full structures of a host are looked at where its trees are counted.
+const FEW_CLASSES: usize = 8;
 
 /// How many times as many trees as may be asked for the groups of a chart may hold before short lists are tried.
 const MANY: u64 = 4;
@@ -173,6 +177,18 @@ fn unpack_by<'w, S: Shapes, F: Fulls<Cover = S::Cover>>(
     let mut memo = Memo::new(alloc);
     let mut most = max as usize + 1;
     if is_large(alloc, finished, ranks, (most as u64).saturating_mul(MANY))? {
+        let counted = Plan {
+            fulls: &*fulls,
+            finished: &*finished,
+            members: &*members,
+            ranks: &*ranks,
+            left: LeftOut::Nothing,
+            most: FEW_CLASSES,
+            most_wanted: FEW_CLASSES,
+        };
+        if are_more(alloc, shapes, &counted, &*wanted, work, &mut memo, max)? {
+            return Err(UnpackFault::ReadingLimit);
+        }
         if let Some(trees) = try_short(
             alloc, finished, shapes, fulls, members, ranks, wanted, work, &mut memo, max,
         )? {

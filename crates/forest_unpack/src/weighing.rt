@@ -12,13 +12,13 @@ use std::alloc::Global;
 
 /// A row with its rank.
 #[derive(Debug, Clone, Copy)]
-struct Ranked {
+pub struct Ranked {
     rank: u64,
-    row: u64,
+    pub row: u64,
 }
 
 /// The rows by their ranks, those of daughters first.
-fn by_rank(alloc: Global, ranks: &[u64]) -> Result<Vec<Ranked>, NoMemory> {
+pub fn by_rank(alloc: Global, ranks: &[u64]) -> Result<Vec<Ranked>, NoMemory> {
     let mut order = Vec::with_capacity(alloc, ranks.len())?;
     for at in 0..ranks.len() {
         let rank = ranks[at];

@@ -1,4 +1,4 @@
-use Rattle.std.proofs.Common.{◌<◌, ◌≡◌, ◌+◌, ap, sym, subst, arith, length, map}
+use Rattle.std.proofs.Common.{◌<◌, ap, sym, subst, arith, length, map}
 use Rattle.chart_core.specs.Kept.{core_of, rows_in}
 use Rattle.forest_unpack.specs.Plans.{row_of}
 use Rattle.forest_unpack.specs.Inner.Memos.{places_left}

@@ -1,4 +1,4 @@
-use Rattle.std.proofs.Common.{◌≡◌, length, true}
+use Rattle.std.proofs.Common.{◌≡◌, true}
 use Rattle.chart_core.specs.Kept.{core_of, rows_in}
 use Rattle.forest_unpack.specs.Plans.{Grows, rank_at}
 use Rattle.forest_unpack.specs.Sifted.{AreGathered}
