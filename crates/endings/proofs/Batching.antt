@@ -99,17 +99,7 @@ at-batch answers o mid mid_out Write batch lines pieces refused n read was repor
       omega (arith, risen, le),
     )
 
--- one line more
-pub take-next : {X : Type 0} (f : X → List ℕ) (xs : List X) (i : ℕ) (d : X) → i < length xs → take (suc i) (map f xs) ≡ take i (map f xs) ++ f (get_or xs i d) ∷ []
-take-next f [] i d h = absurd (omega (arith, h))
-take-next f (x ∷ xs) zero d h = refl
-take-next f (x ∷ xs) (suc i) d h = ap (λ t. f x ∷ t) (take-next f xs i d (omega (arith, h)))
-
-pub take-length : {X : Type 0} (f : X → List ℕ) (xs : List X) (i : ℕ) → i ≤ length xs → length (take i (map f xs)) ≡ i
-take-length f xs zero h = refl
-take-length f [] (suc i) h = absurd (omega (arith, h))
-take-length f (x ∷ xs) (suc i) h = ap suc (take-length f xs i (omega (arith, h)))
-
+-- the first of a list that are as many as it has, or more
 pub take-whole : {X : Type 0} (f : X → List ℕ) (xs : List X) (i : ℕ) → length xs ≤ i → take i (map f xs) ≡ map f xs
 take-whole f [] zero h = refl
 take-whole f [] (suc i) h = refl

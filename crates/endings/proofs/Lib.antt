@@ -6,3 +6,4 @@ pub mod Clauses
 pub mod Making
 pub mod Flushing
 pub mod Batching
+pub mod Joined

@@ -1,14 +1,15 @@
 //! The answers to a batch of lines, which stand side by side.
 ghost use Rattle.std.specs.Prelude.{◌≡◌, ◌+◌, ◌<◌, ◌≤◌, ◌^◌, ◌++◌, ◌||◌, [], map, length, IfOk, OnOk, false};
 ghost use Rattle.endings.specs.Reports.{AreAnswers};
+ghost use Rattle.endings.specs.Inner.Batches.{lines_of_all, is_one_refused};
 
 use crate::lines::{Answers, NoMemory, Share};
 use crate::pieces::Report;
-use std::alloc::Global;
+use side_by_side::{Work, each_by};
+use std::alloc::{AllocError, Global};
 use std::sync::Wait;
-use std::thread;
 use std::thread::Threads;
-use worker_gate::Gate;
+use worker_gate::{Gate, OpenGate};
 
 // The report over no line.
 fn no_report(alloc: Global) -> Report
@@ -31,31 +32,53 @@ fn add(all: &mut Report, mut more: Report) -> Result<(), NoMemory>
     Ok(())
 }
 
-// The answers to these lines, the first of this number, one after the other as one report, each by one worker.
-fn answer_part<C: Answers, Rt: Threads + Wait + Sync>(
-    rt: &Rt,
-    alloc: Global,
-    command: &C,
+// What answers each of some lines, the first of this number, while others answer others.
+#[derive(Drop)]
+struct LineWork<'c, C> {
+    command: &'c C,
     number: u64,
-    lines: &[Vec<u8>],
-    gate: &dyn Gate,
-) -> Result<Report, NoMemory>
-    requires ready { C.ready command.now }
-    requires room { number + length lines.now ≤ 2 ^ 64 }
-    ensures { IfOk result (λ a. AreAnswers (C.IsAnswer command.now) number (map (λ l. l.items) lines.now) (map (λ l. l.items) a.lines.items) a.refused) }
+}
+
+impl<'c, C: Answers> Work<Vec<u8>, Report> for LineWork<'c, C> {
+    ghost use Rattle.std.specs.Prelude.{◌+◌, ◌<◌, ◌^◌, map};
+
+    ghost ready = { λ w place line. C.ready w.command.now × (w.number + place < 2 ^ 64) };
+
+    ghost Gives = { λ w place line a. C.IsAnswer w.command.now (w.number + place) line.items (map (λ l. l.items) a.lines.items) a.refused };
+
+    fn perform<Rt: Threads + Wait + Sync>(
+        &self,
+        rt: &Rt,
+        alloc: Global,
+        place: u64,
+        line: &Vec<u8>,
+    ) -> Result<Report, AllocError> {
+        // (the gate was told of the line, and isn't told of what is done within it)
+        let number = self.number + place;
+        match self
+            .command
+            .answer(rt, alloc, number, line, Share::Single, &OpenGate)
+        {
+            Ok(report) => Ok(report),
+            Err(NoMemory) => Err(AllocError),
+        }
+    }
+}
+
+// Reports one after the other, as one.
+fn join_reports(alloc: Global, reports: Vec<Report>) -> Result<Report, NoMemory>
+    ensures lines { IfOk result (λ a. map (λ l. l.items) a.lines.items ≡ lines_of_all reports.items) }
+    ensures refused { IfOk result (λ a. a.refused ≡ is_one_refused reports.items) }
 {
     let mut all = no_report(alloc);
-    let mut count = 0;
-    for line in lines {
-        let report = command.answer(rt, alloc, number + count, line, Share::Single, gate)?;
+    for report in reports {
         add(&mut all, report)?;
-        count += 1;
     }
     Ok(all)
 }
 
-// The same where the lines are shared out among all workers in parts, a thread each. Nothing is answered where memory was wanting for
-// one of the lines.
+// The answers to these lines, the first of this number, as one report. Each worker takes one line after the other, and tells the gate of it
+// by its place, from 0. Nothing is answered where memory was wanting for one of the lines.
 fn answer_apart<C: Answers + Sync, Rt: Threads + Wait + Sync>(
     rt: &Rt,
     alloc: Global,
@@ -68,25 +91,9 @@ fn answer_apart<C: Answers + Sync, Rt: Threads + Wait + Sync>(
     requires room { number + length lines.now ≤ 2 ^ 64 }
     ensures { IfOk result (λ a. AreAnswers (C.IsAnswer command.now) number (map (λ l. l.items) lines.now) (map (λ l. l.items) a.lines.items) a.refused) }
 {
-    let size = lines.len().div_ceil(command.workers() as usize).max(1);
-    let parts = thread::map_chunks(
-        rt,
-        alloc,
-        lines,
-        size,
-        &|start: usize, part: &[Vec<u8>]| -> Result<Report, NoMemory>
-            requires { C.ready command.now × (0 < length part.now) × (number + start + length part.now ≤ 2 ^ 64) }
-            ensures { IfOk result (λ a. AreAnswers (C.IsAnswer command.entry.now) (number + start) (map (λ l. l.items) part.entry.now) (map (λ l. l.items) a.lines.items) a.refused) }
-        { answer_part(rt, alloc, command, number + start as u64, part, gate) },
-    )?;
-    let mut all = no_report(alloc);
-    for part in parts {
-        let Ok(report) = part else {
-            return Err(NoMemory);
-        };
-        add(&mut all, report)?;
-    }
-    Ok(all)
+    let work = LineWork { command, number };
+    let reports = each_by(rt, alloc, &work, lines, command.workers(), gate)?;
+    join_reports(alloc, reports)
 }
 
 /// The answers to these lines, the first of this number, one after the other as one report. A line that comes alone has all workers.

@@ -1,9 +1,10 @@
 -- Batches of lines: how they are gathered, and their answers.
-use Rattle.std.specs.Prelude.{ℕ, List, Option, Result, Ok, Err}
+use Rattle.std.specs.Prelude.{ℕ, List, [], ◌∷◌, ◌++◌, map, Option, Result, Ok, Err, Bool, false, ◌||◌}
 use Rattle.lkb_io.specs.declared.lines.LineFault.{LineFault}
 use Rattle.lkb_io.specs.declared.lines.LineFault.TheVariants.{Failed, TooLong, NoMemory}
 use Rattle.lkb_io.specs.Outside.{HasRisen}
 use Rattle.lkb_io.specs.Lines.{HasNoEnd, IsTooLong, Kept}
+use Rattle.endings.specs.declared.pieces.Report.{Report}
 use Rattle.endings.specs.Readings.{ReadsPart, Reads, ReadsSoFar}
 
 -- These lines were read since the source told `old`; after a fault, what is held is what was read of the next line.
@@ -16,3 +17,13 @@ Gathered old new faults_old faults_new held lines (Err NoMemory) = (part : List 
 -- some part of what follows these lines was read
 abbrev pub ReadsSome : Option (List ℕ) → Option (List ℕ) → List (List ℕ) → Type 0
 ReadsSome old new lines = (part : List ℕ) × Reads old new lines part
+
+-- the report lines of several reports, one after the other
+abbrev pub lines_of_all : List Report → List (List ℕ)
+lines_of_all [] = []
+lines_of_all (r ∷ rs) = map (λ l. l.items) r.lines.items ++ lines_of_all rs
+
+-- whether one of several reports tells that something is refused
+abbrev pub is_one_refused : List Report → Bool
+is_one_refused [] = false
+is_one_refused (r ∷ rs) = r.refused || is_one_refused rs
