@@ -1,0 +1,5 @@
+pub mod LineLemmas
+pub mod Taking
+pub mod Numbers
+pub mod LineKinds
+pub mod Bounds

@@ -1,0 +1,4 @@
+pub mod Names
+pub mod Profiles
+pub mod Bounds
+pub mod Views

@@ -1,0 +1,82 @@
+//! What is found of the items of a profile, and the report on it.
+#![tactic(auto)]
+
+mod compare;
+mod lines;
+mod report;
+mod texts;
+mod verdicts;
+
+pub use compare::result_of;
+pub use profile_items::NoMemory;
+pub use report::{ProfileReport, report_on};
+pub use verdicts::verdict_of;
+
+/// What a grammar gives for an item.
+#[derive(Clone, Copy, Debug, PartialEq, Eq)]
+pub enum Got {
+    /// The item is bad.
+    Bad,
+    /// So many readings.
+    Readings { count: u32 },
+    /// A lexical tree has one rule too many.
+    LexicalDepth,
+    /// A chain of unary rules is too long.
+    UnaryChain,
+    /// There are too many packed classes.
+    Edges,
+    /// There are too many readings.
+    TooManyReadings,
+}
+
+/// What is found of the item at a place, counted from 0.
+#[derive(Clone, Copy, Debug, PartialEq, Eq)]
+pub struct ItemResult {
+    pub item: u32,
+    pub got: Got,
+    /// How many of the trees that are written, each counted once, came.
+    pub kept: u32,
+    /// How many of them didn't.
+    pub lost: u32,
+    /// How many trees came that aren't written.
+    pub gained: u32,
+}
+
+/// What came of a sentence: the limit that it breaks, or its readings. Their texts are needed only where trees are written for the item.
+#[derive(Drop)]
+pub enum Came {
+    /// A lexical tree has one rule too many.
+    LexicalDepth,
+    /// A chain of unary rules is too long.
+    UnaryChain,
+    /// There are too many packed classes.
+    Edges,
+    /// There are too many readings.
+    TooManyReadings,
+    /// So many trees.
+    Readings { count: u32 },
+    /// Trees with these texts.
+    Trees { texts: Vec<Vec<u8>> },
+}
+
+/// What an item's result means.
+#[derive(Clone, Copy, Debug, PartialEq, Eq)]
+pub enum Verdict {
+    /// What came is what is expected, and no tree was lost or gained.
+    Same,
+    /// It isn't.
+    Differs,
+    /// Nothing was expected.
+    New,
+    /// The item is bad.
+    Bad,
+}
+
+/// How many items have each verdict.
+#[derive(Clone, Copy, Debug, PartialEq, Eq)]
+pub struct Counts {
+    pub same: u32,
+    pub differs: u32,
+    pub new: u32,
+    pub bad: u32,
+}
