@@ -1,20 +1,16 @@
 -- The faults of a grammar's files as those of a run, and their texts.
-use Rattle.std.proofs.Common.{◌≡◌, ◌^◌, ◌-◌, ◌&&◌, ◌∙◌, ℕ, min, nat_lt, List, [], ◌∷◌, ◌++◌, codes, string_bytes, if◌then◌else◌, Option, Some, None, Bool, true, false, Result, Err, refl, ap, sym, subst}
+use Rattle.std.proofs.Common.{◌≡◌, ◌∙◌, ℕ, List, [], ◌∷◌, ◌++◌, codes, string_bytes, if◌then◌else◌, Option, Some, Bool, true, Result, Err, refl, ap, sym, subst}
 use Rattle.std.specs.Fmt.{decimal}
-use Rattle.std.specs.Str.{bytes_eq}
-use Rattle.std.proofs.lemmas.Bool.Decides.{Decides-ltb}
-use Rattle.std.proofs.lemmas.Slice.Eq.{bytes_eq-Decides}
 use Rattle.lkb_io.specs.Outside.{HasRisen}
 use Rattle.type_hierarchy.specs.declared.decl.TypeFault.{TypeFault}
 use Rattle.type_hierarchy.specs.declared.decl.TypeFault.TheVariants.{Duplicate, Unknown, Cycle, Reserved, TooMany as TooManyWritten, NoMemory as TypeNoMemory}
 use Rattle.placed_statements.specs.declared.fault.ExpandFault.{ExpandFault}
 use Rattle.placed_statements.specs.declared.fault.ExpandFault.TheVariants.{UnknownName, NoIntro, Intro, NoStructure, NoMemory as ExpandNoMemory}
 use Rattle.grammar_files.specs.declared.fault.Why.{Why}
-use Rattle.grammar_files.specs.declared.fault.Why.TheVariants.{Settings, Shelf, TooLong, IncludeLoop, TooManyFiles, Lex, Read, Environment, Typing, TooManyTypes, Expand, Arity, Orthography}
+use Rattle.grammar_files.specs.declared.fault.Why.TheVariants.{Shelf, Typing, Expand}
 use Rattle.grammar_files.specs.declared.fault.LoadFault.{LoadFault}
-use Rattle.grammar_files.specs.declared.fault.LoadFault.TheVariants.{NoMemory as LoadNoMemory, Found}
 use Rattle.grammar_files.specs.Faults.{FoundFault, IsFaultBy}
-use Rattle.grammar_files.specs.Walks.{has_failed as failed_at_walk, fault_at}
+use Rattle.grammar_files.specs.Walks.{has_failed as failed_at_walk}
 use Rattle.grammar_types.specs.Typings.{IsSameTypeFault, IsSameWhy}
 use Rattle.fault_texts.specs.Texts.{type_fault_words, expand_fault_words, feature_name, why_words, has_place, place_text, cause_text, found_text, spaced}
 use Rattle.endings.specs.Meanings.{Meaning, Shelves, FileFault, has_failed}
@@ -22,46 +18,12 @@ use Rattle.endings.specs.Endings.{NotCome}
 use Rattle.endings.specs.declared.Fault.{Fault}
 use Rattle.endings.specs.declared.Fault.TheVariants.{Usage, Files as FilesFault, Stopped}
 use Rattle.endings.specs.declared.Stop.TheVariants.{Read as ReadStop, TooLong as TooLongStop, TooMany, Write, NoMemory}
+use Rattle.command_files.specs.Told.{never, told_of, IsOfShelf, IsToldBy, IsToldAs}
+use Rattle.command_files.proofs.ToldLemmas.{failed_same, shelf_told, of_shelf, told_by}
 use Rattle.grammar_load.specs.Loaded.{GrammarTree}
 use Rattle.grammar_load.specs.Loads.{Loads}
 use Rattle.grammar_load.specs.Outcomes.{IsSameExpandFault, IsSameCause, IsSameOutcome}
-use Rattle.command_grammars.specs.Grammars.{never, failed_file, told_of, IsFirstFault, IsOfShelf, LacksGrammar}
-use Rattle.command_grammars.specs.Told.{IsToldAs}
-
-both_true : (a b : Bool) → (a && b) ≡ true → (a ≡ true) × (b ≡ true)
-both_true true b e = (refl, e)
-both_true false b e = cc
-
--- a name at which the shelf failed
-failed_is : (h : Shelves) (asked : Option (List ℕ)) → h.asked_new ≡ asked → (name : List ℕ) → failed_at_walk h.faults_old h.faults_new asked name ≡ true → HasRisen h.faults_old h.faults_new × (asked ≡ Some name)
-failed_is h None q name e = cc
-failed_is h (Some asked) q name e =
-    let both = both_true (nat_lt (min h.faults_old (2 ^ 64 - 2)) h.faults_new) (bytes_eq asked name) e in
-    ((Decides-ltb (min h.faults_old (2 ^ 64 - 2)) h.faults_new).0 both.0, ap Some ((bytes_eq-Decides asked name).0 both.1))
-
--- the names at which the shelf failed are the same for the files of a grammar and for a run
-same_failed : (files : Option (List ℕ → Option (List ℕ))) (old new : ℕ) (asked : Option (List ℕ)) → (h : Shelves) → h ≡ record { files = files; faults_old = old; faults_new = new; asked_new = asked } → failed_at_walk h.faults_old h.faults_new h.asked_new ≡ has_failed h
-same_failed files old new None h e = subst (λ (k : Shelves). failed_at_walk k.faults_old k.faults_new k.asked_new ≡ has_failed k) (sym e) refl
-same_failed files old new (Some asked) h e = subst (λ (k : Shelves). failed_at_walk k.faults_old k.faults_new k.asked_new ≡ has_failed k) (sym e) refl
-
-pub failed_same : (h : Shelves) → failed_at_walk h.faults_old h.faults_new h.asked_new ≡ has_failed h
-failed_same h = same_failed h.files h.faults_old h.faults_new h.asked_new h refl
-
--- the file at which the shelf failed
-shelf_is : (why : Why) (file other : List ℕ) → failed_file why file ≡ Some other → (why ≡ Shelf) × (file ≡ other)
-shelf_is Shelf file other e = (refl, cc)
-shelf_is Settings file other e = cc
-shelf_is TooLong file other e = cc
-shelf_is IncludeLoop file other e = cc
-shelf_is TooManyFiles file other e = cc
-shelf_is (Lex fault) file other e = cc
-shelf_is (Read fault) file other e = cc
-shelf_is Environment file other e = cc
-shelf_is (Typing fault) file other e = cc
-shelf_is TooManyTypes file other e = cc
-shelf_is (Expand fault) file other e = cc
-shelf_is Arity file other e = cc
-shelf_is Orthography file other e = cc
+use Rattle.command_grammars.specs.Grammars.{IsFirstFault, LacksGrammar}
 
 abbrev AtShelf : Type 0
 AtShelf = (files : Option (List ℕ → Option (List ℕ))) (fails : List ℕ → Bool) (name : List ℕ) (settings : Option (List ℕ)) (f : FoundFault) → Loads files fails name settings (Err f) → f.why ≡ Shelf → fails f.file ≡ true
@@ -72,29 +34,24 @@ Calm = (files : Option (List ℕ → Option (List ℕ))) (fails other : List ℕ
 -- a fault of the files, as the run tells it
 first_of : AtShelf → (h : Shelves) (name : List ℕ) (settings : Option (List ℕ)) (f : FoundFault) → Loads h.files (failed_at_walk h.faults_old h.faults_new h.asked_new) name settings (Err f)
     → IsFirstFault name settings h.files (has_failed h) (told_of f) × IsOfShelf h (told_of f)
-first_of shelf h name settings f x = (
-  (f, subst (λ fails. Loads h.files fails name settings (Err f)) (failed_same h) x, refl),
-  λ file e. (let is = shelf_is f.why f.file file e in
-      let at = failed_is h h.asked_new refl f.file (shelf h.files (failed_at_walk h.faults_old h.faults_new h.asked_new) name settings f x is.0) in
-      (at.0, at.1 ∙ ap Some is.1)),
-)
+first_of shelf h name settings f x =
+    let is = subst (λ fails. Loads h.files fails name settings (Err f)) (failed_same h) x in
+    ((f, is, refl), of_shelf h f (λ e. shelf h.files (has_failed h) name settings f is e))
+
+lacks_told : AtShelf → (h : Shelves) (name : List ℕ) (settings : Option (List ℕ)) (end : Fault)
+    → IsToldBy (λ f. Loads h.files (failed_at_walk h.faults_old h.faults_new h.asked_new) name settings (Err f)) end → LacksGrammar h name settings end
+lacks_told shelf h name settings (FilesFault text) x = let z = first_of shelf h name settings x.0 x.1 in (told_of x.0, z.0, z.1, x.2)
+lacks_told shelf h name settings (Stopped NoMemory) x = tt
+lacks_told shelf h name settings Usage x = absurd x
+lacks_told shelf h name settings (Stopped ReadStop) x = absurd x
+lacks_told shelf h name settings (Stopped TooLongStop) x = absurd x
+lacks_told shelf h name settings (Stopped TooMany) x = absurd x
+lacks_told shelf h name settings (Stopped Write) x = absurd x
 
 pub lacks_by : AtShelf → (h : Shelves) (name : List ℕ) (settings : Option (List ℕ)) (fault : LoadFault) (end : Fault)
     → IsFaultBy (λ f. Loads h.files (failed_at_walk h.faults_old h.faults_new h.asked_new) name settings (Err f)) fault → IsToldAs fault end → LacksGrammar h name settings end
-lacks_by shelf h name settings (Found file at why) (FilesFault text) x t = let z = first_of shelf h name settings (fault_at (string_bytes file) at why) x in (told_of (fault_at (string_bytes file) at why), z.0, z.1, t)
-lacks_by shelf h name settings (Found file at why) (Stopped NoMemory) x t = tt
-lacks_by shelf h name settings LoadNoMemory (Stopped NoMemory) x t = tt
-lacks_by shelf h name settings LoadNoMemory (FilesFault text) x t = absurd t
-lacks_by shelf h name settings LoadNoMemory Usage x t = absurd t
-lacks_by shelf h name settings LoadNoMemory (Stopped ReadStop) x t = absurd t
-lacks_by shelf h name settings LoadNoMemory (Stopped TooLongStop) x t = absurd t
-lacks_by shelf h name settings LoadNoMemory (Stopped TooMany) x t = absurd t
-lacks_by shelf h name settings LoadNoMemory (Stopped Write) x t = absurd t
-lacks_by shelf h name settings (Found file at why) Usage x t = absurd t
-lacks_by shelf h name settings (Found file at why) (Stopped ReadStop) x t = absurd t
-lacks_by shelf h name settings (Found file at why) (Stopped TooLongStop) x t = absurd t
-lacks_by shelf h name settings (Found file at why) (Stopped TooMany) x t = absurd t
-lacks_by shelf h name settings (Found file at why) (Stopped Write) x t = absurd t
+lacks_by shelf h name settings fault end x t =
+    lacks_told shelf h name settings end (told_by (λ f. Loads h.files (failed_at_walk h.faults_old h.faults_new h.asked_new) name settings (Err f)) fault end x t)
 
 -- for a command whose first fault is that of its grammar's files, nothing came of them
 pub not_come : (m : Meaning) (h : Shelves) (name : List ℕ) (settings : Option (List ℕ)) → ((fault : FileFault) → IsFirstFault name settings h.files (has_failed h) fault → m.first h.files (has_failed h) fault)
@@ -106,9 +63,6 @@ not_come m h name settings to (Stopped ReadStop) x = absurd x
 not_come m h name settings to (Stopped TooLongStop) x = absurd x
 not_come m h name settings to (Stopped TooMany) x = absurd x
 not_come m h name settings to (Stopped Write) x = absurd x
-
-shelf_told : (why : Why) (file : List ℕ) → why ≡ Shelf → failed_file why file ≡ Some file
-shelf_told why file e = ap (λ w. failed_file w file) e
 
 -- where the shelf counts no fault, the fault is the first
 pub calm_first : Calm → (h : Shelves) (name : List ℕ) (settings : Option (List ℕ)) (fault : FileFault) → IsFirstFault name settings h.files (has_failed h) fault → IsOfShelf h fault
