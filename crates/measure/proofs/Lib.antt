@@ -1,2 +1,0 @@
-pub mod UnifyLemmas
-pub mod MakingLemmas
