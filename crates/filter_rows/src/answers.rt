@@ -1,4 +1,4 @@
-//! What one worker answers to a line or an MRS, with the sieves and the priority that it is lent, and what two answer to a line.
+//! What workers answer to a line or an MRS, with the sieves, the priority and the gate that they are lent.
 
 ghost use Rattle.chart_workers.specs.Crews.{IsCrewSize};
 ghost use Rattle.morph_analysis.specs.Lattices.{IsValid};
@@ -9,14 +9,16 @@ ghost use Rattle.filter_rows.specs.Ready.{IsReady, IsFit};
 
 use crate::NoMemory;
 use crate::grammars::Ready;
-use chart_workers::{Crew, Rank};
+use crate::lent::{Order, Test};
+use chart_workers::Crew;
 use derivation::{Tree, is_named, write};
+use engine::desks::Desk;
 use fs_unify::Scratch;
-use grammar_rules::{ItemAnswer, LineWork, RunMemory, parse_words, run_shapes};
+use grammar_rules::{ItemAnswer, LineWork, parse_words};
 use morph_analysis::Lattice;
 use mrs_generate::{GenAnswer, generate};
 use mrs_model::Mrs;
-use sieve::{Filter, Sieve};
+use sieve::{Priority, Sieve};
 use std::alloc::Global;
 use std::sync::Wait;
 use std::thread::Threads;
@@ -29,12 +31,24 @@ pub enum Asked<'x> {
     Mrs(&'x Mrs),
 }
 
-// What a line is worked out with.
-fn work(alloc: Global) -> LineWork {
-    LineWork {
+/// With what an answer is found. None of it changes the answer.
+#[derive(Clone, Copy)]
+pub struct Means<'x> {
+    pub workers: u32,
+    pub sieves: &'x [Sieve<Test<'x>>],
+    pub order: Order,
+}
+
+// What is worked out with, by so many workers.
+fn desk(alloc: Global, workers: u32) -> Desk
+    requires { IsCrewSize workers }
+{
+    let work = LineWork {
         chart: Scratch::new(alloc),
         trees: Scratch::new(alloc),
-    }
+    };
+    let crew = Crew::new(alloc, workers);
+    Desk { work, crew }
 }
 
 // Adds a tree, whose places have names, as a line.
@@ -90,112 +104,98 @@ fn add_sentences(alloc: Global, answer: &GenAnswer, into: &mut Vec<u8>) -> Resul
     Ok(())
 }
 
-impl Ready<'_, '_, '_, '_, '_, '_, '_, '_, '_> {
-    /// Adds the trees of a line, which so many workers find.
-    pub fn parsed<R: Wait + Threads + Sync, F: Filter + Send + Sync, P: Rank + Sync>(
+impl Ready<'_, '_, '_, '_> {
+    // Adds the trees of a line.
+    fn parsed<R: Wait + Threads + Sync>(
         &self,
         rt: &R,
         alloc: Global,
-        workers: u32,
+        desk: &mut Desk,
         lattice: &Lattice,
-        sieves: &[Sieve<F>],
-        priority: &P,
+        means: Means<'_>,
         gate: &dyn Gate,
         into: &mut Vec<u8>,
     ) -> Result<(), NoMemory>
-        requires workers { IsCrewSize workers }
         requires ready { IsReady self.now }
         requires valid { IsValid (lattice_of lattice.now) }
     {
-        // nothing that another answer remembers
-        let Ok(shapes) = run_shapes(alloc, &*self.shapes) else {
-            return Err(NoMemory);
-        };
-        let Ok(shared) = RunMemory::new(alloc, &*self.signs, &*self.shapes) else {
-            return Err(NoMemory);
-        };
-        let mut work = work(alloc);
-        let mut crew = Crew::new(alloc, workers);
-        match parse_words(
+        let Ok(answer) = parse_words(
             rt,
             alloc,
-            &mut work,
-            &mut crew,
-            self.signs,
-            &shapes,
-            &shared,
-            self.feeds,
-            self.lexicon,
-            self.spelling,
+            &mut desk.work,
+            &mut desk.crew,
+            self.engine.signs,
+            self.engine.shapes,
+            self.engine.shared,
+            self.engine.feeds,
+            &self.engine.grammar.lexicon,
+            &self.engine.grammar.spelling,
             lattice,
             &self.limits,
-            sieves,
-            priority,
+            means.sieves,
+            &Priority::new(means.order),
             gate,
-        ) {
-            Ok(answer) => add_trees(alloc, &answer, self.names, into),
-            Err(_) => Err(NoMemory),
-        }
+        ) else {
+            return Err(NoMemory);
+        };
+        add_trees(alloc, &answer, &self.engine.grammar.names, into)
     }
 
     // Adds the sentences of an MRS.
-    fn generated<R: Wait + Threads + Sync, F: Filter + Send + Sync, P: Rank + Sync>(
+    fn generated<R: Wait + Threads + Sync>(
         &self,
         rt: &R,
         alloc: Global,
+        desk: &mut Desk,
         mrs: &Mrs,
-        sieves: &[Sieve<F>],
-        priority: &P,
+        means: Means<'_>,
         gate: &dyn Gate,
         into: &mut Vec<u8>,
     ) -> Result<(), NoMemory>
         requires ready { IsReady self.now }
         requires valid { IsValidMrs (meaning_of mrs.now) }
     {
-        let mut work = work(alloc);
-        let mut crew = Crew::new(alloc, 1);
-        match generate(
+        let Ok(answer) = generate(
             rt,
             alloc,
-            &mut work,
-            &mut crew,
-            self.signs,
-            self.shapes,
-            self.lexicon,
-            self.spelling,
+            &mut desk.work,
+            &mut desk.crew,
+            self.engine.signs,
+            self.engine.shapes.shapes(),
+            &self.engine.grammar.lexicon,
+            &self.engine.grammar.spelling,
             self.contributors,
-            self.paths,
+            self.engine.paths,
             self.c_cont,
             mrs,
             &self.limits,
-            sieves,
-            priority,
+            means.sieves,
+            &Priority::new(means.order),
             gate,
-        ) {
-            Ok(answer) => add_sentences(alloc, &answer, into),
-            Err(_) => Err(NoMemory),
-        }
+        ) else {
+            return Err(NoMemory);
+        };
+        add_sentences(alloc, &answer, into)
     }
 
-    /// Adds what one worker answers.
-    pub fn answer<R: Wait + Threads + Sync, F: Filter + Send + Sync, P: Rank + Sync>(
+    /// Adds what is answered.
+    pub fn answer<R: Wait + Threads + Sync>(
         &self,
         rt: &R,
         alloc: Global,
         asked: Asked<'_>,
-        sieves: &[Sieve<F>],
-        priority: &P,
+        means: Means<'_>,
         gate: &dyn Gate,
         into: &mut Vec<u8>,
     ) -> Result<(), NoMemory>
+        requires workers { IsCrewSize means.workers }
         requires ready { IsReady self.now }
         requires fit { IsFit asked }
     {
+        let mut desk = desk(alloc, means.workers);
         match asked {
-            Asked::Line(lattice) => self.parsed(
-                rt, alloc, 1, lattice, sieves, priority, gate, into,
-            ),
-            Asked::Mrs(mrs) => self.generated(rt, alloc, mrs, sieves, priority, gate, into),
+            Asked::Line(lattice) => self.parsed(rt, alloc, &mut desk, lattice, means, gate, into),
+            Asked::Mrs(mrs) => self.generated(rt, alloc, &mut desk, mrs, means, gate, into),
         }
     }
 }

@@ -1,48 +1,39 @@
 //! Grammars, and what is made of each once.
 
-ghost use Rattle.std.specs.Prelude.{◌≡◌, map};
+ghost use Rattle.std.specs.Prelude.{map, IfOk};
 ghost use Rattle.chart_core.specs.Kept.{InRange};
 ghost use Rattle.book_signs.specs.Conditions.{IsWhole};
 ghost use Rattle.grammar_load.specs.Conditions.{IsLoaded};
 ghost use Rattle.grammar_load.specs.Views.{grammar_of};
-ghost use Rattle.grammar_names.specs.Fitting.{mrs_paths_of, HasMrsPaths};
+ghost use Rattle.grammar_names.specs.Fitting.{HasMrsPaths};
 ghost use Rattle.mrs_places.specs.Paths.{feature_of, paths_of};
-ghost use Rattle.grammar_rules.specs.Lines.{AreShapesOf, AreFeedsOf};
 ghost use Rattle.mrs_generate.specs.Contributors.{AreContributors};
+ghost use Rattle.engine.specs.Ready.{IsReady};
 
 use crate::NoMemory;
-use book_signs::SignBook;
+use crate::steps::add_line;
 use book_signs::laws::whole_book;
 use chart_core::Limits;
 use command_grammars::load_grammar;
+use engine::{Engine, Use, with_engine};
 use fs_unify::Scratch;
 use grammar_load::Grammar;
 use grammar_names::loaded_paths;
-use grammar_shapes::GrammarShapes;
-use lexicon::Lexicon;
-use line_commands::{rule_feeds, shapes_of};
 use lkb_io::Shelf;
-use morph_analysis::Feeds;
 use mrs_generate::{Contributors, contributors_of};
-use mrs_paths::{c_cont_path, mrs_paths};
-use mrs_places::{MrsFeat, MrsPaths};
-use spelling_rules::Spelling;
+use mrs_paths::c_cont_path;
+use mrs_places::MrsFeat;
 use std::alloc::Global;
 use std::sync::Wait;
 use std::thread::Threads;
+use worker_gate::{Gate, OpenGate};
 
-/// What is made of a grammar once, and lent to each call. Each thing that is lent has a lifetime of its own, since it is lent to threads.
+/// What is asked: an engine, and what its grammar contributes to MRSs. Lines and MRSs share what the engine remembers.
 #[derive(Clone, Copy)]
-pub struct Ready<'g, 's, 'b, 'h, 'r, 'f, 'c, 'p, 'k> {
-    pub signs: &'s SignBook<'b>,
-    pub shapes: &'h GrammarShapes<'r>,
-    pub feeds: &'f Feeds,
-    pub lexicon: &'g Lexicon,
-    pub spelling: &'g Spelling,
-    pub names: &'g [String],
-    pub contributors: &'c Contributors,
-    pub paths: &'p MrsPaths,
-    pub c_cont: &'k [MrsFeat],
+pub struct Ready<'e, 'm, 'r, 'k> {
+    pub engine: Engine<'e, 'e, 'e, 'e, 'm, 'r, 'e, 'k, 'e, 'e>,
+    pub contributors: &'e Contributors,
+    pub c_cont: &'e [MrsFeat],
     pub limits: Limits,
 }
 
@@ -59,98 +50,70 @@ fn defaults() -> Limits
     }
 }
 
-// What comes of steps, with all that is made of a grammar.
-fn show_made<R: Threads + Wait + Sync>(
-    rt: &R,
-    alloc: Global,
-    grammar: &Grammar,
-    signs: &SignBook<'_>,
-    shapes: &GrammarShapes<'_>,
-    feeds: &Feeds,
-    contributors: &Contributors,
-    paths: &MrsPaths,
-    c_cont: &[MrsFeat],
-    limits: Limits,
-    steps: &str,
-    out: &mut Vec<u8>,
-) -> Result<(), NoMemory>
-    requires limits { InRange limits }
-    requires loaded { IsLoaded (grammar_of grammar.now) }
-    requires fits { HasMrsPaths (grammar_of grammar.now) }
-    requires book { signs.now.book ≡ grammar.now.book }
-    requires shapes { AreShapesOf signs.now shapes.now }
-    requires feeds { AreFeedsOf signs.now feeds.now }
-    requires contributors { AreContributors signs.now grammar.now.lexicon grammar.now.spelling (paths_of paths.now) (map feature_of c_cont.now) limits.lexical contributors.now }
-    requires paths { paths_of paths.now ≡ mrs_paths_of (grammar_of grammar.now) }
-{
-    signs.laws();
-    let ready = Ready {
-        signs,
-        shapes,
-        feeds,
-        lexicon: &grammar.lexicon,
-        spelling: &grammar.spelling,
-        names: &grammar.names,
-        contributors,
-        paths,
-        c_cont,
-        limits,
-    };
-    ready.take_all(rt, alloc, steps, out)
+// The steps of some lines.
+#[derive(Clone, Copy)]
+struct Steps<'x> {
+    text: &'x str,
 }
 
-// What comes of steps, with the signs of a grammar, and where MRSs and the relations of rules stand.
-fn show_at_paths<R: Threads + Wait + Sync>(
-    rt: &R,
+impl Use<Vec<u8>, ()> for Steps<'_> {
+    type Out = Result<(), NoMemory>;
+
+    ghost Gives = { λ _ _ _ _ _ _ _ _. Unit {0} };
+
+    fn run<R: Threads + Wait + Sync>(
+        &self,
+        rt: &R,
+        alloc: Global,
+        engine: &Engine<'_, '_, '_, '_, '_, '_, '_, '_, '_, '_>,
+        out: &mut Vec<u8>,
+        _nothing: &mut (),
+        _gate: &dyn Gate,
+    ) -> Result<(), NoMemory> {
+        let grammar = engine.grammar;
+        let Ok(c_cont) = c_cont_path(alloc, &grammar.settings, &grammar.book.feats) else {
+            return Err(NoMemory);
+        };
+        engine.laws();
+        let limits = defaults();
+        let at: &[MrsFeat] = &c_cont;
+        let contributors = contributors_in(alloc, engine, at, limits.lexical)?;
+        let ready = Ready {
+            engine: *engine,
+            contributors: &contributors,
+            c_cont: at,
+            limits,
+        };
+        ready.take_all(rt, alloc, self.text, out)
+    }
+}
+
+// What the grammar of an engine contributes, with lexical trees of up to so many rules and one more.
+fn contributors_in(
     alloc: Global,
-    grammar: &Grammar,
-    signs: &SignBook<'_>,
-    paths: &MrsPaths,
+    engine: &Engine<'_, '_, '_, '_, '_, '_, '_, '_, '_, '_>,
     c_cont: &[MrsFeat],
-    steps: &str,
-    out: &mut Vec<u8>,
-) -> Result<(), NoMemory>
-    requires loaded { IsLoaded (grammar_of grammar.now) }
-    requires fits { HasMrsPaths (grammar_of grammar.now) }
-    requires book { signs.now.book ≡ grammar.now.book }
-    requires paths { paths_of paths.now ≡ mrs_paths_of (grammar_of grammar.now) }
+    lexical: u32,
+) -> Result<Contributors, NoMemory>
+    requires ready { IsReady engine.now }
+    ensures { IfOk result (AreContributors engine.now.signs.now engine.now.grammar.now.lexicon engine.now.grammar.now.spelling (paths_of engine.now.paths.now) (map feature_of c_cont.now) lexical) }
 {
-    signs.laws();
-    let limits = defaults();
-    let Ok(shapes) = shapes_of(alloc, signs) else {
-        return Err(NoMemory);
-    };
-    let Ok(feeds) = rule_feeds(alloc, signs) else {
-        return Err(NoMemory);
-    };
+    engine.laws();
     let mut work = Scratch::new(alloc);
     let Ok(contributors) = contributors_of(
         alloc,
         &mut work,
-        signs,
-        paths,
+        engine.signs,
+        engine.paths,
         c_cont,
-        &grammar.lexicon,
-        &grammar.spelling,
-        &feeds,
-        limits.lexical,
+        &engine.grammar.lexicon,
+        &engine.grammar.spelling,
+        engine.feeds,
+        lexical,
     ) else {
         return Err(NoMemory);
     };
-    show_made(
-        rt,
-        alloc,
-        grammar,
-        signs,
-        &shapes,
-        &feeds,
-        &contributors,
-        paths,
-        c_cont,
-        limits,
-        steps,
-        out,
-    )
+    Ok(contributors)
 }
 
 // What comes of steps, with a grammar.
@@ -165,18 +128,12 @@ fn show_with<R: Threads + Wait + Sync>(
     requires fits { HasMrsPaths (grammar_of grammar.now) }
     requires whole { IsWhole grammar.now.book }
 {
-    let book = &grammar.book;
-    let Ok(signs) = SignBook::make(alloc, book) else {
-        return Err(NoMemory);
-    };
-    let settings = &grammar.settings;
-    let Ok(paths) = mrs_paths(alloc, settings, book.system.types(), &book.feats) else {
-        return Err(NoMemory);
-    };
-    let Ok(c_cont) = c_cont_path(alloc, settings, &book.feats) else {
-        return Err(NoMemory);
-    };
-    show_at_paths(rt, alloc, grammar, &signs, &paths, &c_cont, steps, out)
+    let job = Steps { text: steps };
+    let mut nothing = ();
+    match with_engine(rt, alloc, grammar, &job, out, &mut nothing, &OpenGate) {
+        Ok(done) => done,
+        Err(_) => Err(NoMemory),
+    }
 }
 
 /// What comes of steps, with the grammar of this name.
@@ -191,8 +148,7 @@ pub fn show<S: Shelf, R: Threads + Wait + Sync>(
     whole_book();
     loaded_paths();
     let Ok(grammar) = load_grammar(alloc, shelf, name, None) else {
-        out.extend_from_slice(b"no grammar\n")?;
-        return Ok(());
+        return add_line("no grammar", out);
     };
     show_with(rt, alloc, &grammar, steps, out)
 }

@@ -1,9 +1,7 @@
-//! What is lent to the calls: a gate that lists the tasks with which it is called, a filter that counts its calls, and rankings.
-
-ghost use Rattle.std.specs.Prelude.{◌≡◌, true};
+//! What is lent to the calls: a gate that lists the tasks with which it is called, filters, and rankings.
 
 use crate::NoMemory;
-use sieve::{Filter, Ranking, Sketch};
+use sieve::{Filter, Ranking, Sketch, types_meet};
 use std::alloc::Global;
 use std::sync::atomic::{AtomicU64, Ordering};
 use type_hierarchy::Types;
@@ -57,53 +55,47 @@ impl Gate for Listing {
     }
 }
 
-/// A filter that always passes, and counts its calls.
+/// A filter: the quick test of types at paths, or one that always passes and counts its calls.
 #[derive(Clone, Copy)]
-pub struct Counting<'a> {
-    pub calls: &'a AtomicU64,
+pub enum Test<'a> {
+    TypesMeet,
+    Counted(&'a AtomicU64),
 }
 
-impl Filter for Counting<'_> {
-    ghost answers = { λ _ _ _ _ yes. yes ≡ true };
+impl Filter for Test<'_> {
+    ghost use Rattle.filter_rows.specs.Lent.{IsPassed};
 
-    fn ask(&self, _types: &Types, _a: &Sketch, _b: &Sketch) -> bool {
-        self.calls.fetch_add(1, Ordering::SeqCst);
-        true
+    ghost answers = { λ test types a b passes. IsPassed test types.now a.now b.now passes };
+
+    fn ask(&self, types: &Types, a: &Sketch, b: &Sketch) -> bool {
+        match self {
+            Test::TypesMeet => types_meet(types, a, b),
+            Test::Counted(calls) => {
+                calls.fetch_add(1, Ordering::SeqCst);
+                true
+            }
+        }
     }
 }
 
-/// Smaller hosts first.
+/// A ranking: smaller hosts first, larger ones as far as their sizes are at most 1,000, or one rank for all tasks.
 #[derive(Clone, Copy)]
-pub struct SmallerFirst;
+pub enum Order {
+    SmallerFirst,
+    LargerFirst,
+    OneRank,
+}
 
-impl Ranking for SmallerFirst {
-    ghost answers = { λ _ _ size _ rank. rank ≡ size };
+impl Ranking for Order {
+    ghost use Rattle.filter_rows.specs.Lent.{IsRank};
+
+    ghost answers = { λ order _ size _ rank. IsRank order size rank };
 
     fn ask(&self, _rule: u32, size: u32, _level: u32) -> u32 {
-        size
-    }
-}
-
-/// Larger hosts first, as far as their sizes are at most 1,000.
-#[derive(Clone, Copy)]
-pub struct LargerFirst;
-
-impl Ranking for LargerFirst {
-    ghost answers = { λ _ _ _ _ _. Unit {0} };
-
-    fn ask(&self, _rule: u32, size: u32, _level: u32) -> u32 {
-        1_000u32.saturating_sub(size)
-    }
-}
-
-/// One rank for all tasks.
-#[derive(Clone, Copy)]
-pub struct OneRank;
-
-impl Ranking for OneRank {
-    ghost answers = { λ _ _ _ _ rank. rank ≡ 0 };
-
-    fn ask(&self, _rule: u32, _size: u32, _level: u32) -> u32 {
-        0
+        match self {
+            Order::SmallerFirst => size,
+            Order::LargerFirst => 1_000u32.saturating_sub(size),
+            Order::OneRank => 0,
+        }
     }
 }

@@ -1,68 +1,58 @@
 //! The steps: what a call is asked with a grammar, and what is shown of what it answers.
 
-ghost use Rattle.std.specs.Prelude.{IfOk};
-ghost use Rattle.morph_analysis.specs.Lattices.{IsValid};
-ghost use Rattle.morph_analysis.specs.LatticeViews.{lattice_of};
 ghost use Rattle.filter_rows.specs.Ready.{IsReady, IsFit};
 
 use crate::NoMemory;
 use crate::alike::Alike;
-use crate::answers::Asked;
+use crate::answers::{Asked, Means};
 use crate::grammars::Ready;
 use crate::held::HoldingGate;
-use crate::lent::{Counting, LargerFirst, Listing, OneRank, SmallerFirst};
-use chart_workers::Rank;
-use item_reports::words_of_line;
-use morph_analysis::Lattice;
+use crate::lent::{Listing, Order, Test};
+use engine::lattice_of_words;
 use mrs_text::read;
-use sieve::{Priority, Sieve, TypesMeet};
+use sieve::Sieve;
 use std::alloc::Global;
 use std::sync::Wait;
 use std::sync::atomic::{AtomicU64, Ordering};
 use std::thread::Threads;
 use worker_gate::OpenGate;
 
-// The lattice of the words of a line.
-fn lattice_of_line(alloc: Global, line: &str) -> Result<Lattice, NoMemory>
-    ensures { IfOk result (λ l. IsValid (lattice_of l)) }
-{
-    let Ok(words) = words_of_line(alloc, line) else {
-        return Err(NoMemory);
-    };
-    if words.len() > u32::MAX as usize {
-        return Err(NoMemory);
-    }
-    match Lattice::of_words(alloc, &words) {
-        Ok(lattice) => Ok(lattice),
-        Err(_) => Err(NoMemory),
-    }
+/// Adds a line.
+pub fn add_line(text: &str, out: &mut Vec<u8>) -> Result<(), NoMemory> {
+    out.extend_from_slice(text.as_bytes())?;
+    out.push(b'\n')?;
+    Ok(())
 }
 
-impl Ready<'_, '_, '_, '_, '_, '_, '_, '_, '_> {
-    // Takes the answers under a priority, with no sieve, with one and with the same one twice.
-    fn take_under<R: Wait + Threads + Sync, P: Rank + Sync>(
+impl Ready<'_, '_, '_, '_> {
+    // Takes the answers of one worker in an order, with no sieve, with one and with the same one twice.
+    fn take_in_order<R: Wait + Threads + Sync>(
         &self,
         rt: &R,
         alloc: Global,
         asked: Asked<'_>,
-        priority: &P,
+        order: Order,
         alike: &mut Alike,
     ) -> Result<(), NoMemory>
         requires ready { IsReady self.now }
         requires fit { IsFit asked }
     {
-        let sieves = [Sieve::new(TypesMeet), Sieve::new(TypesMeet)];
+        let sieves = [Sieve::new(Test::TypesMeet), Sieve::new(Test::TypesMeet)];
         for count in 0..3 {
+            let means = Means {
+                workers: 1,
+                sieves: &sieves[..count],
+                order,
+            };
             let mut text = Vec::new(alloc);
-            let lent = &sieves[..count];
-            self.answer(rt, alloc, asked, lent, priority, &OpenGate, &mut text)?;
+            self.answer(rt, alloc, asked, means, &OpenGate, &mut text)?;
             alike.take(text);
         }
         Ok(())
     }
 
-    // Writes how many of nine answers are the first one, and this one: with no sieve, with one and with the same one twice, under three
-    // priorities.
+    // Writes how many of nine answers are the first one, and this one: with no sieve, with one and with the same one twice, in three
+    // orders.
     fn show_answers<R: Wait + Threads + Sync>(
         &self,
         rt: &R,
@@ -74,9 +64,9 @@ impl Ready<'_, '_, '_, '_, '_, '_, '_, '_, '_> {
         requires fit { IsFit asked }
     {
         let mut alike = Alike::new(alloc);
-        self.take_under(rt, alloc, asked, &Priority::new(SmallerFirst), &mut alike)?;
-        self.take_under(rt, alloc, asked, &Priority::new(LargerFirst), &mut alike)?;
-        self.take_under(rt, alloc, asked, &Priority::new(OneRank), &mut alike)?;
+        for order in [Order::SmallerFirst, Order::LargerFirst, Order::OneRank] {
+            self.take_in_order(rt, alloc, asked, order, &mut alike)?;
+        }
         alike.write(alloc, out)
     }
 
@@ -92,11 +82,15 @@ impl Ready<'_, '_, '_, '_, '_, '_, '_, '_, '_> {
         requires fit { IsFit asked }
     {
         let calls = AtomicU64::new(0);
-        let sieves = [Sieve::new(Counting { calls: &calls })];
+        let sieves = [Sieve::new(Test::Counted(&calls))];
+        let means = Means {
+            workers: 1,
+            sieves: &sieves,
+            order: Order::OneRank,
+        };
         let gate = Listing::new(alloc)?;
         let mut text = Vec::new(alloc);
-        let priority = Priority::new(OneRank);
-        self.answer(rt, alloc, asked, &sieves, &priority, &gate, &mut text)?;
+        self.answer(rt, alloc, asked, means, &gate, &mut text)?;
         let tasks = gate.count();
         let each = calls.load(Ordering::SeqCst) >= tasks;
         let line = format!(in alloc; "{tasks} tasks, each asked about: {each}\n")?;
@@ -104,22 +98,27 @@ impl Ready<'_, '_, '_, '_, '_, '_, '_, '_, '_> {
         Ok(())
     }
 
-    // Writes the first tasks in the order in which they are begun under a priority.
-    fn show_order<R: Wait + Threads + Sync, P: Rank + Sync>(
+    // Writes the first tasks as they are begun in an order.
+    fn show_order<R: Wait + Threads + Sync>(
         &self,
         rt: &R,
         alloc: Global,
         asked: Asked<'_>,
-        priority: &P,
+        order: Order,
         out: &mut Vec<u8>,
     ) -> Result<(), NoMemory>
         requires ready { IsReady self.now }
         requires fit { IsFit asked }
     {
-        let sieves = [Sieve::new(TypesMeet)];
+        let sieves = [Sieve::new(Test::TypesMeet)];
+        let means = Means {
+            workers: 1,
+            sieves: &sieves,
+            order,
+        };
         let gate = Listing::new(alloc)?;
         let mut text = Vec::new(alloc);
-        self.answer(rt, alloc, asked, &sieves, priority, &gate, &mut text)?;
+        self.answer(rt, alloc, asked, means, &gate, &mut text)?;
         out.extend_from_slice(b"tasks")?;
         gate.write(alloc, out)?;
         out.push(b'\n')?;
@@ -132,17 +131,21 @@ impl Ready<'_, '_, '_, '_, '_, '_, '_, '_, '_> {
         &self,
         rt: &R,
         alloc: Global,
-        lattice: &Lattice,
+        asked: Asked<'_>,
         out: &mut Vec<u8>,
     ) -> Result<(), NoMemory>
         requires ready { IsReady self.now }
-        requires valid { IsValid (lattice_of lattice.now) }
+        requires fit { IsFit asked }
     {
-        let sieves = [Sieve::new(TypesMeet)];
+        let sieves = [Sieve::new(Test::TypesMeet)];
+        let means = Means {
+            workers: 2,
+            sieves: &sieves,
+            order: Order::OneRank,
+        };
         let gate = HoldingGate::new();
         let mut text = Vec::new(alloc);
-        let priority = Priority::new(OneRank);
-        self.parsed(rt, alloc, 2, lattice, &sieves, &priority, &gate, &mut text)?;
+        self.answer(rt, alloc, asked, means, &gate, &mut text)?;
         let came = gate.second_came();
         let each = gate.began_each_below(56);
         let line = format!(in alloc; "another came: {came}, each of 56 tasks once: {each}\n")?;
@@ -151,7 +154,28 @@ impl Ready<'_, '_, '_, '_, '_, '_, '_, '_, '_> {
         Ok(())
     }
 
-    // Writes what a step about a line asks for.
+    // Writes what a step asks for about a line or an MRS.
+    fn show_asked<R: Wait + Threads + Sync>(
+        &self,
+        rt: &R,
+        alloc: Global,
+        step: &str,
+        asked: Asked<'_>,
+        out: &mut Vec<u8>,
+    ) -> Result<(), NoMemory>
+        requires ready { IsReady self.now }
+        requires fit { IsFit asked }
+    {
+        match step {
+            "calls" => self.show_calls(rt, alloc, asked, out),
+            "held" => self.show_held(rt, alloc, asked, out),
+            "one-rank" => self.show_order(rt, alloc, asked, Order::OneRank, out),
+            "larger-first" => self.show_order(rt, alloc, asked, Order::LargerFirst, out),
+            _ => self.show_answers(rt, alloc, asked, out),
+        }
+    }
+
+    // Takes a step about a line.
     fn take_line<R: Wait + Threads + Sync>(
         &self,
         rt: &R,
@@ -162,34 +186,27 @@ impl Ready<'_, '_, '_, '_, '_, '_, '_, '_, '_> {
     ) -> Result<(), NoMemory>
         requires ready { IsReady self.now }
     {
-        let lattice = lattice_of_line(alloc, line)?;
-        let asked = Asked::Line(&lattice);
-        match step {
-            "parse" => self.show_answers(rt, alloc, asked, out),
-            "calls" => self.show_calls(rt, alloc, asked, out),
-            "held" => self.show_held(rt, alloc, &lattice, out),
-            "one-rank" => self.show_order(rt, alloc, asked, &Priority::new(OneRank), out),
-            _ => self.show_order(rt, alloc, asked, &Priority::new(LargerFirst), out),
-        }
+        let Ok(lattice) = lattice_of_words(alloc, line) else {
+            return Err(NoMemory);
+        };
+        self.show_asked(rt, alloc, step, Asked::Line(&lattice), out)
     }
 
-    // Writes the answers to the MRS that a text writes.
+    // Takes a step about the MRS that a text writes.
     fn take_mrs<R: Wait + Threads + Sync>(
         &self,
         rt: &R,
         alloc: Global,
+        step: &str,
         text: &str,
         out: &mut Vec<u8>,
     ) -> Result<(), NoMemory>
         requires ready { IsReady self.now }
     {
-        match read(alloc, text.as_bytes()) {
-            Ok(mrs) => self.show_answers(rt, alloc, Asked::Mrs(&mrs), out),
-            Err(_) => {
-                out.extend_from_slice(b"no MRS\n")?;
-                Ok(())
-            }
-        }
+        let Ok(mrs) = read(alloc, text.as_bytes()) else {
+            return add_line("no MRS", out);
+        };
+        self.show_asked(rt, alloc, step, Asked::Mrs(&mrs), out)
     }
 
     // Takes a step: what it is, and what stands after it. The name of a row is written.
@@ -204,15 +221,11 @@ impl Ready<'_, '_, '_, '_, '_, '_, '_, '_, '_> {
         requires ready { IsReady self.now }
     {
         match step {
-            "row" => {
-                out.extend_from_slice(rest.as_bytes())?;
-                out.push(b'\n')?;
-                Ok(())
-            }
+            "row" => add_line(rest, out),
             "parse" | "calls" | "held" | "one-rank" | "larger-first" => {
                 self.take_line(rt, alloc, step, rest, out)
             }
-            "generate" => self.take_mrs(rt, alloc, rest, out),
+            "generate" => self.take_mrs(rt, alloc, step, rest, out),
             _ => Ok(()),
         }
     }

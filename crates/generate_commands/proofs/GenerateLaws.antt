@@ -9,9 +9,9 @@ use Rattle.command_grammars.specs.Grammars.{HasGrammar}
 use Rattle.endings.specs.Meanings.{Files}
 use Rattle.mrs_paths.specs.Settled.{c_cont_said}
 use Rattle.mrs_generate.specs.Laws.{SentenceAnswersAreOne}
-use Rattle.line_commands.proofs.OneReports.{one-answers}
-use Rattle.line_commands.proofs.ParseLaws.{OneGrammar, OneFault, NotBoth, Calm}
-use Rattle.line_commands.proofs.Speeches.{OneSigns, one-speech, speech-ordered}
+use Rattle.engine.proofs.Results.{one-answers}
+use Rattle.engine.proofs.GrammarLaws.{OneGrammar, OneFault, NotBoth, Calm}
+use Rattle.engine.proofs.Speeches.{OneSigns, one-speech, speech-ordered}
 use Rattle.generate_commands.specs.Answers.{Speaker, Bounds, IsAnswer}
 use Rattle.generate_commands.specs.Generating.{c_cont_of, IsSpeakerOf, generate_meaning}
 use Rattle.generate_commands.proofs.OneAnswers.{OneMeaning, NoFault, OnePlace, one-answer}

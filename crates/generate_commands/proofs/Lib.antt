@@ -4,3 +4,5 @@ pub mod OneAnswers
 pub mod GenerateLaws
 pub mod Answered
 pub mod Exits
+pub mod Engines
+pub mod Served

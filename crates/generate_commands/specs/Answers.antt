@@ -8,7 +8,7 @@ use Rattle.mrs_reading.specs.Places.{Says, IsPlace}
 use Rattle.generate_model.specs.Contributions.{Input}
 use Rattle.generate_model.specs.Sentences.{GenAnswer}
 use Rattle.mrs_generate.specs.Answers.{IsSentenceAnswer}
-use Rattle.line_commands.specs.Answers.{Speech}
+use Rattle.engine.specs.Speeches.{Speech}
 use Rattle.item_reports.specs.Reports.{no_mrs_line}
 use Rattle.generate_commands.specs.Reports.{answer_lines, is_refused}
 

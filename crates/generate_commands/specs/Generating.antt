@@ -7,7 +7,7 @@ use Rattle.mrs_paths.specs.Settled.{c_cont_said}
 use Rattle.endings.specs.Meanings.{Meaning, Files}
 use Rattle.endings.specs.Reports.{AreAnswers}
 use Rattle.command_grammars.specs.Grammars.{HasGrammar, IsFirstFault}
-use Rattle.line_commands.specs.Parsing.{IsSpeechOf}
+use Rattle.engine.specs.Speeches.{IsSpeechOf}
 use Rattle.generate_commands.specs.Answers.{Speaker, Bounds, IsAnswer}
 
 -- where the relations of a rule itself stand, by the settings of a grammar and its features

@@ -1,53 +1,36 @@
 //! The answers to lines that write MRSs.
 
-ghost use Rattle.chart_core.specs.Kept.{InRange};
-ghost use Rattle.grammar_rules.specs.Lines.{AreShapesOf};
-ghost use Rattle.mrs_places.specs.Paths.{paths_of};
-ghost use Rattle.line_commands.specs.Inner.Props.{list_props};
-ghost use Rattle.line_commands.specs.Inner.Semantic.{ArePathsOf};
-
 use crate::NoMemory;
 use crate::reports::{report_of, report_of_no_mrs};
-use book_signs::SignBook;
 use chart_core::Limits;
 use chart_workers::BySize;
 use endings::lines::{Answers, Share};
 use endings::pieces::Report;
-use grammar_shapes::GrammarShapes;
-use lexicon::Lexicon;
-use line_commands::desks::Desks;
+use engine::Engine;
+use engine::desks::Desks;
 use mrs_generate::{Contributors, generate};
 use mrs_model::Mrs;
-use mrs_places::{MrsFeat, MrsPaths};
+use mrs_places::MrsFeat;
 use mrs_text::{MrsFault, read};
 use sieve::{Sieve, TypesMeet};
-use spelling_rules::Spelling;
 use std::alloc::Global;
 use std::sync::Wait;
 use std::thread::Threads;
 use worker_gate::Gate;
 
-/// What answers MRSs by the sentences that realize them. Each thing that is lent has a lifetime of its own, since it is lent to threads.
+/// What answers MRSs by the sentences that realize them: an engine, and what its grammar contributes up to the limit on lexical rules.
 #[derive(Drop)]
-pub(crate) struct Generator<'g, 's, 'b, 'h, 'r, 'c, 'p, 'k> {
-    pub(crate) signs: &'s SignBook<'b>,
-    pub(crate) shapes: &'h GrammarShapes<'r>,
-    pub(crate) lexicon: &'g Lexicon,
-    pub(crate) spelling: &'g Spelling,
-    pub(crate) names: &'g [String],
-    // what the grammar's lexical trees and rules contribute, where MRSs stand, and where the relations of rules
-    pub(crate) contributors: &'c Contributors,
-    pub(crate) paths: &'p MrsPaths,
-    pub(crate) c_cont: &'k [MrsFeat],
+pub(crate) struct Generator<'e, 'm, 'r, 'k> {
+    pub(crate) engine: Engine<'e, 'e, 'e, 'e, 'm, 'r, 'e, 'k, 'e, 'e>,
+    pub(crate) contributors: &'e Contributors,
+    // where the relations of rules stand
+    pub(crate) c_cont: &'e [MrsFeat],
     pub(crate) limits: Limits,
     // what lines are worked out with
     pub(crate) desks: Desks,
-    ghost shapes_are: { AreShapesOf signs.now shapes.now },
-    ghost in_range: { InRange limits },
-    ghost paths_are: { ArePathsOf signs.now (paths_of paths.now) } by { Prim.hlevel list_props },
 }
 
-impl Generator<'_, '_, '_, '_, '_, '_, '_, '_> {
+impl Generator<'_, '_, '_, '_> {
     ghost use Rattle.std.specs.Prelude.{map, IfOk};
     ghost use Rattle.std.specs.Thread.{IsSync};
     ghost use Rattle.mrs_model.specs.Valid.{IsValid};
@@ -78,12 +61,12 @@ impl Generator<'_, '_, '_, '_, '_, '_, '_, '_> {
             alloc,
             &mut desk.work,
             &mut desk.crew,
-            self.signs,
-            self.shapes,
-            self.lexicon,
-            self.spelling,
+            self.engine.signs,
+            self.engine.shapes.shapes(),
+            &self.engine.grammar.lexicon,
+            &self.engine.grammar.spelling,
             self.contributors,
-            self.paths,
+            self.engine.paths,
             self.c_cont,
             mrs,
             &self.limits,
@@ -117,7 +100,7 @@ impl Generator<'_, '_, '_, '_, '_, '_, '_, '_> {
     }
 }
 
-impl Answers for Generator<'_, '_, '_, '_, '_, '_, '_, '_> {
+impl Answers for Generator<'_, '_, '_, '_> {
     ghost use Rattle.generate_commands.specs.Answers.{IsAnswer};
     ghost use Rattle.generate_commands.specs.Inner.Generators.{IsReady, speaker_of, bounds_of};
 

@@ -2,10 +2,12 @@
 #![tactic(auto)]
 
 mod answering;
+mod contributing;
 mod generating;
 pub mod laws;
 mod reports;
 mod serving;
+mod using;
 
 pub use generating::{Generate, generate_lines};
 use std::alloc::{AllocError, AllocFailed};

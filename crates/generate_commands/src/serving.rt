@@ -82,7 +82,7 @@ pub(crate) fn serve<C: Answers, I: Source, O: Sink, Rt: Threads + Wait + Sync>(
     out: &mut O,
     gate: &dyn Gate,
 ) -> Result<bool, Stop>
-    requires { C.ready command.now }
+    requires ready { C.ready command.now }
     ensures { Served (AreAnswers (C.IsAnswer command.now) 1) (streams I.left I.faults O.written O.flushed O.faults input.old input.new out.old out.new) result }
 {
     match serve_lines(rt, alloc, command, input, out, gate) {

@@ -1,5 +1,5 @@
 -- The answer to a line, by its lines.
-use Rattle.std.proofs.Common.{◌≡◌, ℕ, List, [], ◌∷◌, Bool, true, Result, Ok, Err, IfOk, sym, subst}
+use Rattle.std.proofs.Common.{◌≡◌, ℕ, List, [], ◌∷◌, Bool, true, sym, subst}
 use Rattle.std.specs.Str.{chars, IsUtf8}
 use Rattle.item_model.specs.Items.{Answer}
 use Rattle.parse_items.specs.Answers.{IsParseAnswer}
@@ -7,15 +7,8 @@ use Rattle.morph_analysis.specs.Lattices.{LatticeTree}
 use Rattle.morph_analysis.specs.LatticeLines.{IsFirstWrong}
 use Rattle.lexical_items.specs.Seen.{lattice_seen}
 use Rattle.item_reports.specs.Reports.{no_text_line, no_lattice_line, is_refused}
-use Rattle.line_commands.specs.Answers.{Speech, Asked, IsLatticeOf, AreLinesOf, IsAnswer, no_text, no_lattice, answered}
-
-pub if-ok : {T E : Type 0} (r : Result T E) (P Q : T → Type 0) → ((t : T) → P t → Q t) → IfOk r P → IfOk r Q
-if-ok (Ok t) P Q f p = f t p
-if-ok (Err e) P Q f p = tt
-
-pub if-both : {T E : Type 0} (r : Result T E) (P Q S : T → Type 0) → ((t : T) → P t → Q t → S t) → IfOk r P → IfOk r Q → IfOk r S
-if-both (Ok t) P Q S f p q = f t p q
-if-both (Err e) P Q S f p q = tt
+use Rattle.engine.specs.Speeches.{Speech}
+use Rattle.line_commands.specs.Answers.{Asked, IsLatticeOf, AreLinesOf, IsAnswer, no_text, no_lattice, answered}
 
 module _ (s : Speech) (asked : Asked) (number : ℕ) (line : List ℕ) where
   moved : (own other : List (List ℕ)) (b c : Bool) → other ≡ own → c ≡ b → IsAnswer s asked number line own b → IsAnswer s asked number line other c

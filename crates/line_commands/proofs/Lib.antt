@@ -1,10 +1,5 @@
-pub mod SameBooks
-pub mod Speeches
-pub mod OneReports
+pub mod OneAnswer
 pub mod ParseLaws
-pub mod NamedTrees
-pub mod CheckLemmas
 pub mod Answered
-pub mod Counts
-pub mod RuleLemmas
-pub mod Semantics
+pub mod Serving
+pub mod Lines

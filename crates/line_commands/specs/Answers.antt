@@ -1,23 +1,14 @@
 -- The answer to a line that is parsed: the trees that a grammar licenses for it, or the limit that it breaks.
-use Rattle.std.specs.Prelude.{ℕ, ◌≡◌, Bool, true, false, List, ◌∷◌, [], length}
+use Rattle.std.specs.Prelude.{ℕ, ◌≡◌, Bool, true, false, List, ◌∷◌, []}
 use Rattle.std.specs.Str.{chars, IsUtf8}
-use Rattle.item_model.specs.Signs.{Signs}
-use Rattle.item_model.specs.Lexical.{Words}
 use Rattle.item_model.specs.Items.{Limits, Answer}
 use Rattle.parse_items.specs.Answers.{IsParseAnswer}
-use Rattle.morph_analysis.specs.Lattices.{LatticeTree, steps_from}
+use Rattle.morph_analysis.specs.Lattices.{LatticeTree}
 use Rattle.morph_analysis.specs.LatticeLines.{IsLineOf, IsFirstWrong}
 use Rattle.lexical_items.specs.Seen.{lattice_seen}
-use Rattle.item_reports.specs.Sentences.{words_of_line}
-use Rattle.mrs_lines.specs.Lines.{Semantics, AreAnswerLines}
+use Rattle.mrs_lines.specs.Lines.{AreAnswerLines}
 use Rattle.item_reports.specs.Reports.{no_text_line, no_lattice_line, answer_lines, is_refused}
-
--- a grammar as its lines see it: its signs, what is said of words, the names of its instances, and where MRSs stand
-pub record Speech : Type 0 where
-  pub signs : Signs
-  pub words : Words
-  pub names : List (List ℕ)
-  pub semantics : Semantics
+use Rattle.engine.specs.Speeches.{Speech, lattice_of_words}
 
 -- what is asked of a line: the limits, the most rules of a lexical tree, whether the line writes a lattice, and whether each tree is
 -- followed by its MRS
@@ -26,10 +17,6 @@ pub record Asked : Type 0 where
   pub lexical : ℕ
   pub lattice : Bool
   pub mrs : Bool
-
--- the lattice of the words of a line: one step for each word
-abbrev pub lattice_of_words : List ℕ → LatticeTree
-lattice_of_words cs = record { steps = steps_from 0 (words_of_line cs); end = length (words_of_line cs) }
 
 -- the lattice of a line: that of its words, or the one that it writes
 abbrev pub IsLatticeOf : Bool → List ℕ → LatticeTree → Type 0

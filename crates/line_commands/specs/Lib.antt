@@ -1,5 +1,4 @@
 pub mod Answers
 pub mod Parsing
 pub mod Views
-pub mod Checks
 pub mod Inner

@@ -6,8 +6,8 @@ ghost use Rattle.item_reports.specs.Reports.{no_text_line, no_lattice_line, answ
 ghost use Rattle.book_signs.specs.Trees.{signs_of};
 ghost use Rattle.mrs_places.specs.Paths.{paths_of};
 ghost use Rattle.mrs_lines.specs.Lines.{AreAnswerLines};
-ghost use Rattle.line_commands.specs.Inner.Named.{AreNamed, AreFull};
-ghost use Rattle.line_commands.specs.Inner.Semantic.{ArePathsOf};
+ghost use Rattle.engine.specs.Named.{AreNamed, AreFull};
+ghost use Rattle.engine.specs.Semantic.{ArePathsOf};
 
 use crate::NoMemory;
 use endings::pieces::Report;

@@ -1,5 +1,4 @@
 pub mod CountedLines
-pub mod Answered
 pub mod WorkloadFaults
 pub mod Reported
 pub mod OneSummary

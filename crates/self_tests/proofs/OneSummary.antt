@@ -12,10 +12,9 @@ use Rattle.parse_items.specs.Answers.{ParseAnswersAreOne}
 use Rattle.rule_model.specs.Said.{SameViews}
 use Rattle.workload.specs.Lines.{lines}
 use Rattle.endings.specs.Meanings.{Lawful}
-use Rattle.line_commands.specs.Answers.{Speech, lattice_of_words}
-use Rattle.line_commands.specs.Parsing.{HasSpeech}
-use Rattle.line_commands.proofs.ParseLaws.{OneGrammar, OneFault, NotBoth}
-use Rattle.line_commands.proofs.Speeches.{OneSigns, one-speech, speech-ordered}
+use Rattle.engine.specs.Speeches.{Speech, HasSpeech, lattice_of_words}
+use Rattle.engine.proofs.GrammarLaws.{OneGrammar, OneFault, NotBoth, speeches-same, has-order}
+use Rattle.engine.proofs.Speeches.{OneSigns}
 use Rattle.self_tests.specs.Items.{count_of, IsItem}
 use Rattle.self_tests.specs.SelfTests.{workload_shelf, workload_name, IsSummed, self_test_meaning}
 
@@ -41,9 +40,8 @@ one-report : OneGrammar → SameViews → OneSigns → ParseAnswersAreOne → (f
     → (speech : Speech) × HasSpeech (Some files) name None speech × IsSummed speech limits most number size pieces refused
     → (speech : Speech) × HasSpeech (Some files) name None speech × IsSummed speech limits most number size others may → (pieces ≡ others) × (refused ≡ may)
 one-report one views signs answers files name limits most number size pieces others refused may p q =
-    let same = one files name None p.1.0 q.1.0 p.1.1 q.1.1 in
-    let speech = one-speech views signs (Some files) name None p.1.0 q.1.0 q.1.1 same p.0 q.0 p.1.2 q.1.2 in
-    let order = speech-ordered (Some files) name None q.1.0 q.0 q.1.1 q.1.2 in
+    let speech = speeches-same one views signs files name None p.0 q.0 p.1 q.1 in
+    let order = has-order (Some files) name None q.0 q.1 in
     one-summary answers q.0 order limits most number size pieces others refused may (subst (λ s. IsSummed s limits most number size pieces refused) speech p.2) q.2
 
 pub self-test-laws : OneGrammar → OneFault → NotBoth → SameViews → OneSigns → ParseAnswersAreOne → (number size : ℕ) (limits : Limits) (most : ℕ) → Lawful (self_test_meaning number size limits most)

@@ -1,19 +1,17 @@
 -- The first fault of the file of a workload.
-use Rattle.std.proofs.Common.{◌≡◌, ℕ, List, Option, Some, None, arith, subst}
+use Rattle.std.proofs.Common.{◌≡◌, ℕ, List, Some, None, arith, subst}
 use Rattle.lkb_io.specs.Outside.{HasRisen}
 use Rattle.lkb_io.specs.Shelves.{NamedFile, file_or_empty}
-use Rattle.endings.specs.Meanings.{Shelves, FileFault, Files, has_failed}
+use Rattle.endings.specs.Meanings.{Shelves, Files}
 use Rattle.endings.specs.Endings.{NotCome}
 use Rattle.endings.specs.declared.Fault.{Fault}
 use Rattle.endings.specs.declared.Fault.TheVariants.{Usage, Files as FilesFault, Stopped}
 use Rattle.endings.specs.declared.Stop.TheVariants.{Read, TooLong, TooMany, Write, NoMemory}
-use Rattle.command_grammars.specs.Grammars.{never, IsFirstFault, IsOfShelf, LacksGrammar}
+use Rattle.command_grammars.specs.Grammars.{never, IsFirstFault, LacksGrammar}
 use Rattle.item_model.specs.Items.{Limits}
+use Rattle.engine.proofs.GrammarLaws.{Calm}
 use Rattle.self_tests.specs.SelfTests.{workload_files, workload_name, self_test_meaning}
-use Rattle.self_tests.specs.Inner.Ready.{IsWorkloadFault}
-
-abbrev pub Calm : Type 0
-Calm = (h : Shelves) (name : List ℕ) (settings : Option (List ℕ)) (fault : FileFault) → IsFirstFault name settings h.files (has_failed h) fault → IsOfShelf h fault → (HasRisen h.faults_old h.faults_new → ⊥) → IsFirstFault name settings h.files never fault
+use Rattle.self_tests.specs.Inner.Counts.{IsWorkloadFault}
 
 -- a shelf of these files that never fails
 abbrev pub still : List NamedFile → Shelves

@@ -7,7 +7,7 @@ use Rattle.item_model.specs.Lexical.{Words}
 use Rattle.item_model.specs.Items.{Limits, Answer, Trees}
 use Rattle.parse_items.specs.Answers.{IsParseAnswer}
 use Rattle.lexical_items.specs.Seen.{lattice_seen}
-use Rattle.line_commands.specs.Answers.{lattice_of_words}
+use Rattle.engine.specs.Speeches.{lattice_of_words}
 use Rattle.item_counts.specs.declared.Count.{Count}
 use Rattle.item_counts.specs.declared.Count.TheVariants.{Refused, Found}
 

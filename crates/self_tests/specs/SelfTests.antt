@@ -9,8 +9,7 @@ use Rattle.command_grammars.specs.Grammars.{HasGrammar, IsFirstFault, never}
 use Rattle.item_model.specs.Items.{Limits}
 use Rattle.item_counts.specs.declared.Count.{Count}
 use Rattle.item_counts.specs.Summaries.{summary_line, is_some_refused}
-use Rattle.line_commands.specs.Answers.{Speech}
-use Rattle.line_commands.specs.Parsing.{HasSpeech}
+use Rattle.engine.specs.Speeches.{Speech, HasSpeech}
 use Rattle.self_tests.specs.Items.{AreCounted}
 
 -- a file of a workload, as a shelf has it

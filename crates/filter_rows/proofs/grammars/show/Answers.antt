@@ -2,7 +2,7 @@ use Rattle.std.proofs.Common.{None}
 use Rattle.grammar_load.specs.Views.{grammar_of}
 use Rattle.endings.specs.Meanings.{shelves}
 use Rattle.command_grammars.specs.Grammars.{never}
-use Rattle.line_commands.proofs.Speeches.{book-whole}
+use Rattle.engine.proofs.Speeches.{book-whole}
 use Rattle.filter_rows.proofs.grammars.show.Goals as goal
 
 pub show_with-requires-clause-whole : goal.show_with-requires-clause-whole

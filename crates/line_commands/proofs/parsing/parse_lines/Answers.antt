@@ -2,7 +2,7 @@ use Rattle.std.proofs.Common.{option_map}
 use Rattle.grammar_load.specs.Views.{grammar_of}
 use Rattle.endings.specs.Meanings.{shelves}
 use Rattle.command_grammars.specs.Grammars.{never}
-use Rattle.line_commands.proofs.Speeches.{book-whole}
+use Rattle.engine.proofs.Speeches.{book-whole}
 use Rattle.line_commands.proofs.parsing.parse_lines.Goals as goal
 
 pub parse_with-requires-clause-whole : goal.parse_with-requires-clause-whole

@@ -3,8 +3,8 @@ use Rattle.derivation.specs.Text.{IsNamed}
 use Rattle.derivation.specs.Views.{derivation_of}
 use Rattle.grammar_rules.specs.Views.{item_answer}
 use Rattle.item_reports.specs.Reports.{answer_lines}
-use Rattle.line_commands.specs.Inner.Named.{AreNamed}
-use Rattle.line_commands.proofs.NamedTrees.{unmap}
+use Rattle.engine.specs.Named.{AreNamed}
+use Rattle.engine.proofs.NamedTrees.{unmap}
 use Rattle.line_commands.proofs.reports.answer_lines.Goals as goal
 
 pub lines_of_trees-requires : goal.lines_of_trees-requires

@@ -5,8 +5,8 @@ use Rattle.rule_model.specs.Structures.{Structure}
 use Rattle.item_model.specs.Trees.{Full}
 use Rattle.book_signs.specs.Trees.{signs_of}
 use Rattle.grammar_rules.specs.Views.{item_answer}
-use Rattle.line_commands.specs.Inner.Named.{AreNamed, AreFull}
-use Rattle.line_commands.proofs.NamedTrees.{unmap}
+use Rattle.engine.specs.Named.{AreNamed, AreFull}
+use Rattle.engine.proofs.NamedTrees.{unmap}
 use Rattle.line_commands.proofs.reports.lines_with_mrs.Goals as goal
 
 pub lines_of_trees-requires-clause-named : goal.lines_of_trees-requires-clause-named

@@ -3,12 +3,10 @@ use Rattle.std.proofs.lemmas.Result.{IfErr-weaker}
 use Rattle.lkb_io.specs.Shelves.{file_or_empty}
 use Rattle.endings.specs.Meanings.{Files}
 use Rattle.grammar_load.specs.Views.{grammar_of}
-use Rattle.book_signs.specs.Conditions.{IsWhole}
 use Rattle.command_grammars.specs.Grammars.{HasGrammar, LacksGrammar}
-use Rattle.line_commands.proofs.Answered.{if-ok}
-use Rattle.line_commands.proofs.Speeches.{book-whole}
+use Rattle.engine.proofs.Results.{if-ok}
 use Rattle.self_tests.specs.SelfTests.{shelved, workload_files, workload_name}
-use Rattle.self_tests.specs.Inner.Ready.{IsWorkloadFault}
+use Rattle.self_tests.specs.Inner.Counts.{IsWorkloadFault}
 use Rattle.self_tests.proofs.WorkloadFaults.{still, workload-fault}
 use Rattle.self_tests.proofs.testing.load_workload.Goals as goal
 
@@ -19,13 +17,6 @@ returns-clause-grammar c =
     (λ g. HasGrammar (Some (file_or_empty c.in-Ok.shelf)) workload_name None (grammar_of g))
     (λ g. HasGrammar workload_files workload_name None (grammar_of g))
     (λ g h. subst (λ (f : Files). HasGrammar f workload_name None (grammar_of g)) e h) c.load_grammar.ensures.grammar
-
-pub returns-clause-whole : goal.returns-clause-whole
-returns-clause-whole c =
-    if-ok c.load_grammar.result
-    (λ g. HasGrammar (Some (file_or_empty c.in-Ok.shelf)) workload_name None (grammar_of g))
-    (λ g. IsWhole g.book)
-    (λ g h. book-whole c.whole_book.ensures (Some (file_or_empty c.in-Ok.shelf)) workload_name None (grammar_of g) h) c.load_grammar.ensures.grammar
 
 pub returns-clause-fault : goal.returns-clause-fault
 returns-clause-fault c =

@@ -1,29 +1,28 @@
-use Rattle.std.proofs.Common.{◌≡◌, ◌∙◌, [], ◌∷◌, All, map, length, sym, ap, subst}
-use Rattle.std.specs.Str.{IsUtf8}
+use Rattle.std.proofs.Common.{◌≡◌, ◌∙◌, ◌∷◌, [], ap, length, map, None}
 use Rattle.packed_items.specs.Answers.{limits_in}
 use Rattle.item_counts.specs.Summaries.{summary_line, is_some_refused}
 use Rattle.grammar_load.specs.Views.{grammar_of}
-use Rattle.line_commands.proofs.Answered.{if-both}
-use Rattle.line_commands.proofs.NamedTrees.{unmap}
-use Rattle.line_commands.specs.Answers.{Speech}
-use Rattle.line_commands.specs.Parsing.{IsSpeechOf}
-use Rattle.self_tests.specs.SelfTests.{IsSummed}
-use Rattle.self_tests.specs.Inner.Ready.{AreCountedWith}
-use Rattle.self_tests.proofs.Reported.{as-many, speech-of, is-speech, summed}
+use Rattle.command_grammars.specs.Grammars.{never}
+use Rattle.engine.proofs.Results.{if-both}
+use Rattle.engine.proofs.Speeches.{book-whole}
+use Rattle.engine.specs.Speeches.{Speech, IsSpeechOf}
+use Rattle.self_tests.specs.SelfTests.{workload_files, workload_name, IsSummed}
+use Rattle.self_tests.proofs.Reported.{as-many, summed}
 use Rattle.self_tests.proofs.testing.report_with.Goals as goal
 
-pub count_with-requires-clause-text : goal.count_with-requires-clause-text
-count_with-requires-clause-text g c κs bound =
-    let test = c.args.test.now in
-    unmap IsUtf8 (λ l. l.items) c.args.lines.now (subst (All IsUtf8) (sym c.requires.lines) (c.lines_are_text.ensures test.number test.size))
+pub count_with-requires-clause-whole : goal.count_with-requires-clause-whole
+count_with-requires-clause-whole g c κs within =
+    book-whole c.whole_book.ensures workload_files workload_name None (grammar_of c.args.grammar.now) c.requires.grammar
+
+pub count_with-requires-clause-fits : goal.count_with-requires-clause-fits
+count_with-requires-clause-fits g c κs within =
+    c.loaded_paths.ensures workload_files never workload_name None (grammar_of c.args.grammar.now) c.requires.grammar
 
 pub report_on-requires : goal.report_on-requires
 report_on-requires g c =
     let test = c.args.test.now in
-    let tree = grammar_of c.args.grammar.now in
-    let counts = c.in_ok-counts.counts.items in
-    let z = subst (λ ls. AreCountedWith tree (limits_in test.limits) test.limits.lexical ls counts) c.requires.lines c.in_ok-counts.ensures in
-    ap length c.deref.ensures.value ∙ as-many tree (limits_in test.limits) test.limits.lexical test.number test.size counts z
+    ap length c.deref.ensures.value
+    ∙ as-many (grammar_of c.args.grammar.now) (limits_in test.limits) test.limits.lexical test.number test.size c.in_ok-counts.counts.items c.in_ok-counts.ensures
 
 pub returns : goal.returns
 returns g c =
@@ -32,15 +31,11 @@ returns g c =
     let limits = limits_in test.limits in
     let most = test.limits.lexical in
     let counts = c.in_ok-counts.counts.items in
-    let z = subst (λ ls. AreCountedWith tree limits most ls counts) c.requires.lines c.in_ok-counts.ensures in
     let of = c.deref.ensures.value in
     if-both c.report_on.result
     (λ r. map (λ l. l.items) r.lines.items ≡ summary_line test.number test.size c.deref.result.now ∷ [])
     (λ r. r.refused ≡ is_some_refused c.deref.result.now)
     (λ r. (speech : Speech) × IsSpeechOf tree speech × IsSummed speech limits most test.number test.size (map (λ l. l.items) r.lines.items) r.refused)
-    (λ r e f. (
-      speech-of tree limits most test.number test.size counts z,
-      is-speech tree limits most test.number test.size counts z,
-      summed tree limits most test.number test.size counts z (map (λ l. l.items) r.lines.items) r.refused (e ∙ ap (λ cs. summary_line test.number test.size cs ∷ []) of) (f ∙ ap is_some_refused of),
-    ))
+    (λ r e f. summed tree limits most test.number test.size counts c.in_ok-counts.ensures (map (λ l. l.items) r.lines.items) r.refused
+    (e ∙ ap (λ cs. summary_line test.number test.size cs ∷ []) of) (f ∙ ap is_some_refused of))
     c.report_on.ensures.line c.report_on.ensures.refused

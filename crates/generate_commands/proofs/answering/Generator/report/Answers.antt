@@ -1,7 +1,7 @@
 use Rattle.std.proofs.Common.{ℕ, ◌≡◌, ◌∷◌, [], map, inl, inr, true, subst, IfOk}
 use Rattle.mrs_model.specs.Views.{meaning_of}
 use Rattle.mrs_reading.specs.Places.{IsPlace}
-use Rattle.line_commands.proofs.Answered.{if-ok, if-both}
+use Rattle.engine.proofs.Results.{if-ok, if-both}
 use Rattle.generate_commands.specs.Answers.{IsAnswer}
 use Rattle.item_reports.specs.Reports.{no_mrs_line}
 use Rattle.generate_commands.specs.Inner.Generators.{IsReportOf, speaker_of, bounds_of}

@@ -1,0 +1,9 @@
+pub mod SameBooks
+pub mod Speeches
+pub mod NamedTrees
+pub mod CheckLemmas
+pub mod Counts
+pub mod RuleLemmas
+pub mod Semantics
+pub mod Results
+pub mod GrammarLaws

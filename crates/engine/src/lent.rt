@@ -1,0 +1,100 @@
+//! A grammar that is ready for lines.
+
+ghost use Rattle.std.specs.Prelude.{◌≡◌, length, IfOk};
+ghost use Rattle.chart_core.specs.Kept.{InRange};
+ghost use Rattle.morph_analysis.specs.Lattices.{IsValid};
+ghost use Rattle.morph_analysis.specs.LatticeViews.{lattice_of};
+ghost use Rattle.lexical_items.specs.Seen.{lattice_seen};
+ghost use Rattle.parse_items.specs.Answers.{IsParseAnswer};
+ghost use Rattle.packed_items.specs.Answers.{limits_in};
+ghost use Rattle.grammar_load.specs.Views.{grammar_of};
+ghost use Rattle.grammar_rules.specs.Views.{item_answer};
+ghost use Rattle.engine.specs.Named.{AreNamed, AreFull, IsFew};
+ghost use Rattle.engine.specs.Ready.{IsReady};
+ghost use Rattle.engine.specs.Speeches.{IsSpeechOf};
+ghost use Rattle.engine.specs.Views.{speech_of};
+
+use crate::NoMemory;
+use crate::desks::Desk;
+use book_signs::SignBook;
+use chart_core::Limits;
+use chart_workers::BySize;
+use grammar_load::Grammar;
+use grammar_rules::{ItemAnswer, LineShapes, RunMemory, parse_words};
+use morph_analysis::{Feeds, Lattice};
+use mrs_places::MrsPaths;
+use sieve::{Sieve, TypesMeet};
+use std::alloc::Global;
+use std::sync::Wait;
+use std::thread::Threads;
+use worker_gate::Gate;
+
+/// What is made of a grammar once, and lent to whoever answers lines with it. Each thing that is lent has a lifetime of its own, since it
+/// is lent to threads.
+#[derive(Clone, Copy)]
+pub struct Engine<'g, 's, 'b, 'h, 'm, 'r, 'd, 'k, 'f, 'p> {
+    pub grammar: &'g Grammar,
+    /// The structures of the instances, and their cuts.
+    pub signs: &'s SignBook<'b>,
+    /// The phrase rules over abstract structures. What they made of equal ones is remembered from one line to the next.
+    pub shapes: &'h LineShapes<'m, 'r>,
+    /// What lines share besides: full structures of lexical trees with their shapes, and what phrase rules made of full structures.
+    pub shared: &'d RunMemory<'k>,
+    /// Which lexical rule may apply to what which gives.
+    pub feeds: &'f Feeds,
+    /// Where MRSs stand.
+    pub paths: &'p MrsPaths,
+}
+
+impl Engine<'_, '_, '_, '_, '_, '_, '_, '_, '_, '_> {
+    /// What is known of the grammar of an engine that is ready: it speaks as the engine does. It does nothing.
+    pub fn laws(&self)
+        requires { IsReady self.now }
+        ensures { IsSpeechOf (grammar_of self.now.grammar.now) (speech_of self.now) }
+    {
+        self.signs.laws();
+    }
+
+    /// The answer to a lattice of words within these limits: the limit that it breaks, or the number of packed classes and all licensed
+    /// trees, each once, in the order of trees (Oepen and Carroll 2000). The workers of the desk find it. One sieve is asked, the quick
+    /// test of types at paths, and smaller edges come first; neither changes an answer, nor does anything that is remembered.
+    /// `NoMemory` may come in place of any answer.
+    pub fn parse<Rt: Threads + Wait + Sync>(
+        &self,
+        rt: &Rt,
+        alloc: Global,
+        desk: &mut Desk,
+        lattice: &Lattice,
+        limits: &Limits,
+        gate: &dyn Gate,
+    ) -> Result<ItemAnswer, NoMemory>
+        requires ready { IsReady self.now }
+        requires valid { IsValid (lattice_of lattice.now) }
+        requires limits { InRange limits.now }
+        ensures answer { IfOk result (λ a. IsParseAnswer (speech_of self.now).signs (speech_of self.now).words (lattice_seen (lattice_of lattice.now)) limits.now.lexical (limits_in limits.now) (item_answer a)) }
+        ensures named { IfOk result (λ a. AreNamed (length self.now.grammar.now.names.items) (item_answer a)) }
+        ensures full { IfOk result (λ a. AreFull (speech_of self.now).signs (item_answer a)) }
+        ensures few { IfOk result (λ a. IsFew (item_answer a)) }
+    {
+        self.signs.laws();
+        let sieves = [Sieve::new(TypesMeet)];
+        let answer = parse_words(
+            rt,
+            alloc,
+            &mut desk.work,
+            &mut desk.crew,
+            self.signs,
+            self.shapes,
+            self.shared,
+            self.feeds,
+            &self.grammar.lexicon,
+            &self.grammar.spelling,
+            lattice,
+            limits,
+            &sieves,
+            &BySize,
+            gate,
+        )?;
+        Ok(answer)
+    }
+}

@@ -1,0 +1,56 @@
+//! What the lexical trees and the rules of a grammar contribute, made once for all lines.
+
+ghost use Rattle.std.specs.Prelude.{◌≡◌, map, IfOk};
+ghost use Rattle.grammar_load.specs.Views.{grammar_of};
+ghost use Rattle.mrs_places.specs.Paths.{feature_of};
+ghost use Rattle.engine.specs.Ready.{IsReady};
+ghost use Rattle.generate_commands.specs.Generating.{c_cont_of};
+ghost use Rattle.generate_commands.specs.Inner.Contributing.{AreContributorsOf};
+
+use crate::NoMemory;
+use engine::Engine;
+use fs_unify::Scratch;
+use mrs_generate::{Contributors, contributors_of};
+use mrs_paths::c_cont_path;
+use mrs_places::MrsFeat;
+use std::alloc::Global;
+
+/// Where the relations stand that a rule contributes itself, and what lexical trees and rules contribute.
+#[derive(Drop)]
+pub(crate) struct Contributions {
+    pub(crate) c_cont: Vec<MrsFeat>,
+    pub(crate) contributors: Contributors,
+}
+
+/// What the grammar of an engine contributes, with lexical trees of up to so many rules and one more.
+pub(crate) fn contributions_of(
+    alloc: Global,
+    engine: &Engine<'_, '_, '_, '_, '_, '_, '_, '_, '_, '_>,
+    lexical: u32,
+) -> Result<Contributions, NoMemory>
+    requires ready { IsReady engine.now }
+    ensures path { IfOk result (λ c. map feature_of c.c_cont.items ≡ c_cont_of (grammar_of engine.now.grammar.now)) }
+    ensures contributors { IfOk result (λ c. AreContributorsOf engine.now (map feature_of c.c_cont.items) lexical c.contributors) }
+{
+    engine.laws();
+    let grammar = engine.grammar;
+    let Ok(c_cont) = c_cont_path(alloc, &grammar.settings, &grammar.book.feats) else {
+        return Err(NoMemory);
+    };
+    let mut work = Scratch::new(alloc);
+    let contributors = contributors_of(
+        alloc,
+        &mut work,
+        engine.signs,
+        engine.paths,
+        &c_cont,
+        &grammar.lexicon,
+        &grammar.spelling,
+        engine.feeds,
+        lexical,
+    )?;
+    Ok(Contributions {
+        c_cont,
+        contributors,
+    })
+}

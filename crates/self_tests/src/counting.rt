@@ -1,0 +1,68 @@
+//! What is counted of the answers to the lines of a workload.
+
+ghost use Rattle.std.specs.Prelude.{◌≡◌, map};
+ghost use Rattle.workload.specs.Lines.{lines as workload_lines};
+
+use crate::counter::Counter;
+use crate::{NoMemory, SelfTest};
+use endings::lines::Share;
+use engine::desks::Desks;
+use engine::{Engine, Use};
+use item_counts::Count;
+use side_by_side::each_by;
+use std::alloc::Global;
+use std::sync::Wait;
+use std::thread::Threads;
+use worker_gate::Gate;
+use workload::laws::lines_are_text;
+
+/// What is done with an engine: what comes of the lines of a workload is counted.
+#[derive(Drop)]
+pub(crate) struct Counting<'t> {
+    pub(crate) test: &'t SelfTest,
+    pub(crate) lines: &'t [Vec<u8>],
+    ghost lines_are: { map (λ l. l.items) lines.now ≡ workload_lines test.now.number test.now.size },
+}
+
+// What each of so many lines has of so many workers: one that is alone has all of them.
+fn share_of(workers: u32, lines: usize) -> Share {
+    if workers == 1 || lines <= 1 {
+        Share::Whole
+    } else {
+        Share::Single
+    }
+}
+
+impl Use<(), ()> for Counting<'_> {
+    ghost use Rattle.std.specs.Prelude.{IfOk};
+    ghost use Rattle.packed_items.specs.Answers.{limits_in};
+    ghost use Rattle.workload.specs.Lines.{lines as workload_lines};
+    ghost use Rattle.self_tests.specs.Items.{AreCounted};
+
+    type Out = Result<Vec<Count>, NoMemory>;
+
+    ghost Gives = { λ c g speech a b p q out. let t = c.test.now in
+        IfOk out (λ counts. AreCounted speech.signs speech.words (limits_in t.limits) t.limits.lexical (workload_lines t.number t.size) counts.items) };
+
+    fn run<Rt: Threads + Wait + Sync>(
+        &self,
+        rt: &Rt,
+        alloc: Global,
+        engine: &Engine<'_, '_, '_, '_, '_, '_, '_, '_, '_, '_>,
+        _a: &mut (),
+        _b: &mut (),
+        gate: &dyn Gate,
+    ) -> Result<Vec<Count>, NoMemory> {
+        lines_are_text();
+        let workers = self.test.workers;
+        let desks = Desks::new(alloc, workers);
+        let counter = Counter {
+            engine,
+            limits: &self.test.limits,
+            desks: &desks,
+            share: share_of(workers, self.lines.len()),
+        };
+        let counts = each_by(rt, alloc, &counter, self.lines, workers, gate)?;
+        Ok(counts)
+    }
+}
