@@ -3,3 +3,4 @@ pub mod OneFiles
 pub mod OneAnswers
 pub mod TransferLaws
 pub mod Exits
+pub mod SkipLemmas

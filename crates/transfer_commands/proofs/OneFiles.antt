@@ -1,6 +1,5 @@
 -- Told files say one thing where the shelf doesn't fail, and what files say hangs on the faults of the shelf only where it tells one.
 use Rattle.std.proofs.Common.{◌≡◌, ℕ, Bool, true, false, List, [], Option, Some, None, Result, Ok, Err, refl, ap, sym, ◌∙◌, subst, arith}
-use Rattle.lkb_io.specs.Shelves.{IsLong}
 use Rattle.tdl_lexer.specs.declared.Token.{Token}
 use Rattle.tdl_lexer.specs.declared.LexFault.{LexFault}
 use Rattle.tdl_lexer.specs.Readings.{Tokens}
@@ -11,9 +10,10 @@ use Rattle.grammar_settings.specs.Forms.{Name}
 use Rattle.grammar_settings.specs.Settled.{SettingsTree, settings_in}
 use Rattle.grammar_files.specs.declared.fault.Why.TheVariants.{Shelf}
 use Rattle.grammar_files.specs.Faults.{FoundFault}
-use Rattle.grammar_files.specs.Walks.{Files, IsText, IsTooLong, Says, fails_here, too_long, unlexed, unread as unread_here, says, WalkState, begun, unsaid as unsaid_here, IsSettled, by_default, fails_there, too_long_there, out_of_form as settings_out_of_form, in_form, WalkedTree, unsettled as unsettled_walk}
+use Rattle.grammar_files.specs.Walks.{Files, Says, fails_here, too_long, unlexed, unread as unread_here, says, WalkState, begun, unsaid as unsaid_here, IsSettled, by_default, fails_there, too_long_there, out_of_form as settings_out_of_form, in_form, WalkedTree, unsettled as unsettled_walk}
 use Rattle.grammar_files.proofs.OneLemmas.{OneReading, file_one, outcome_one}
-use Rattle.transfer_commands.specs.Rewriters.{never}
+use Rattle.command_files.specs.Told.{never}
+use Rattle.command_files.proofs.TextLemmas.{same_text, long_text}
 use Rattle.transfer_commands.specs.Faults.{IsUnread, unsettled, unsaid}
 
 false-true : false ≡ true → ⊥
@@ -34,12 +34,6 @@ tree-same a b t u e p q = let k : ◌≡◌ {A = Result SettingsTree ℕ} (Ok t)
 tree-or-line : (a b : List ℕ) (t : SettingsTree) (n : ℕ) → a ≡ b → settings_in a ≡ Ok t → settings_in b ≡ Err n → ⊥
 tree-or-line a b t n e p q = let k : ◌≡◌ {A = Result SettingsTree ℕ} (Ok t) (Err n) = sym p ∙ ap settings_in e ∙ q in cc
 
-same-text : (f : Name → Option (List ℕ)) (name : Name) (a b : List ℕ) → IsText (Some f) name a → IsText (Some f) name b → a ≡ b
-same-text f name a b p q = let e : Some a ≡ Some b = sym p.0 ∙ q.0 in cc
-
-long-text : (f : Name → Option (List ℕ)) (name : Name) (a : List ℕ) → IsTooLong (Some f) name → IsText (Some f) name a → ⊥
-long-text f name a l t = let long : IsLong (Some a) = subst IsLong t.0 l in omega (arith, long, t.1)
-
 module _ (one : OneReading) (f : Name → Option (List ℕ)) where
   -- texts that are one have the same tokens and end
   toks-same : (a b : List ℕ) (ts us : List Token) (d e : Option LexFault) → a ≡ b → Tokens a ts d → Tokens b us e → (toks_of b us ≡ toks_of a ts) × (d ≡ e)
@@ -51,15 +45,15 @@ module _ (one : OneReading) (f : Name → Option (List ℕ)) where
 
   pub said-one : (name : Name) (ss us : List StatementTree) → Says (Some f) never name (Ok ss) → Says (Some f) never name (Ok us) → ss ≡ us
   said-one name ss us (says a ts _ p t x) (says b vs _ q u y) =
-      let same = toks-same a b ts vs None None (same-text f name a b p q) t u in
+      let same = toks-same a b ts vs None None (same_text f name a b p q) t u in
       one.statements (toks_of a ts) ss us x (subst (λ z. IsReading z us) same.0 y)
 
   pub said-or-not : (name : Name) (ss : List StatementTree) (g : FoundFault) → Says (Some f) never name (Ok ss) → Says (Some f) never name (Err g) → ⊥
   said-or-not name ss g (says a ts _ p t x) (fails_here e) = false-true e
-  said-or-not name ss g (says a ts _ p t x) (too_long l) = long-text f name a l p
-  said-or-not name ss g (says a ts _ p t x) (unlexed b us e q u) = none-some e (toks-same a b ts us None (Some e) (same-text f name a b p q) t u).1
+  said-or-not name ss g (says a ts _ p t x) (too_long l) = long_text f name a l p
+  said-or-not name ss g (says a ts _ p t x) (unlexed b us e q u) = none-some e (toks-same a b ts us None (Some e) (same_text f name a b p q) t u).1
   said-or-not name ss g (says a ts _ p t x) (unread_here b us e q u y) =
-      let same = toks-same a b ts us None None (same-text f name a b p q) t u in
+      let same = toks-same a b ts us None None (same_text f name a b p q) t u in
       one.not_both (toks_of a ts) ss e x (subst (λ z. FirstFault z e) same.0 y)
 
   pub unsaid-one : (name : Name) (g h : FoundFault) → Says (Some f) never name (Err g) → Says (Some f) never name (Err h) → g ≡ h
@@ -67,13 +61,13 @@ module _ (one : OneReading) (f : Name → Option (List ℕ)) where
 
   pub settled-one : (name : Option Name) (t u : SettingsTree) → IsSettled (Some f) never name (Ok t) → IsSettled (Some f) never name (Ok u) → t ≡ u
   settled-one _ _ _ by_default by_default = refl
-  settled-one _ t u (in_form n a _ p e) (in_form _ b _ q k) = tree-same a b t u (same-text f n a b p q) e k
+  settled-one _ t u (in_form n a _ p e) (in_form _ b _ q k) = tree-same a b t u (same_text f n a b p q) e k
 
   pub settled-or-not : (name : Option Name) (t : SettingsTree) (g : FoundFault) → IsSettled (Some f) never name (Ok t) → IsSettled (Some f) never name (Err g) → ⊥
   settled-or-not _ _ g by_default x = elim x [ ]
   settled-or-not _ t g (in_form n a _ p e) (fails_there _ k) = false-true k
-  settled-or-not _ t g (in_form n a _ p e) (too_long_there _ l) = long-text f n a l p
-  settled-or-not _ t g (in_form n a _ p e) (settings_out_of_form _ b line q k) = tree-or-line a b t line (same-text f n a b p q) e k
+  settled-or-not _ t g (in_form n a _ p e) (too_long_there _ l) = long_text f n a l p
+  settled-or-not _ t g (in_form n a _ p e) (settings_out_of_form _ b line q k) = tree-or-line a b t line (same_text f n a b p q) e k
 
   pub unsettled-one : (name : Option Name) (g h : FoundFault) → IsSettled (Some f) never name (Err g) → IsSettled (Some f) never name (Err h) → g ≡ h
   unsettled-one name g h p q = walk-err-same g h (outcome_one one f [] name (Err g) (Err h) (unsettled_walk g p) (unsettled_walk h q))

@@ -5,14 +5,14 @@ use Rattle.endings.specs.Reports.{AreAnswers}
 use Rattle.tdl_reader.specs.Trees.{StatementTree}
 use Rattle.grammar_settings.specs.Forms.{Name}
 use Rattle.grammar_settings.specs.Settled.{SettingsTree}
-use Rattle.grammar_files.specs.declared.fault.Why.{Why}
-use Rattle.grammar_files.specs.declared.fault.Why.TheVariants.{Shelf}
 use Rattle.grammar_files.specs.Faults.{FoundFault}
 use Rattle.grammar_files.proofs.OneLemmas.{OneReading}
 use Rattle.transfer_model.specs.Rules.{Rule, IsRule}
 use Rattle.transfer_rules.specs.Forms.{AreRules, IsFirstOutside}
-use Rattle.transfer_commands.specs.Rewriters.{Rewriter, HasRewriter, never, skipped_by}
-use Rattle.transfer_commands.specs.Faults.{failed_file, told_of, form_text, IsFirstFault, unread, out_of_form}
+use Rattle.command_files.specs.Told.{never, told_of}
+use Rattle.command_files.proofs.ToldLemmas.{shelf_told}
+use Rattle.transfer_commands.specs.Rewriters.{Rewriter, HasRewriter, skipped_by}
+use Rattle.transfer_commands.specs.Faults.{form_text, IsFirstFault, unread, out_of_form}
 use Rattle.transfer_commands.specs.Answers.{IsAnswer}
 use Rattle.transfer_commands.specs.Transferring.{transfer_meaning}
 use Rattle.transfer_commands.proofs.OneFiles.{said-one, settled-one, unread-one, unread-or-read, said-moves, settled-moves, unread-moves}
@@ -24,9 +24,6 @@ pub record RuleLaws : Type 0 where
   pub rules_or_fault : (ss : List StatementTree) (rs : List Rule) (at : ℕ) → AreRules ss rs → IsFirstOutside ss at → ⊥
   pub one_outside : (ss : List StatementTree) (a b : ℕ) → IsFirstOutside ss a → IsFirstOutside ss b → a ≡ b
   pub all_rules : (ss : List StatementTree) (rs : List Rule) → AreRules ss rs → All IsRule rs
-
-shelf-told : (why : Why) (file : List ℕ) → why ≡ Shelf → failed_file why file ≡ Some file
-shelf-told why file e = ap (λ w. failed_file w file) e
 
 module _ (reading : OneReading) (rules : RuleLaws) (name : Name) (settings : Option Name) where
   -- told files have one rewriter
@@ -56,7 +53,7 @@ module _ (reading : OneReading) (rules : RuleLaws) (name : Name) (settings : Opt
 
   -- where the shelf counts no fault, the fault is the first
   calm : (files : Files) (fails : Name → Bool) (g : FileFault) → IsFirstFault name settings files fails g → ((file : Name) → g.failed ≡ Some file → ⊥) → IsFirstFault name settings files never g
-  calm files fails _ (unread g p) none = unread g (unread-moves files fails never name settings g (λ e. none g.file (shelf-told g.why g.file e)) p)
+  calm files fails _ (unread g p) none = unread g (unread-moves files fails never name settings g (λ e. none g.file (shelf_told g.why g.file e)) p)
   calm files fails _ (out_of_form t ss at i s o) none = out_of_form t ss at (settled-moves files fails never settings t i) (said-moves files fails never name ss s) o
 
 pub transfer-laws : OneReading → RuleLaws → TextLaws → ResultLaws → (name : List ℕ) (settings : Option (List ℕ)) → Lawful (transfer_meaning name settings)

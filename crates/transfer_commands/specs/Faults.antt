@@ -1,24 +1,14 @@
 -- The first fault of the files of `transfer`, and the line that tells it.
-use Rattle.std.specs.Prelude.{ℕ, Bool, List, Option, None, Some, Ok, Err, codes}
+use Rattle.std.specs.Prelude.{ℕ, Bool, List, Option, None, Ok, Err, codes}
 use Rattle.tdl_reader.specs.Trees.{StatementTree}
 use Rattle.grammar_settings.specs.Forms.{Name}
 use Rattle.grammar_settings.specs.Settled.{SettingsTree}
-use Rattle.grammar_files.specs.declared.fault.Why.{Why}
-use Rattle.grammar_files.specs.declared.fault.Why.TheVariants.{Shelf}
 use Rattle.grammar_files.specs.Faults.{FoundFault}
 use Rattle.grammar_files.specs.Walks.{Files, Says, IsSettled}
-use Rattle.fault_texts.specs.Texts.{found_text, word_text}
+use Rattle.fault_texts.specs.Texts.{word_text}
 use Rattle.endings.specs.Meanings.{FileFault}
+use Rattle.command_files.specs.Told.{told_of}
 use Rattle.transfer_rules.specs.Forms.{IsFirstOutside}
-
--- the file at which the shelf failed, where that is the cause
-abbrev pub failed_file : Why → Name → Option Name
-failed_file Shelf file = Some file
-failed_file why file = None
-
--- the line that tells a fault of files
-abbrev pub told_of : FoundFault → FileFault
-told_of f = record { text = found_text f; failed = failed_file f.why f.file }
 
 -- `lkb: FILE:AT: Form`
 abbrev pub form_text : Name → ℕ → List ℕ

@@ -4,6 +4,7 @@ use Rattle.tdl_reader.specs.Trees.{StatementTree}
 use Rattle.grammar_settings.specs.Forms.{Name, is_among}
 use Rattle.grammar_settings.specs.Settled.{SettingsTree}
 use Rattle.grammar_files.specs.Walks.{Files, Says, IsSettled}
+use Rattle.command_files.specs.Told.{never}
 use Rattle.transfer_model.specs.Rules.{Rule}
 use Rattle.transfer_model.specs.Sites.{Site}
 use Rattle.transfer_rules.specs.Forms.{AreRules}
@@ -23,10 +24,6 @@ is_allowed w number = not (slice_index_or w.skipped number false)
 
 abbrev pub allowed : Rewriter → ℕ → Site → Bool
 allowed w number site = is_allowed w number
-
--- where the shelf fails at no name
-abbrev pub never : Name → Bool
-never name = false
 
 -- The rules that the file of this name says; those are skipped that `transfer-skip` names in the settings of the file of that name.
 pub record HasRewriter (files : Files) (name : Name) (settings : Option Name) (w : Rewriter) : Type 0 where

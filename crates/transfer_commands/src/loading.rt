@@ -13,13 +13,14 @@ ghost use Rattle.transfer_commands.specs.Rewriters.{HasRewriter, skipped_by};
 ghost use Rattle.transfer_commands.specs.Faults.{IsUnread, form_text};
 ghost use Rattle.transfer_commands.specs.Transferring.{transfer_meaning};
 ghost use Rattle.transfer_commands.specs.Views.{rewriter_of};
-ghost use Rattle.transfer_commands.specs.Inner.{IsTold, IsToldAs, IsOutOfForm};
+ghost use Rattle.transfer_commands.specs.Inner.{IsTold, IsOutOfForm};
 
 use crate::answering::Transferrer;
 use crate::serving::Transfer;
 use crate::skipping::{Unskipped, skipped_rules};
+use command_files::fault_of;
 use endings::{Fault, Stop};
-use fault_texts::{found_line, word_line};
+use fault_texts::word_line;
 use grammar_files::{LoadFault, Settings, read_settings, said};
 use lkb_io::Shelf;
 use sieve::Guard;
@@ -32,19 +33,6 @@ use transfer_rules::{RulesFault, rules_of};
 struct Said {
     settings: Settings,
     statements: Vec<Statement>,
-}
-
-// What a fault of the files is to the run.
-fn fault_of(alloc: Global, fault: &LoadFault) -> Fault
-    ensures { IsToldAs fault.now result }
-{
-    match fault {
-        LoadFault::NoMemory => Fault::Stopped(Stop::NoMemory),
-        LoadFault::Found { file, at, why } => match found_line(alloc, file.as_str(), *at, why) {
-            Ok(text) => Fault::Files(text),
-            Err(_) => Fault::Stopped(Stop::NoMemory),
-        },
-    }
 }
 
 // What a statement outside the form of rules is to the run: it stands here in the file of this name.

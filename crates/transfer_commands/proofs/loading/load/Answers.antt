@@ -4,7 +4,8 @@ use Rattle.grammar_settings.specs.SettingsViews.{settings_of}
 use Rattle.endings.specs.Meanings.{Shelves, shelves, has_failed}
 use Rattle.endings.specs.Endings.{NotCome}
 use Rattle.transfer_rules.specs.Forms.{AreRules}
-use Rattle.transfer_commands.specs.Rewriters.{HasRewriter, never, skipped_by}
+use Rattle.command_files.specs.Told.{never}
+use Rattle.transfer_commands.specs.Rewriters.{HasRewriter, skipped_by}
 use Rattle.transfer_commands.specs.Transferring.{transfer_meaning}
 use Rattle.transfer_commands.specs.Views.{rewriter_of}
 use Rattle.transfer_commands.specs.Inner.{IsOutOfForm}
