@@ -1,6 +1,7 @@
 //! What is written of runs.
 use crate::devices::Devices;
 use crate::row::{Call, Row, counted};
+use held_gate::HoldingGate;
 use std::alloc::{AllocError, AllocGlobal, Global};
 use std::sync::Wait;
 use std::thread::Threads;
@@ -85,6 +86,27 @@ fn show_each<R: AllocGlobal + Threads + Wait + Sync>(
     Ok(())
 }
 
+// Runs a row while the worker that comes first is held at its first task until another one comes; writes whether it came, whether
+// exactly the tasks below a number were begun, each once, and the status and the bytes.
+fn show_held<R: AllocGlobal + Threads + Wait + Sync>(
+    rt: &R,
+    row: &Row,
+    devices: &mut Devices,
+    end: u64,
+    out: &mut Vec<u8>,
+) -> Result<(), AllocError> {
+    let gate = HoldingGate::new();
+    let code = devices.run(rt, &row.words, &gate).code();
+    head(rt.alloc(), row, code, out)?;
+    let came = gate.second_came();
+    let below = if end < 64 { end as u32 } else { 64 };
+    let each = gate.began_each_below(below);
+    let line = format!(in rt.alloc(); " another came: {came}, each of {end} once: {each}\n")?;
+    put(out, line.as_str())?;
+    out.extend_from_slice(devices.out())?;
+    Ok(())
+}
+
 /// Runs the row where a step says so, and writes what came of it.
 pub fn show<R: AllocGlobal + Threads + Wait + Sync>(
     rt: &R,
@@ -95,10 +117,11 @@ pub fn show<R: AllocGlobal + Threads + Wait + Sync>(
 ) -> Result<(), AllocError> {
     match step {
         "each" => show_each(rt, row, counted(rest).0, out),
-        "run" | "left" => {
+        "run" | "left" | "held" => {
             let mut devices = row.devices(rt.alloc())?;
             match step {
                 "run" => show_bytes(rt, row, &mut devices, out),
+                "held" => show_held(rt, row, &mut devices, counted(rest).0, out),
                 _ => show_left(rt, row, &mut devices, out),
             }
         }

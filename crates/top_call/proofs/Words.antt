@@ -1,6 +1,6 @@
 -- What follows from words that are of a form, or of none.
 use Rattle.std.proofs.Common.{◌≡◌, ◌∙◌, ◌⊎◌, inl, inr, sym, ap, refl, List, ℕ, Bool, Err, Result}
-use Rattle.command_line.specs.Words.{Form}
+use Rattle.command_line.specs.Words.{Form, IsForm}
 use Rattle.command_line.specs.declared.reading.WordsFault.{WordsFault}
 use Rattle.command_line.specs.declared.reading.WordsFault.TheVariants.{Usage as UsageWords, NoMemory as NoMemoryWords}
 use Rattle.endings.specs.declared.Status.{Status}
@@ -9,7 +9,6 @@ use Rattle.endings.specs.declared.Fault.{Fault}
 use Rattle.endings.specs.declared.Fault.TheVariants.{Usage as UsageFault, Stopped}
 use Rattle.endings.specs.declared.Stop.TheVariants.{NoMemory as NoMemoryStop}
 use Rattle.endings.specs.Endings.{status_of}
-use Rattle.top_call.specs.Commands.{HasForm}
 use Rattle.top_call.specs.Runs.{IsFormless}
 
 -- a run that ends with this fault
@@ -32,7 +31,7 @@ outside-status words end status e (inr m) = inr (e ∙ ap status_of m)
 abbrev pub IsOutside : List (List ℕ) → Status → Type 0
 IsOutside words status = ((status ≡ Usage) × IsFormless words) ⊎ (status ≡ NoMemory)
 
-pub memory-at : (words : List (List ℕ)) (s : Status) → IsOutside words s → (f : Form) → HasForm words f → s ≡ NoMemory
+pub memory-at : (words : List (List ℕ)) (s : Status) → IsOutside words s → (f : Form) → IsForm words f → s ≡ NoMemory
 memory-at words s (inl u) f h = absurd (u.1 f h)
 memory-at words s (inr m) f h = m
 

@@ -14,11 +14,13 @@ help_lines =
     ∷ codes "  check GRAMMAR          one line that counts types, features, entries, rules and roots"
     ∷ codes "  expand GRAMMAR NAME    the structure of a type, entry, rule or root: a line for each path"
     ∷ codes "  self-test NUMBER SIZE  the workload of NUMBER with SIZE lines (1 to 1000), parsed and summed up in a line"
+    ∷ codes "  batch GRAMMAR PROFILE  each item of a profile compared with what the grammar gives, and a summary"
     ∷ codes "  scope                  for each MRS of the input the number of its scoped readings, and all of them"
     ∷ codes "  transfer RULES         for each MRS of the input what the rules of RULES make of it, and in how many steps"
     ∷ codes "  --help, --version      this text; the version"
     ∷ []
-    ∷ codes "GRAMMAR is the top file of a grammar; .tdl is added to a name without an ending. RULES is a file, as it is named."
+    ∷ codes "GRAMMAR is the top file of a grammar; .tdl is added to a name without an ending. PROFILE and RULES are files, as they are"
+    ∷ codes "named."
     ∷ []
     ∷ codes "Options, in any order after the command, each with its default:"
     ∷ codes "  --settings NAME  a file of settings (each setting's default)"
@@ -34,8 +36,8 @@ help_lines =
     ∷ codes "Every command takes every option and heeds those that concern it."
     ∷ []
     ∷ codes "Status: 0 all was done; 2 the words are outside the form; 3 the command's files have a fault; 4 a line was"
-    ∷ codes "refused or isn't in its form, or NAME stands for nothing; 5 the input failed or a line is too long; 6 the"
-    ∷ codes "output failed; 7 memory was wanting"
+    ∷ codes "refused or isn't in its form, an item of a profile differs or is bad, or NAME stands for nothing; 5 the input"
+    ∷ codes "failed or a line is too long; 6 the output failed; 7 memory was wanting"
     ∷ []
 
 -- the lines, each with a line feed after it

@@ -1,9 +1,9 @@
-//! What the words of the command line ask for, as a command. A command is one arm of `do_task`, and one of `is_built`.
-ghost use Rattle.std.specs.Prelude.{◌≡◌, IfOk, IfErr, map, string_bytes, true, false};
+//! What the words of the command line ask for, as a command. A command is one arm of `do_task`.
+ghost use Rattle.std.specs.Prelude.{◌≡◌, IfOk, IfErr, map, string_bytes, false};
 ghost use Rattle.chart_core.specs.Kept.{InRange};
 ghost use Rattle.chart_workers.specs.Crews.{IsCrewSize};
 ghost use Rattle.command_line.specs.Commands.{form, options_in, task as task_in};
-ghost use Rattle.command_line.specs.Words.{AreWithin, IsWithin, in_range};
+ghost use Rattle.command_line.specs.Words.{IsForm, AreWithin, IsWithin, in_range};
 ghost use Rattle.command_line.specs.declared.reading.WordsFault.{WordsFault};
 ghost use Rattle.command_line.specs.declared.tasks.Command.{Command};
 ghost use Rattle.endings.specs.Meanings.{shelves};
@@ -13,7 +13,7 @@ ghost use Rattle.endings.specs.declared.Fault.{Fault};
 ghost use Rattle.endings.specs.declared.Stop.{Stop};
 ghost use Rattle.generate_commands.specs.Views.{bounds_with};
 ghost use Rattle.line_commands.specs.Views.{asked_with};
-ghost use Rattle.top_call.specs.Commands.{HasForm, IsInRange, IsSized, meaning_of, asked_of, bounds_of, is_built, version_line};
+ghost use Rattle.top_call.specs.Commands.{IsInRange, IsSized, meaning_of, asked_of, bounds_of, version_line};
 ghost use Rattle.top_call.specs.Runs.{IsFormless};
 
 use crate::help::help_text;
@@ -28,6 +28,7 @@ use generate_commands::{Generate, generate_lines};
 use grammar_commands::{Check, Expand, Types};
 use line_commands::{Parse, parse_lines};
 use lkb_io::{Shelf, Sink, Source};
+use profile_batch::Batch;
 use scope_commands::{Scoper, scope_lines};
 use self_tests::SelfTest;
 use std::alloc::Global;
@@ -196,6 +197,16 @@ fn do_task<S: Shelf, I: Source, O: Sink, Rt: Threads + Wait + Sync>(
             };
             scope_lines(rt, alloc, &scoper, input, out, gate)
         }
+        Task::Batch(grammar, profile) => {
+            let command = Batch {
+                grammar,
+                settings,
+                profile,
+                limits: limits_of(&options),
+                workers: workers_of(&options),
+            };
+            write_whole(rt, alloc, &command, shelf, input, out, gate)
+        }
         Task::Transfer(rules) => {
             let command = Transfer {
                 rules,
@@ -204,45 +215,19 @@ fn do_task<S: Shelf, I: Source, O: Sink, Rt: Threads + Wait + Sync>(
             };
             transfer_lines(rt, alloc, &command, shelf, input, out, gate)
         }
-        // No words ask for these: they are outside the form until they are built.
-        _ => Err(Fault::Stopped(Stop::NoMemory)),
     }
 }
 
-// Whether the program does this yet.
-fn is_built(command: &Command) -> bool
-    ensures { result ≡ is_built (form command.now) }
-{
-    match command {
-        Command::Help | Command::Version => true,
-        Command::Run(Task::Parse(_), _)
-        | Command::Run(Task::Generate(_), _)
-        | Command::Run(Task::Types(_), _)
-        | Command::Run(Task::Expand(_, _), _)
-        | Command::Run(Task::Check(_), _)
-        | Command::Run(Task::SelfTest(_, _), _)
-        | Command::Run(Task::Scope, _)
-        | Command::Run(Task::Transfer(_), _) => true,
-        Command::Run(_, _) => false,
-    }
-}
-
-/// What these words ask for. They are outside the form where they ask for what isn't built.
+/// What these words ask for.
 pub fn asked_by(alloc: Global, words: &[String]) -> Result<Asked<'_>, WordsFault>
-    ensures ok { IfOk result (λ a. HasForm (map (λ w. string_bytes w) words.now) (form a.command)) }
+    ensures ok { IfOk result (λ a. IsForm (map (λ w. string_bytes w) words.now) (form a.command)) }
     ensures usage { IfErr result (λ e. e ≡ WordsFault.Usage → IsFormless (map (λ w. string_bytes w) words.now)) }
 {
     one_form();
     numbers_are_within();
     match command_of(alloc, words) {
         Err(fault) => Err(fault),
-        Ok(command) => {
-            if is_built(&command) {
-                Ok(Asked { command })
-            } else {
-                Err(WordsFault::Usage)
-            }
-        }
+        Ok(command) => Ok(Asked { command }),
     }
 }
 

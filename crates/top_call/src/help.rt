@@ -13,11 +13,13 @@ const HELP: &[u8] = b"\
     \x20 check GRAMMAR          one line that counts types, features, entries, rules and roots\n\
     \x20 expand GRAMMAR NAME    the structure of a type, entry, rule or root: a line for each path\n\
     \x20 self-test NUMBER SIZE  the workload of NUMBER with SIZE lines (1 to 1000), parsed and summed up in a line\n\
+    \x20 batch GRAMMAR PROFILE  each item of a profile compared with what the grammar gives, and a summary\n\
     \x20 scope                  for each MRS of the input the number of its scoped readings, and all of them\n\
     \x20 transfer RULES         for each MRS of the input what the rules of RULES make of it, and in how many steps\n\
     \x20 --help, --version      this text; the version\n\
     \n\
-    GRAMMAR is the top file of a grammar; .tdl is added to a name without an ending. RULES is a file, as it is named.\n\
+    GRAMMAR is the top file of a grammar; .tdl is added to a name without an ending. PROFILE and RULES are files, as they are\n\
+    named.\n\
     \n\
     Options, in any order after the command, each with its default:\n\
     \x20 --settings NAME  a file of settings (each setting's default)\n\
@@ -33,8 +35,8 @@ const HELP: &[u8] = b"\
     Every command takes every option and heeds those that concern it.\n\
     \n\
     Status: 0 all was done; 2 the words are outside the form; 3 the command's files have a fault; 4 a line was\n\
-    refused or isn't in its form, or NAME stands for nothing; 5 the input failed or a line is too long; 6 the\n\
-    output failed; 7 memory was wanting\n\
+    refused or isn't in its form, an item of a profile differs or is bad, or NAME stands for nothing; 5 the input\n\
+    failed or a line is too long; 6 the output failed; 7 memory was wanting\n\
 ";
 
 /// What each command and option does, and the default of each option.

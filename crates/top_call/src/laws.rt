@@ -6,6 +6,7 @@ ghost use Rattle.top_call.specs.Commands.{meaning_of};
 use generate_commands::laws::generate_lawful;
 use grammar_commands::laws::{check_lawful, expand_lawful, types_lawful};
 use line_commands::laws::parse_lawful;
+use profile_batch::laws::batch_lawful;
 use scope_commands::laws::scope_lawful;
 use self_tests::laws::self_test_lawful;
 use transfer_commands::laws::transfer_lawful;
@@ -21,5 +22,6 @@ pub fn built_lawful()
     check_lawful();
     self_test_lawful();
     scope_lawful();
+    batch_lawful();
     transfer_lawful();
 }

@@ -5,13 +5,13 @@ ghost use Rattle.std.specs.Prelude.{◌≡◌, ◌++◌, ◌⊎◌, ℕ, List, B
 ghost use Rattle.std.specs.List.{concat};
 ghost use Rattle.lkb_io.specs.Outside.{HasRisen};
 ghost use Rattle.lkb_io.specs.Lines.{lines_of};
-ghost use Rattle.command_line.specs.Words.{Form};
+ghost use Rattle.command_line.specs.Words.{Form, IsForm};
 ghost use Rattle.endings.specs.Meanings.{FileFault, Fails, shelves};
 ghost use Rattle.endings.specs.Reports.{streams};
 ghost use Rattle.endings.specs.Readings.{AreReadable};
 ghost use Rattle.endings.specs.Endings.{RanInPart, StopsReading, IsFaultless, IsReadThrough, IsWhole, Tells, fault_text, status_of, is_items};
 ghost use Rattle.endings.specs.declared.Fault.{Fault};
-ghost use Rattle.top_call.specs.Commands.{HasForm, meaning_of};
+ghost use Rattle.top_call.specs.Commands.{meaning_of};
 ghost use Rattle.top_call.specs.Runs.{IsFormless, RunEnded};
 
 pub mod asked;
@@ -51,7 +51,7 @@ pub fn run<S: Shelf, I: Source, O: Sink, X: Sink, Rt: AllocGlobal + Threads + Wa
     // read to its end where the command reads it. It is `Items` where something is refused, and `Done` where nothing is.
     ensures report { (bytes before after : List ℕ) → (result ≡ Status.Done) ⊎ (result ≡ Status.Items)
         → I.left input.old ≡ Some bytes → O.written out.old ≡ Some before → O.written out.new ≡ Some after
-        → (form : Form) × (pieces : List (List ℕ)) × HasForm (map (λ w. string_bytes w) words.now) form
+        → (form : Form) × (pieces : List (List ℕ)) × IsForm (map (λ w. string_bytes w) words.now) form
         × (meaning_of form).report (S.files shelf.old) (lines_of bytes) pieces (is_items result)
         × (after ≡ before ++ concat pieces) × IsReadThrough (meaning_of form) (I.left input.new) }
     ensures flushed { (result ≡ Status.Done) ⊎ (result ≡ Status.Items) → O.flushed out.new ≡ O.written out.new }
@@ -63,21 +63,21 @@ pub fn run<S: Shelf, I: Source, O: Sink, X: Sink, Rt: AllocGlobal + Threads + Wa
         × (shelf.new ≡ shelf.old) × (input.new ≡ input.old) × (out.new ≡ out.old) }
     ensures no_form { IsFormless (map (λ w. string_bytes w) words.now) → ((result ≡ Status.Usage) ⊎ (result ≡ Status.NoMemory))
         × (shelf.new ≡ shelf.old) × (input.new ≡ input.old) × (out.new ≡ out.old) }
-    ensures unopened { (form : Form) → HasForm (map (λ w. string_bytes w) words.now) form → (meaning_of form).opens ≡ false → shelf.new ≡ shelf.old }
+    ensures unopened { (form : Form) → IsForm (map (λ w. string_bytes w) words.now) form → (meaning_of form).opens ≡ false → shelf.new ≡ shelf.old }
 
     // `Grammar` only where the command's files have the fault that is told, and always where they have no report.
     // Nothing is read of the input, and nothing written to `out`.
     ensures grammar { let h = shelves S.files S.faults S.asked shelf.old shelf.new in
         result ≡ Status.Grammar → (form : Form) × (fault : FileFault)
-        × HasForm (map (λ w. string_bytes w) words.now) form × Fails (meaning_of form) h fault
+        × IsForm (map (λ w. string_bytes w) words.now) form × Fails (meaning_of form) h fault
         × Tells (X.written err.old) (X.written err.new) (X.faults err.old) (X.faults err.new) fault.text
         × (input.new ≡ input.old) × (out.new ≡ out.old) }
-    ensures no_grammar { (form : Form) → HasForm (map (λ w. string_bytes w) words.now) form
+    ensures no_grammar { (form : Form) → IsForm (map (λ w. string_bytes w) words.now) form
         → ((meaning_of form).loadable (S.files shelf.old) → ⊥) → (result ≡ Status.Grammar) ⊎ (result ≡ Status.NoMemory) }
 
     // Where the shelf tells its files and counts no fault, it is their first fault that is told.
     ensures first_fault { (form : Form) (files : List ℕ → Option (List ℕ)) (fault : FileFault)
-        → HasForm (map (λ w. string_bytes w) words.now) form → S.files shelf.old ≡ Some files
+        → IsForm (map (λ w. string_bytes w) words.now) form → S.files shelf.old ≡ Some files
         → (meaning_of form).first (Some files) (λ name. false) fault → (HasRisen (S.faults shelf.old) (S.faults shelf.new) → ⊥)
         → (result ≡ Status.NoMemory) ⊎ ((result ≡ Status.Grammar)
         × Tells (X.written err.old) (X.written err.new) (X.faults err.old) (X.faults err.new) fault.text) }
@@ -86,10 +86,10 @@ pub fn run<S: Shelf, I: Source, O: Sink, X: Sink, Rt: AllocGlobal + Threads + Wa
     // that the command reads can't be read. Exactly the report over the lines before was written.
     ensures read_fault { let h = shelves S.files S.faults S.asked shelf.old shelf.new in
         let o = streams I.left I.faults O.written O.flushed O.faults input.old input.new out.old out.new in
-        result ≡ Status.ReadFault → (form : Form) × HasForm (map (λ w. string_bytes w) words.now) form × StopsReading (meaning_of form) h o }
+        result ≡ Status.ReadFault → (form : Form) × IsForm (map (λ w. string_bytes w) words.now) form × StopsReading (meaning_of form) h o }
     ensures unreadable { let h = shelves S.files S.faults S.asked shelf.old shelf.new in
         let o = streams I.left I.faults O.written O.flushed O.faults input.old input.new out.old out.new in
-        (form : Form) (files : List ℕ → Option (List ℕ)) (bytes : List ℕ) → HasForm (map (λ w. string_bytes w) words.now) form
+        (form : Form) (files : List ℕ → Option (List ℕ)) (bytes : List ℕ) → IsForm (map (λ w. string_bytes w) words.now) form
         → (meaning_of form).reads ≡ true → S.files shelf.old ≡ Some files → I.left input.old ≡ Some bytes
         → (meaning_of form).loadable (Some files) → (AreReadable (lines_of bytes) → ⊥) → IsFaultless h o
         → (result ≡ Status.ReadFault) ⊎ (result ≡ Status.NoMemory) }
@@ -98,18 +98,18 @@ pub fn run<S: Shelf, I: Source, O: Sink, X: Sink, Rt: AllocGlobal + Threads + Wa
     // read was written; where memory was wanting before the first line, nothing was read or written.
     ensures write_fault { let h = shelves S.files S.faults S.asked shelf.old shelf.new in
         let o = streams I.left I.faults O.written O.flushed O.faults input.old input.new out.old out.new in
-        result ≡ Status.WriteFault → (form : Form) × HasForm (map (λ w. string_bytes w) words.now) form
+        result ≡ Status.WriteFault → (form : Form) × IsForm (map (λ w. string_bytes w) words.now) form
         × RanInPart (meaning_of form) h o × HasRisen (O.faults out.old) (O.faults out.new) }
     ensures no_memory { let h = shelves S.files S.faults S.asked shelf.old shelf.new in
         let o = streams I.left I.faults O.written O.flushed O.faults input.old input.new out.old out.new in
         result ≡ Status.NoMemory → ((input.new ≡ input.old) × (out.new ≡ out.old))
-        ⊎ ((form : Form) × HasForm (map (λ w. string_bytes w) words.now) form × RanInPart (meaning_of form) h o) }
+        ⊎ ((form : Form) × IsForm (map (λ w. string_bytes w) words.now) form × RanInPart (meaning_of form) h o) }
 
     // Completeness: where the words are in the form, the told files have no fault, each line can be read and nothing
     // fails, the whole report is written, or memory was wanting. That report is the only one.
     ensures complete { let h = shelves S.files S.faults S.asked shelf.old shelf.new in
         let o = streams I.left I.faults O.written O.flushed O.faults input.old input.new out.old out.new in
-        (form : Form) (files : List ℕ → Option (List ℕ)) (bytes : List ℕ) → HasForm (map (λ w. string_bytes w) words.now) form
+        (form : Form) (files : List ℕ → Option (List ℕ)) (bytes : List ℕ) → IsForm (map (λ w. string_bytes w) words.now) form
         → S.files shelf.old ≡ Some files → I.left input.old ≡ Some bytes
         → (meaning_of form).loadable (Some files) → AreReadable (lines_of bytes) → IsFaultless h o → IsWhole (meaning_of form) h o bytes result }
     ensures one_report { (form : Form) (files : List ℕ → Option (List ℕ)) (lines pieces others : List (List ℕ)) (refused may : Bool)

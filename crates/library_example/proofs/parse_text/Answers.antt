@@ -3,7 +3,8 @@ use Rattle.lkb_io.specs.Shelves.{file_or_empty}
 use Rattle.endings.specs.Meanings.{Shelves, shelves}
 use Rattle.endings.specs.Reports.{Streams, streams}
 use Rattle.endings.specs.Endings.{IsReadThrough}
-use Rattle.top_call.specs.Commands.{HasForm, meaning_of}
+use Rattle.command_line.specs.Words.{IsForm}
+use Rattle.top_call.specs.Commands.{meaning_of}
 use Rattle.library_example.specs.Parsed.{Comes, words_asked, form_asked, asked}
 use Rattle.library_example.proofs.Asking.{have_form}
 use Rattle.library_example.proofs.Cases.{comes, still}
@@ -13,13 +14,13 @@ pub returns : goal.returns
 returns g c report fault jw jx =
     let said = map (λ w. string_bytes w) c.deref.result.now in
     let are : said ≡ words_asked = ap (λ ws. map (λ w. string_bytes w) ws) c.deref.ensures.value ∙ c.in_ok-words.ensures in
-    let has : HasForm said form_asked = have_form said are in
+    let has : IsForm said form_asked = have_form said are in
     let r = c.run-status.ensures in
     let new = c.run-status.new in
     let h : Shelves = shelves (λ s. Some (file_or_empty s)) (λ s. 0) (λ s. None) c.in_ok-shelf.shelf new.shelf in
     let o : Streams = streams (λ s. Some s) (λ s. 0) (λ s. s.written) (λ s. s.flushed) (λ s. 0) c.new-input.result new.input c.new-report.result new.out in
     subst (λ s. Comes asked (Some (file_or_empty s)) c.args.lines.items report fault c.run-status.result) c.in_ok-shelf.ensures
-    (comes (HasForm said) meaning_of form_asked (λ k is. c.one_form.ensures said k form_asked is.0 has.0) has
+    (comes (IsForm said) meaning_of form_asked (λ k is. c.one_form.ensures said k form_asked is has) has
     (Some (file_or_empty c.in_ok-shelf.shelf)) h o
     (Some c.new-input.result) c.new-report.result.written new.out.written c.new-fault.result.written new.err.written
     c.args.lines.items report fault (λ form. IsReadThrough (meaning_of form) (Some new.input))

@@ -1,10 +1,10 @@
 use Rattle.std.proofs.Common.{◌≡◌, inl, inr, sym, refl, subst, Some, Err, true, false, map, string_bytes}
-use Rattle.command_line.specs.Words.{Form}
+use Rattle.command_line.specs.Words.{Form, IsForm}
 use Rattle.command_line.specs.Commands.{form}
 use Rattle.endings.specs.Meanings.{Shelves, shelves}
 use Rattle.endings.specs.Reports.{Streams, streams}
 use Rattle.endings.specs.Endings.{IsWhole}
-use Rattle.top_call.specs.Commands.{HasForm, meaning_of}
+use Rattle.top_call.specs.Commands.{meaning_of}
 use Rattle.top_call.proofs.Words.{outside, outside-status, memory-at, formless-at, either-at, not-done, not-grammar, not-read, not-write}
 use Rattle.top_call.proofs.run.Goals as goal
 
@@ -44,7 +44,7 @@ returns-in-Ok-clause-unopened g c =
     let f = form c.in-Ok.command.command in
     let is = c.in-Ok.ensures.ok in
     let r = c.run_command.ensures in
-    let same = λ (k : Form) (h : HasForm (map (λ w. string_bytes w) c.args.words.now) k). c.one_form.ensures (map (λ w. string_bytes w) c.args.words.now) f k is.0 h.0 in
+    let same = λ (k : Form) (h : IsForm (map (λ w. string_bytes w) c.args.words.now) k). c.one_form.ensures (map (λ w. string_bytes w) c.args.words.now) f k is h in
     λ k h opens. r.unopened (subst (λ x. (meaning_of x).opens ≡ false) (sym (same k h)) opens)
 
 pub returns-in-Ok-clause-grammar : goal.returns-in-Ok-clause-grammar
@@ -59,7 +59,7 @@ returns-in-Ok-clause-no_grammar g c =
     let f = form c.in-Ok.command.command in
     let is = c.in-Ok.ensures.ok in
     let r = c.run_command.ensures in
-    let same = λ (k : Form) (h : HasForm (map (λ w. string_bytes w) c.args.words.now) k). c.one_form.ensures (map (λ w. string_bytes w) c.args.words.now) f k is.0 h.0 in
+    let same = λ (k : Form) (h : IsForm (map (λ w. string_bytes w) c.args.words.now) k). c.one_form.ensures (map (λ w. string_bytes w) c.args.words.now) f k is h in
     λ k h n. r.no_grammar (λ load. n (subst (λ x. (meaning_of x).loadable (g.S.Shelf.files c.args.shelf.now)) (same k h) load))
 
 pub returns-in-Ok-clause-first_fault : goal.returns-in-Ok-clause-first_fault
@@ -67,7 +67,7 @@ returns-in-Ok-clause-first_fault g c =
     let f = form c.in-Ok.command.command in
     let is = c.in-Ok.ensures.ok in
     let r = c.run_command.ensures in
-    let same = λ (k : Form) (h : HasForm (map (λ w. string_bytes w) c.args.words.now) k). c.one_form.ensures (map (λ w. string_bytes w) c.args.words.now) f k is.0 h.0 in
+    let same = λ (k : Form) (h : IsForm (map (λ w. string_bytes w) c.args.words.now) k). c.one_form.ensures (map (λ w. string_bytes w) c.args.words.now) f k is h in
     λ k files fault h told first calm. r.first_fault files fault told (subst (λ x. (meaning_of x).first (Some files) (λ name. false) fault) (sym (same k h)) first) calm
 
 pub returns-in-Ok-clause-read_fault : goal.returns-in-Ok-clause-read_fault
@@ -82,7 +82,7 @@ returns-in-Ok-clause-unreadable g c =
     let f = form c.in-Ok.command.command in
     let is = c.in-Ok.ensures.ok in
     let r = c.run_command.ensures in
-    let same = λ (k : Form) (h : HasForm (map (λ w. string_bytes w) c.args.words.now) k). c.one_form.ensures (map (λ w. string_bytes w) c.args.words.now) f k is.0 h.0 in
+    let same = λ (k : Form) (h : IsForm (map (λ w. string_bytes w) c.args.words.now) k). c.one_form.ensures (map (λ w. string_bytes w) c.args.words.now) f k is h in
     λ k files bytes h reads told l load can calm. r.unreadable files bytes (subst (λ x. (meaning_of x).reads ≡ true) (sym (same k h)) reads) told l (subst (λ x. (meaning_of x).loadable (Some files)) (sym (same k h)) load) can calm
 
 pub returns-in-Ok-clause-write_fault : goal.returns-in-Ok-clause-write_fault
@@ -107,7 +107,7 @@ returns-in-Ok-clause-complete g c =
     let f = form c.in-Ok.command.command in
     let is = c.in-Ok.ensures.ok in
     let r = c.run_command.ensures in
-    let same = λ (k : Form) (h : HasForm (map (λ w. string_bytes w) c.args.words.now) k). c.one_form.ensures (map (λ w. string_bytes w) c.args.words.now) f k is.0 h.0 in
+    let same = λ (k : Form) (h : IsForm (map (λ w. string_bytes w) c.args.words.now) k). c.one_form.ensures (map (λ w. string_bytes w) c.args.words.now) f k is h in
     let h : Shelves = shelves g.S.Shelf.files g.S.Shelf.faults g.S.Shelf.asked c.args.shelf.now c.run_command.new.shelf in
     let o : Streams = streams g.I.Source.left g.I.Source.faults g.O.Sink.written g.O.Sink.flushed g.O.Sink.faults c.args.input.now c.run_command.new.input c.args.out.now c.run_command.new.out in
     λ k files bytes has told l load can calm. subst (λ x. IsWhole (meaning_of x) h o bytes c.run_command.result) (same k has) (r.complete files bytes told l (subst (λ x. (meaning_of x).loadable (Some files)) (sym (same k has)) load) can calm)

@@ -2,7 +2,7 @@ use Rattle.std.proofs.Common.{◌≡◌, ap, subst, option_map}
 use Rattle.command_line.specs.declared.tasks.Command.TheVariants.{Run}
 use Rattle.command_line.specs.Commands.{task}
 use Rattle.command_line.specs.declared.tasks.Task.{Task}
-use Rattle.command_line.specs.declared.tasks.Task.TheVariants.{Parse, Generate, Types, Expand, Check, SelfTest, Scope, Transfer}
+use Rattle.command_line.specs.declared.tasks.Task.TheVariants.{Parse, Generate, Types, Expand, Check, SelfTest, Scope, Batch, Transfer}
 use Rattle.endings.specs.Meanings.{Shelves, shelves}
 use Rattle.endings.specs.Reports.{Streams, streams}
 use Rattle.endings.specs.Endings.{Ended}
@@ -11,6 +11,7 @@ use Rattle.line_commands.specs.Parsing.{parse_meaning}
 use Rattle.generate_commands.specs.Generating.{generate_meaning}
 use Rattle.scope_commands.specs.Scoping.{scope_meaning}
 use Rattle.self_tests.specs.SelfTests.{self_test_meaning}
+use Rattle.profile_batch.specs.Batches.{batch_meaning}
 use Rattle.top_call.proofs.Arms.{as-asked}
 use Rattle.top_call.proofs.asked.do_task.Goals as goal
 
@@ -85,6 +86,17 @@ returns-in-Scope-clause-ended g c =
     let untouched = (done.new.input ≡ c.args.input.now) × (done.new.out ≡ c.args.out.now) in
     let ended = subst (λ max. Ended (scope_meaning max) h o idle untouched done.result) c.readings_of.ensures (done.ensures h) in
     as-asked (run c.args.task) (run Scope) h o idle untouched done.result (ap run c.in-Scope.is) ended
+
+pub returns-in-Batch-clause-ended : goal.returns-in-Batch-clause-ended
+returns-in-Batch-clause-ended g c =
+    let run = λ (t : Task). Run t c.args.options in
+    let done = c.write_whole-in-Batch in
+    let h : Shelves = shelves g.S.Shelf.files g.S.Shelf.faults g.S.Shelf.asked c.args.shelf.now done.new.shelf in
+    let o : Streams = streams g.I.Source.left g.I.Source.faults g.O.Sink.written g.O.Sink.flushed g.O.Sink.faults c.args.input.now done.new.input c.args.out.now done.new.out in
+    let idle = done.new.input ≡ c.args.input.now in
+    let untouched = (done.new.input ≡ c.args.input.now) × (done.new.out ≡ c.args.out.now) in
+    let ended = subst (λ a. Ended (batch_meaning c.in-Batch.grammar.now (option_map (λ s. s.now) c.args.options.settings) c.in-Batch.profile.now a.limits a.lexical) h o idle untouched done.result) c.limits_of-in-Batch.ensures.asked done.ensures.ended in
+    as-asked (run c.args.task) (run (Batch c.in-Batch.grammar c.in-Batch.profile)) h o idle untouched done.result (ap run c.in-Batch.is) ended
 
 pub returns-in-Transfer-clause-ended : goal.returns-in-Transfer-clause-ended
 returns-in-Transfer-clause-ended g c =

@@ -2,7 +2,7 @@ use Rattle.std.proofs.Common.{◌∙◌, ℕ, sym, List}
 use Rattle.command_line.specs.Words.{Form, help, version, run, parse, generate, types, expand, check, self_test, scope, batch, transfer}
 use Rattle.endings.specs.Meanings.{Lawful}
 use Rattle.endings.specs.PlainTexts.{plain_meaning}
-use Rattle.top_call.specs.Commands.{meaning_of, asked_of, bounds_of, not_built}
+use Rattle.top_call.specs.Commands.{meaning_of, asked_of, bounds_of}
 use Rattle.top_call.proofs.laws.built_lawful.Goals as goal
 
 plain : (text : List ℕ) → Lawful (plain_meaning text)
@@ -12,15 +12,6 @@ plain text = record {
   not_both = λ files f l a. a;
   one_report = λ files lines pieces others refused may p q. (p.0 ∙ sym q.0, p.1 ∙ sym q.1);
   calm = λ h f x none. x.0;
-}
-
-none : Lawful not_built
-none = record {
-  loads = λ files lines pieces refused r. r;
-  one_first = λ files f g a b. absurd a;
-  not_both = λ files f l a. a;
-  one_report = λ files lines pieces others refused may p q. absurd p;
-  calm = λ h f x calm. x.0;
 }
 
 pub returns : goal.returns
@@ -36,5 +27,5 @@ returns c = by_cases
     by_cases (run (check grammar) options) = c.check_lawful.ensures grammar options.settings
     by_cases (run (self_test number size) options) = c.self_test_lawful.ensures number size (asked_of options).limits options.lexical
     by_cases (run scope options) = c.scope_lawful.ensures options.readings
-    by_cases (run (batch grammar profile) options) = none
+    by_cases (run (batch grammar profile) options) = c.batch_lawful.ensures grammar options.settings profile (asked_of options).limits options.lexical
     by_cases (run (transfer rules) options) = c.transfer_lawful.ensures rules options.settings

@@ -1,0 +1,6 @@
+pub mod Few
+pub mod Kept
+pub mod Judged
+pub mod Reported
+pub mod NotCome
+pub mod BatchLaws

@@ -1,0 +1,172 @@
+//! A profile is compared with what a grammar gives.
+
+ghost use Rattle.std.specs.Prelude.{◌≡◌, ◌<◌, ◌^◌, All, length, map, option_map, IfOk};
+ghost use Rattle.std.specs.Thread.{IsSync};
+ghost use Rattle.chart_core.specs.Kept.{InRange};
+ghost use Rattle.chart_workers.specs.Crews.{IsCrewSize};
+ghost use Rattle.packed_items.specs.Answers.{limits_in};
+ghost use Rattle.book_signs.specs.Conditions.{IsWhole};
+ghost use Rattle.grammar_files.specs.Walks.{IsText};
+ghost use Rattle.grammar_load.specs.Conditions.{IsLoaded};
+ghost use Rattle.grammar_load.specs.Views.{grammar_of};
+ghost use Rattle.grammar_names.specs.Fitting.{HasMrsPaths};
+ghost use Rattle.endings.specs.Meanings.{Files, shelves};
+ghost use Rattle.endings.specs.Endings.{Made};
+ghost use Rattle.engine.specs.Speeches.{Speech, IsSpeechOf};
+ghost use Rattle.profile_items.specs.Profiles.{items_of};
+ghost use Rattle.profile_items.specs.Views.{item_kept};
+ghost use Rattle.profile_batch.specs.Batches.{batch_meaning};
+ghost use Rattle.profile_batch.specs.Results.{AreResults, IsReported};
+ghost use Rattle.profile_batch.specs.Views.{trees_of};
+
+use crate::command::Batch;
+use crate::judging::Judge;
+use book_signs::laws::whole_book;
+use chart_core::Limits;
+use command_files::laws::late_text;
+use command_files::load_text;
+use command_grammars::load_grammar;
+use endings::pieces::Report;
+use endings::{Fault, Stop};
+use engine::desks::Desks;
+use engine::{Engine, Use, with_engine};
+use grammar_load::Grammar;
+use grammar_names::loaded_paths;
+use lkb_io::Shelf;
+use profile_items::{NoMemory, ProfileItem, profile};
+use profile_reports::{ItemResult, report_on};
+use side_by_side::each_by;
+use std::alloc::Global;
+use std::sync::Wait;
+use std::thread::Threads;
+use worker_gate::Gate;
+
+/// What is done with an engine: these items are judged within these limits, by so many workers.
+#[derive(Clone, Copy)]
+struct Items<'i> {
+    items: &'i [ProfileItem],
+    limits: Limits,
+    workers: u32,
+    ghost in_range: { InRange limits },
+    ghost crew: { IsCrewSize workers },
+    ghost few: { length items.now < 2 ^ 32 },
+    ghost trees: { All (λ i. trees_of i < 2 ^ 32) items.now },
+}
+
+impl Use<(), ()> for Items<'_> {
+    ghost use Rattle.std.specs.Prelude.{map, IfOk};
+    ghost use Rattle.packed_items.specs.Answers.{limits_in};
+    ghost use Rattle.profile_items.specs.Views.{item_kept};
+    ghost use Rattle.profile_batch.specs.Results.{AreResults};
+
+    type Out = Result<Vec<ItemResult>, NoMemory>;
+
+    ghost Gives = { λ job g speech a b c d out. IfOk out (λ results. AreResults speech (limits_in job.limits) job.limits.lexical (map item_kept job.items.now) results.items) };
+
+    fn run<Rt: Threads + Wait + Sync>(
+        &self,
+        rt: &Rt,
+        alloc: Global,
+        engine: &Engine<'_, '_, '_, '_, '_, '_, '_, '_, '_, '_>,
+        _a: &mut (),
+        _b: &mut (),
+        gate: &dyn Gate,
+    ) -> Result<Vec<ItemResult>, NoMemory> {
+        let judge = Judge {
+            engine: *engine,
+            limits: self.limits,
+            desks: Desks::new(alloc, 1),
+        };
+        each_by(rt, alloc, &judge, self.items, self.workers, gate)
+    }
+}
+
+/// What is found of each of these items, in their order, by what the grammar gives for its sentence within these limits. So many workers
+/// draw the items, and each tells the gate its number and the item's place, from 0, before it begins it. Neither changes a result.
+/// `NoMemory` may come in place of any answer.
+pub fn batch<Rt: Threads + Wait + Sync>(
+    rt: &Rt,
+    alloc: Global,
+    grammar: &Grammar,
+    items: &[ProfileItem],
+    limits: &Limits,
+    workers: u32,
+    gate: &dyn Gate,
+) -> Result<Vec<ItemResult>, NoMemory>
+    requires loaded { IsLoaded (grammar_of grammar.now) }
+    requires whole { IsWhole grammar.now.book }
+    requires fits { HasMrsPaths (grammar_of grammar.now) }
+    requires limits { InRange limits.now }
+    requires workers { IsCrewSize workers }
+    requires few { length items.now < 2 ^ 32 }
+    requires trees { All (λ i. trees_of i < 2 ^ 32) items.now }
+    ensures { IfOk result (λ results. (speech : Speech) × IsSpeechOf (grammar_of grammar.now) speech
+        × AreResults speech (limits_in limits.now) limits.now.lexical (map item_kept items.now) results.items) }
+{
+    let job = Items {
+        items,
+        limits: *limits,
+        workers,
+    };
+    let mut none = ();
+    let mut nothing = ();
+    match with_engine(rt, alloc, grammar, &job, &mut none, &mut nothing, gate) {
+        Ok(results) => results,
+        Err(_) => Err(NoMemory),
+    }
+}
+
+// The report on the items of a text, by a grammar.
+fn report_with<Rt: Threads + Wait + Sync>(
+    rt: &Rt,
+    alloc: Global,
+    batch_of: &Batch<'_>,
+    grammar: &Grammar,
+    text: &[u8],
+    gate: &dyn Gate,
+) -> Result<Report, NoMemory>
+    requires loaded { IsLoaded (grammar_of grammar.now) }
+    requires whole { IsWhole grammar.now.book }
+    requires fits { HasMrsPaths (grammar_of grammar.now) }
+    requires few { length text.now < 2 ^ 31 }
+    ensures { IfOk result (λ r. (speech : Speech) × IsSpeechOf (grammar_of grammar.now) speech
+        × IsReported speech (limits_in batch_of.now.limits) batch_of.now.limits.lexical (items_of text.now) (map (λ l. l.items) r.lines.items) r.refused) }
+{
+    let items = profile(alloc, text)?;
+    let results = batch(
+        rt,
+        alloc,
+        grammar,
+        &items,
+        &batch_of.limits,
+        batch_of.workers,
+        gate,
+    )?;
+    let found = report_on(alloc, &items, &results)?;
+    Ok(Report {
+        lines: found.lines,
+        refused: found.refused,
+    })
+}
+
+/// The report of `batch`, or the first fault of its files: the grammar's, and then the profile's.
+pub(crate) fn report_of<S: Shelf, Rt: Threads + Wait + Sync>(
+    rt: &Rt,
+    alloc: Global,
+    command: &Batch<'_>,
+    shelf: &mut S,
+    gate: &dyn Gate,
+) -> Result<Report, Fault>
+    ensures { Made (batch_meaning command.now.grammar.now (option_map (λ s. s.now) command.now.settings) command.now.profile.now (limits_in command.now.limits) command.now.limits.lexical)
+        (shelves S.files S.faults S.asked shelf.old shelf.new) result }
+{
+    whole_book();
+    loaded_paths();
+    late_text();
+    let grammar = load_grammar(alloc, shelf, command.grammar, command.settings)?;
+    let text = load_text(alloc, shelf, command.profile)?;
+    match report_with(rt, alloc, command, &grammar, &text, gate) {
+        Ok(report) => Ok(report),
+        Err(_) => Err(Fault::Stopped(Stop::NoMemory)),
+    }
+}

@@ -1,0 +1,12 @@
+//! The command `batch`: the items of a profile are compared with what a grammar gives for them.
+#![tactic(auto)]
+
+mod batching;
+mod command;
+mod judging;
+pub mod laws;
+
+pub use batching::batch;
+pub use command::Batch;
+pub use profile_items::{Expected, NoMemory, ProfileItem, profile};
+pub use profile_reports::{Got, ItemResult};
