@@ -7,6 +7,8 @@ from .items import generate_answer, parse_answer
 from .mrs import Mrs, are_equal, contribution, mrs_line, mrs_of, DEFAULTS
 from .faults import draft_of
 from .mrs_texts import asked_texts
+from .profile_cases import profile_of
+from .profiles import items_of as items_of_profile, report_of
 from .rule_reader import rules_of as rules_of_text
 from .scope_cases import LIMITS, asked_lines
 from .scopes import lines_of_scopes
@@ -20,7 +22,7 @@ from .transfer_cases import (
 from .transfers import lines_of_transfer
 from .type_cases import types_asked
 
-MOST_MRSS, BROKEN, SCOPES, TRANSFERS, TEXTS, DEFAULT_READINGS = 12, 20, 30, 25, 6, 10000
+MOST_MRSS, BROKEN, SCOPES, TRANSFERS, TEXTS, PROFILES, DEFAULT_READINGS = 12, 20, 30, 25, 6, 4, 10000
 CHECK = ["check", "g", "--settings", "set"]
 
 
@@ -227,6 +229,49 @@ def transferred(chance, text, lines):
     return Asked(words, reports, said, 4 if refused else 0, files=files, passed=passed)
 
 
+def batch_run(chance):
+    """Profiles over the lines of a grammar, or over a grammar with a fault, which is told before a missing profile."""
+    case = (case_of if chance.random() < 0.8 else spelling_case)(chance)
+    grammar, fault = whole(case)
+    if fault:
+        fault.words = ["batch", "g", chance.choice(("set", "missing")), "--settings", "set"]
+        return files_of(case), [fault]
+    lines = case["lines"] if case.get("lines") else lines_of(chance, grammar, case)
+    found = {}
+
+    def answer(words):
+        """What comes of words, and the texts of the trees."""
+        key = tuple(words)
+        if key not in found:
+            report, is_refused = parse_answer(grammar, 1, lattice_of(None, words), False)
+            found[key] = report[0].split(" ")[-1], [tree[2:].encode() for tree in report[1:]]
+        return found[key]
+
+    asked, words = [], ["batch", "g", "profile", *options_of(case)]
+    for _ in range(PROFILES):
+        try:
+            text = profile_of(chance, [words for words in lines if fits(answer, words)], answer)
+            items = items_of_profile(text + b"\n" if not text.endswith(b"\n") else text)
+            cases, is_refused = report_of(items, answer)
+        except TooMuch:
+            continue
+        # (a file is written with a line end more)
+        kept = [line.decode(errors="surrogateescape") for line in text.removesuffix(b"\n").split(b"\n")]
+        more = ["--workers", str(chance.choice((2, 3, 8)))] if chance.random() < 0.3 else []
+        asked.append(Asked([*words, *more, *(["--mrs", "--lattice"] if chance.random() < 0.1 else [])], cases, ["no input is read"], 4 if is_refused else 0, files={"profile": kept}))
+    asked.append(Asked(["batch", "g", "missing", "--settings", "set"], [[]], status=3, fault="lkb: missing: Shelf\n"))
+    return files_of(case), asked
+
+
+def fits(answer, words):
+    """Whether the definitions answer these words in time."""
+    try:
+        answer(words)
+    except TooMuch:
+        return False
+    return True
+
+
 def skips_of(chance):
     """A file of settings, the names of rules that it skips, and what is told of it where it is broken."""
     names = lambda: [chance.choice(("r0", "r1", "R2", "r3", "r9", "ü")) for _ in range(chance.choice((0, 1, 1, 2)))]
@@ -242,5 +287,5 @@ def skips_of(chance):
 
 RUNS = {
     "syntax": syntax_run, "semantics": semantics_run, "spelling": spelling_run, "types": types_run, "broken": broken_run, "scope": scope_run,
-    "transfer": transfer_run,
+    "transfer": transfer_run, "batch": batch_run,
 }
