@@ -16,7 +16,7 @@ use Rattle.endings.specs.Meanings.{Meaning, Shelves, Fails, has_failed}
 use Rattle.endings.specs.Endings.{NotCome}
 use Rattle.endings.specs.declared.Fault.{Fault}
 use Rattle.endings.specs.declared.Fault.TheVariants.{Usage, Files as FilesFault, Stopped}
-use Rattle.endings.specs.declared.Stop.TheVariants.{Read as ReadStop, TooLong as TooLongStop, TooMany, Write, NoMemory}
+use Rattle.endings.specs.declared.Stop.TheVariants.{Read as ReadStop, TooLong as TooLongStop, TooMany, Write, Gaps, NoMemory}
 use Rattle.command_files.specs.Told.{failed_file, told_of, IsOfShelf, IsToldBy, IsToldAs}
 
 both_true : (a b : Bool) → (a && b) ≡ true → (a ≡ true) × (b ≡ true)
@@ -80,7 +80,8 @@ told_on P Q (Stopped ReadStop) to x = absurd x
 told_on P Q (Stopped TooLongStop) to x = absurd x
 told_on P Q (Stopped TooMany) to x = absurd x
 told_on P Q (Stopped Write) to x = absurd x
-told_on P Q Usage to x = absurd x
+told_on P Q (Stopped Gaps) to x = absurd x
+told_on P Q (Usage text) to x = absurd x
 
 pub told_by : (P : FoundFault → Type 0) (fault : LoadFault) (end : Fault) → IsFaultBy P fault → IsToldAs fault end → IsToldBy P end
 told_by P (Found file at why) (FilesFault text) x t = (fault_at (string_bytes file) at why, x, t)
@@ -89,14 +90,16 @@ told_by P (Found file at why) (Stopped ReadStop) x t = absurd t
 told_by P (Found file at why) (Stopped TooLongStop) x t = absurd t
 told_by P (Found file at why) (Stopped TooMany) x t = absurd t
 told_by P (Found file at why) (Stopped Write) x t = absurd t
-told_by P (Found file at why) Usage x t = absurd t
+told_by P (Found file at why) (Stopped Gaps) x t = absurd t
+told_by P (Found file at why) (Usage text) x t = absurd t
 told_by P LoadNoMemory (FilesFault text) x t = absurd t
 told_by P LoadNoMemory (Stopped NoMemory) x t = tt
 told_by P LoadNoMemory (Stopped ReadStop) x t = absurd t
 told_by P LoadNoMemory (Stopped TooLongStop) x t = absurd t
 told_by P LoadNoMemory (Stopped TooMany) x t = absurd t
 told_by P LoadNoMemory (Stopped Write) x t = absurd t
-told_by P LoadNoMemory Usage x t = absurd t
+told_by P LoadNoMemory (Stopped Gaps) x t = absurd t
+told_by P LoadNoMemory (Usage text) x t = absurd t
 
 -- for a command whose first fault it is, nothing came of its files
 pub not_come : (m : Meaning) (h : Shelves) (P : FoundFault → Type 0) → ((f : FoundFault) → P f → Fails m h (told_of f)) → (end : Fault) → IsToldBy P end → NotCome m h end
@@ -106,4 +109,5 @@ not_come m h P to (Stopped ReadStop) x = absurd x
 not_come m h P to (Stopped TooLongStop) x = absurd x
 not_come m h P to (Stopped TooMany) x = absurd x
 not_come m h P to (Stopped Write) x = absurd x
-not_come m h P to Usage x = absurd x
+not_come m h P to (Stopped Gaps) x = absurd x
+not_come m h P to (Usage text) x = absurd x

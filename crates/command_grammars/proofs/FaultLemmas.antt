@@ -17,7 +17,7 @@ use Rattle.endings.specs.Meanings.{Meaning, Shelves, FileFault, has_failed}
 use Rattle.endings.specs.Endings.{NotCome}
 use Rattle.endings.specs.declared.Fault.{Fault}
 use Rattle.endings.specs.declared.Fault.TheVariants.{Usage, Files as FilesFault, Stopped}
-use Rattle.endings.specs.declared.Stop.TheVariants.{Read as ReadStop, TooLong as TooLongStop, TooMany, Write, NoMemory}
+use Rattle.endings.specs.declared.Stop.TheVariants.{Read as ReadStop, TooLong as TooLongStop, TooMany, Write, Gaps, NoMemory}
 use Rattle.command_files.specs.Told.{never, told_of, IsOfShelf, IsToldBy, IsToldAs}
 use Rattle.command_files.proofs.ToldLemmas.{failed_same, shelf_told, of_shelf, told_by}
 use Rattle.grammar_load.specs.Loaded.{GrammarTree}
@@ -42,11 +42,12 @@ lacks_told : AtShelf → (h : Shelves) (name : List ℕ) (settings : Option (Lis
     → IsToldBy (λ f. Loads h.files (failed_at_walk h.faults_old h.faults_new h.asked_new) name settings (Err f)) end → LacksGrammar h name settings end
 lacks_told shelf h name settings (FilesFault text) x = let z = first_of shelf h name settings x.0 x.1 in (told_of x.0, z.0, z.1, x.2)
 lacks_told shelf h name settings (Stopped NoMemory) x = tt
-lacks_told shelf h name settings Usage x = absurd x
+lacks_told shelf h name settings (Usage text) x = absurd x
 lacks_told shelf h name settings (Stopped ReadStop) x = absurd x
 lacks_told shelf h name settings (Stopped TooLongStop) x = absurd x
 lacks_told shelf h name settings (Stopped TooMany) x = absurd x
 lacks_told shelf h name settings (Stopped Write) x = absurd x
+lacks_told shelf h name settings (Stopped Gaps) x = absurd x
 
 pub lacks_by : AtShelf → (h : Shelves) (name : List ℕ) (settings : Option (List ℕ)) (fault : LoadFault) (end : Fault)
     → IsFaultBy (λ f. Loads h.files (failed_at_walk h.faults_old h.faults_new h.asked_new) name settings (Err f)) fault → IsToldAs fault end → LacksGrammar h name settings end
@@ -58,11 +59,12 @@ pub not_come : (m : Meaning) (h : Shelves) (name : List ℕ) (settings : Option 
     → (end : Fault) → LacksGrammar h name settings end → NotCome m h end
 not_come m h name settings to (FilesFault text) x = (x.0, (to x.0 x.1, x.2), x.3)
 not_come m h name settings to (Stopped NoMemory) x = tt
-not_come m h name settings to Usage x = absurd x
+not_come m h name settings to (Usage text) x = absurd x
 not_come m h name settings to (Stopped ReadStop) x = absurd x
 not_come m h name settings to (Stopped TooLongStop) x = absurd x
 not_come m h name settings to (Stopped TooMany) x = absurd x
 not_come m h name settings to (Stopped Write) x = absurd x
+not_come m h name settings to (Stopped Gaps) x = absurd x
 
 -- where the shelf counts no fault, the fault is the first
 pub calm_first : Calm → (h : Shelves) (name : List ℕ) (settings : Option (List ℕ)) (fault : FileFault) → IsFirstFault name settings h.files (has_failed h) fault → IsOfShelf h fault

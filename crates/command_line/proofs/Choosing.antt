@@ -4,13 +4,13 @@ use Rattle.std.proofs.lemmas.Slice.Eq.{bytes_eq-Decides}
 use Rattle.std.proofs.lemmas.List.{take_all}
 use Rattle.std.specs.List.{list_all}
 use Rattle.std.specs.Str.{bytes_eq}
-use Rattle.command_line.specs.Words.{OptionName, Workers, Edges, Readings, Lexical, Unary, Empty, Settings, Mrs, Lattice, Value, in_range, name, nothing, is_name, word_of, value_of, IsValue, Item, positional, option as an_option, words_of, AreItems, Task, parse, generate, types, expand, check, self_test, scope, batch, transfer, command_word, places_of, HasNames, Form, help, version, run, IsForm, Options}
+use Rattle.command_line.specs.Words.{OptionName, Workers, Edges, Readings, Lexical, Unary, Empty, Settings, Mrs, Lattice, Value, in_range, name, nothing, is_name, word_of, value_of, IsValue, Item, positional, option as an_option, words_of, AreItems, Task, parse, generate, types, expand, check, self_test, scope, batch, transfer, name_word, command_word, places_of, HasNames}
 use Rattle.command_line.specs.declared.tasks.CommandName.{CommandName}
 use Rattle.command_line.specs.declared.tasks.CommandName.TheVariants as named
-use Rattle.command_line.specs.Inner.Reading.{IsWord, of_option, of_name, AreWords, no_word, a_word, is_option_word, is_word, command_named, places_by, places_in, names_in, task_by, alone_form}
+use Rattle.command_line.specs.Inner.Reading.{IsWord, of_option, of_name, AreWords, no_word, a_word, is_option_word, is_word, command_named, places_by, places_in, names_in, task_by}
 
 -- words that pass
-or-parts : (a b : Bool) → (a || b) ≡ true → (a ≡ true) ⊎ (b ≡ true)
+pub or-parts : (a b : Bool) → (a || b) ≡ true → (a ≡ true) ⊎ (b ≡ true)
 or-parts true b e = inl refl
 or-parts false b e = inr e
 
@@ -108,14 +108,11 @@ no-task scope e = cc
 no-task (batch g p) e = cc
 no-task (transfer r) e = cc
 
-abbrev some_word : CommandName → List ℕ
-some_word n = command_word (task_by n [] [])
-
-pick : (b : Bool) (w : List ℕ) (p n : CommandName) (rest : Option CommandName) → (b ≡ true → w ≡ some_word p) → (rest ≡ Some n → w ≡ some_word n) → (if b then Some p else rest) ≡ Some n → w ≡ some_word n
-pick true w p n rest h k e = let same : p ≡ n = cc in h refl ∙ ap some_word same
+pick : (b : Bool) (w : List ℕ) (p n : CommandName) (rest : Option CommandName) → (b ≡ true → w ≡ name_word p) → (rest ≡ Some n → w ≡ name_word n) → (if b then Some p else rest) ≡ Some n → w ≡ name_word n
+pick true w p n rest h k e = let same : p ≡ n = cc in h refl ∙ ap name_word same
 pick false w p n rest h k e = k e
 
-named-word : (w : List ℕ) (n : CommandName) → command_named w ≡ Some n → w ≡ some_word n
+pub named-word : (w : List ℕ) (n : CommandName) → command_named w ≡ Some n → w ≡ name_word n
 named-word w n =
     pick (bytes_eq w (codes "parse")) w named.Parse n _ (bytes_eq-Decides w (codes "parse")).0
     (pick (bytes_eq w (codes "generate")) w named.Generate n _ (bytes_eq-Decides w (codes "generate")).0
@@ -127,7 +124,7 @@ named-word w n =
     (pick (bytes_eq w (codes "batch")) w named.Batch n _ (bytes_eq-Decides w (codes "batch")).0
     (pick (bytes_eq w (codes "transfer")) w named.Transfer n None (bytes_eq-Decides w (codes "transfer")).0 (λ e. cc)))))))))
 
-same-word : (n : CommandName) (a b : List ℕ) → some_word n ≡ command_word (task_by n a b)
+same-word : (n : CommandName) (a b : List ℕ) → name_word n ≡ command_word (task_by n a b)
 same-word named.Parse a b = refl
 same-word named.Generate a b = refl
 same-word named.Types a b = refl
@@ -163,48 +160,11 @@ has-names named.Scope a b = refl
 has-names named.Batch a b = refl
 has-names named.Transfer a b = refl
 
--- `--help` and `--version` are words of no command
-pub no-dash : (t : Task) (w : List ℕ) (rest words : List (List ℕ)) → is_name w ≡ false → w ∷ words ≡ command_word t ∷ rest → ⊥
-no-dash t w rest words h e = by_task t (let same : w ≡ command_word t = cc in sym (ap is_name same) ∙ h)
-  where
-    by_task : (t : Task) → is_name (command_word t) ≡ false → ⊥
-    by_task (parse g) e = cc
-    by_task (generate g) e = cc
-    by_task (types g) e = cc
-    by_task (expand g x) e = cc
-    by_task (check g) e = cc
-    by_task (self_test a b) e = cc
-    by_task scope e = cc
-    by_task (batch g p) e = cc
-    by_task (transfer r) e = cc
-
 -- the words from one on
 pub words-at : {X : Type 0} (f : X → List ℕ) (xs : List X) (i : ℕ) (x : X) → i < length xs → get_or xs i x ≡ x → list_all is_word (drop i (map f xs)) ≡ (is_word (f x) && list_all is_word (drop (suc i) (map f xs)))
 words-at f (y ∷ xs) zero x less e = ap (λ z. is_word (f z) && list_all is_word (map f xs)) e
 words-at f (y ∷ xs) (suc i) x less e = words-at f xs i x (omega (arith, less)) e
 words-at f [] i x less e = absurd (omega (arith, less))
-
--- forms of one word
-pub alone-is : (ws : List (List ℕ)) (f : Form) → alone_form ws ≡ Some f → IsForm ws f
-alone-is [] f e = cc
-alone-is (w ∷ x ∷ ws) f e = cc
-alone-is (w ∷ []) f e = by_tests (bytes_eq w (codes "--help")) (bytes_eq w (codes "--version")) refl refl e
-  where
-    by_tests : (s t : Bool) → bytes_eq w (codes "--help") ≡ s → bytes_eq w (codes "--version") ≡ t → (if s then Some help else (if t then Some version else None)) ≡ Some f → IsForm (w ∷ []) f
-    by_tests true t g h e = let same : help ≡ f = cc in subst (IsForm (w ∷ [])) same (ap (λ x. x ∷ []) ((bytes_eq-Decides w (codes "--help")).0 g))
-    by_tests false true g h e = let same : version ≡ f = cc in subst (IsForm (w ∷ [])) same (ap (λ x. x ∷ []) ((bytes_eq-Decides w (codes "--version")).0 h))
-    by_tests false false g h e = cc
-
-pub not-alone : (ws : List (List ℕ)) → alone_form ws ≡ None → (ws ≡ codes "--help" ∷ [] → ⊥) × (ws ≡ codes "--version" ∷ [] → ⊥)
-not-alone ws e = ((λ same. (let bad : Some help ≡ None = sym (ap alone_form same) ∙ e in cc)), (λ same. (let bad : Some version ≡ None = sym (ap alone_form same) ∙ e in cc)))
-
-abbrev IsRun : List (List ℕ) → Type 0
-IsRun ws = (t : Task) (options : Options) → IsForm ws (run t options) → ⊥
-
-pub no-form : (ws : List (List ℕ)) → alone_form ws ≡ None → IsRun ws → (f : Form) → IsForm ws f → ⊥
-no-form ws e none help h = (not-alone ws e).0 h
-no-form ws e none version h = (not-alone ws e).1 h
-no-form ws e none (run t options) h = none t options h
 
 -- the first word and those after it
 pub first-word : {X : Type 0} (f : X → List ℕ) (xs : List X) (x : X) → 1 ≤ length xs → x ≡ get_or xs 0 x → map f xs ≡ f x ∷ map f (take (length xs - 1) (drop 1 xs))

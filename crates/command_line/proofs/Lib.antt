@@ -6,5 +6,6 @@ pub mod Looking
 pub mod Accepting
 pub mod Keeping
 pub mod Choosing
+pub mod Telling
 pub mod Unique
 pub mod Ranges

@@ -1,28 +1,22 @@
 -- Words have one form.
-use Rattle.std.proofs.Common.{◌≡◌, ◌∙◌, sym, ap, ap₂, refl, subst, ℕ, List, [], ◌∷◌, ◌++◌, true, false, inl, inr, codes}
+use Rattle.std.proofs.Common.{◌≡◌, ◌∙◌, sym, ap, ap₂, refl, subst, ℕ, List, [], ◌∷◌, ◌++◌, Some, true, false, inl, inr}
 use Rattle.std.proofs.lemmas.Slice.Eq.{bytes_eq-Decides}
-use Rattle.command_line.specs.Words.{OptionName, Value, in_range, name, nothing, is_name, option_id, word_of, value_of, number_of, IsValue, Item, positional, option as an_option, words_of, AreItems, positionals, options_of, Options, AreArguments, Task, parse, generate, types, expand, check, self_test, scope, batch, transfer, command_word, places_of, HasNames, Form, help, version, run, IsForm}
-use Rattle.command_line.specs.Inner.Reading.{command_named}
+use Rattle.command_line.specs.Words.{OptionName, Value, in_range, name, nothing, is_name, option_id, word_of, value_of, number_of, IsValue, Item, positional, option as an_option, words_of, AreItems, positionals, options_of, Options, AreArguments, Task, parse, generate, types, expand, check, self_test, scope, batch, transfer, command_word, places_of, HasNames, Form, help, help_on, version, run, IsForm}
+use Rattle.command_line.specs.Inner.Reading.{command_named, told_form}
 use Rattle.command_line.proofs.Uses.{ids-apart}
-use Rattle.command_line.proofs.Choosing.{no-dash}
+use Rattle.command_line.proofs.Telling.{head-same, tail-same, some-same, help-told, help-on-told, version-told, help-apart, help-on-apart, version-apart}
 
-head-same : {X : Type 0} (x y : X) (xs ys : List X) → x ∷ xs ≡ y ∷ ys → x ≡ y
-head-same x y xs ys e = cc
-
-tail-same : {X : Type 0} (x y : X) (xs ys : List X) → x ∷ xs ≡ y ∷ ys → xs ≡ ys
-tail-same x y xs ys e = cc
-
-same-option : (p o : OptionName) → word_of p ≡ word_of o → p ≡ o
+pub same-option : (p o : OptionName) → word_of p ≡ word_of o → p ≡ o
 same-option p o e = elim (ids-apart p o) [
   | inl same ↦ same
   | inr apart ↦ (let bad : true ≡ false = sym ((bytes_eq-Decides (option_id p) (option_id o)).1 (tail-same 45 45 _ _ (tail-same 45 45 _ _ e))) ∙ apart in cc)
 ]
 
-not-name : (o : OptionName) → is_name (word_of o) ≡ false
+pub not-name : (o : OptionName) → is_name (word_of o) ≡ false
 not-name o = refl
 
 -- the values of one option, and what follows them
-same-value : (v : Value) (vs us ws xs : List (List ℕ)) → IsValue v vs → IsValue v us → vs ++ ws ≡ us ++ xs → (vs ≡ us) × (ws ≡ xs)
+pub same-value : (v : Value) (vs us ws xs : List (List ℕ)) → IsValue v vs → IsValue v us → vs ++ ws ≡ us ++ xs → (vs ≡ us) × (ws ≡ xs)
 same-value (in_range l g) (a ∷ []) (b ∷ []) ws xs h k e = (ap (λ x. x ∷ []) (head-same a b ws xs e), tail-same a b ws xs e)
 same-value name (a ∷ []) (b ∷ []) ws xs h k e = (ap (λ x. x ∷ []) (head-same a b ws xs e), tail-same a b ws xs e)
 same-value nothing [] [] ws xs h k e = (refl, e)
@@ -77,15 +71,25 @@ same-task (batch a x) (batch b y) names e h k = let s = second-name a b x y name
 same-task (transfer a) (transfer b) names e h k = ap transfer (one-name a b names h k)
 same-task t u names e h k = cc
 
+both-told : (words : List (List ℕ)) (f g : Form) → told_form words ≡ Some f → told_form words ≡ Some g → f ≡ g
+both-told words f g h k = some-same f g (sym h ∙ k)
+
 pub same-form : (words : List (List ℕ)) (f g : Form) → IsForm words f → IsForm words g → f ≡ g
 same-form words help help h k = refl
+same-form words help (help_on d) h k = both-told words _ _ (help-told words h) (help-on-told words d k)
+same-form words help version h k = both-told words _ _ (help-told words h) (version-told words k)
+same-form words help (run t o) h k = absurd (help-apart words t o h k)
+same-form words (help_on c) help h k = both-told words _ _ (help-on-told words c h) (help-told words k)
+same-form words (help_on c) (help_on d) h k = both-told words _ _ (help-on-told words c h) (help-on-told words d k)
+same-form words (help_on c) version h k = both-told words _ _ (help-on-told words c h) (version-told words k)
+same-form words (help_on c) (run t o) h k = absurd (help-on-apart words c t o h k)
+same-form words version help h k = both-told words _ _ (version-told words h) (help-told words k)
+same-form words version (help_on d) h k = both-told words _ _ (version-told words h) (help-on-told words d k)
 same-form words version version h k = refl
-same-form words help version h k = let bad = sym h ∙ k in cc
-same-form words version help h k = let bad = sym h ∙ k in cc
-same-form words help (run t o) h k = absurd (no-dash t (codes "--help") k.0 [] refl (sym h ∙ k.2))
-same-form words version (run t o) h k = absurd (no-dash t (codes "--version") k.0 [] refl (sym h ∙ k.2))
-same-form words (run t o) help h k = absurd (no-dash t (codes "--help") h.0 [] refl (sym k ∙ h.2))
-same-form words (run t o) version h k = absurd (no-dash t (codes "--version") h.0 [] refl (sym k ∙ h.2))
+same-form words version (run t o) h k = absurd (version-apart words t o h k)
+same-form words (run t o) help h k = absurd (help-apart words t o k h)
+same-form words (run t o) (help_on d) h k = absurd (help-on-apart words d t o k h)
+same-form words (run t o) version h k = absurd (version-apart words t o k h)
 same-form words (run t o) (run u p) h k =
     let all : command_word t ∷ h.0 ≡ command_word u ∷ k.0 = sym h.2 ∙ k.2 in
     let rest = tail-same (command_word t) (command_word u) h.0 k.0 all in

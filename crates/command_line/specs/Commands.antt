@@ -3,12 +3,11 @@ use Rattle.std.specs.Prelude.{List, ℕ, option_map}
 use Rattle.std.specs.List.{Contains}
 use Rattle.command_line.specs.declared.options.Options.{Options as CodeOptions}
 use Rattle.command_line.specs.declared.tasks.CommandName.{CommandName}
-use Rattle.command_line.specs.declared.tasks.CommandName.TheVariants as named
 use Rattle.command_line.specs.declared.tasks.Task.{Task as CodeTask}
 use Rattle.command_line.specs.declared.tasks.Task.TheVariants as code
 use Rattle.command_line.specs.declared.tasks.Command.{Command}
-use Rattle.command_line.specs.declared.tasks.Command.TheVariants.{Help, Version, Run}
-use Rattle.command_line.specs.Words.{Options, Task, parse, generate, types, expand, check, self_test, scope, batch, transfer, Form, help, version, run, IsForm}
+use Rattle.command_line.specs.declared.tasks.Command.TheVariants.{Help, HelpOn, Version, Run}
+use Rattle.command_line.specs.Words.{Options, Task, parse, generate, types, expand, check, self_test, scope, batch, transfer, command_in, Form, help, help_on, version, run, IsForm}
 
 -- the options that options of the program stand for
 abbrev pub options_in : CodeOptions → Options
@@ -29,24 +28,14 @@ task (code.Transfer rules) = transfer rules.now
 -- the form that a command of the program stands for
 abbrev pub form : Command → Form
 form Help = help
+form (HelpOn command) = help_on command
 form Version = version
 form (Run t options) = run (task t) (options_in options)
-
--- the command of a task
-abbrev pub command_in : Task → CommandName
-command_in (parse grammar) = named.Parse
-command_in (generate grammar) = named.Generate
-command_in (types grammar) = named.Types
-command_in (expand grammar entry) = named.Expand
-command_in (check grammar) = named.Check
-command_in (self_test number size) = named.SelfTest
-command_in scope = named.Scope
-command_in (batch grammar profile) = named.Batch
-command_in (transfer rules) = named.Transfer
 
 -- the form's command, where it has one, is among these
 abbrev pub IsAmong : List CommandName → Form → Type 0
 IsAmong commands (run task options) = Contains commands (command_in task)
+IsAmong commands (help_on command) = Contains commands command
 IsAmong commands other = Unit {0}
 
 -- The words are of this form in a program that has these commands alone.

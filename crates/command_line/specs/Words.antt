@@ -1,8 +1,10 @@
 -- The forms of the command line.
-use Rattle.std.specs.Prelude.{◌≡◌, ℕ, ◌≤◌, List, [], ◌∷◌, ◌++◌, Option, None, Some, Bool, true, false, not, ◌==◌, codes, is_some, if◌then◌else◌}
+use Rattle.std.specs.Prelude.{◌≡◌, ◌⊎◌, ℕ, ◌≤◌, List, [], ◌∷◌, ◌++◌, Option, None, Some, Bool, true, false, not, ◌==◌, codes, is_some, if◌then◌else◌}
 use Rattle.std.specs.Option.{option_map_or}
 use Rattle.std.specs.Str.{bytes_eq}
 use Rattle.std.specs.Str.Parse.{IsNumeral, digits_value, without_leading_plus}
+use Rattle.command_line.specs.declared.tasks.CommandName.{CommandName}
+use Rattle.command_line.specs.declared.tasks.CommandName.TheVariants as named
 
 -- a word that names something: it isn't empty and doesn't begin with `-`
 abbrev pub is_name : List ℕ → Bool
@@ -170,17 +172,33 @@ pub data Task : Type 0 where
   batch : (grammar profile : List ℕ) → Task
   transfer : (rules : List ℕ) → Task
 
--- the command's word
+-- the command of a task
+abbrev pub command_in : Task → CommandName
+command_in (parse grammar) = named.Parse
+command_in (generate grammar) = named.Generate
+command_in (types grammar) = named.Types
+command_in (expand grammar entry) = named.Expand
+command_in (check grammar) = named.Check
+command_in (self_test number size) = named.SelfTest
+command_in scope = named.Scope
+command_in (batch grammar profile) = named.Batch
+command_in (transfer rules) = named.Transfer
+
+-- the word of a command
+abbrev pub name_word : CommandName → List ℕ
+name_word named.Parse = codes "parse"
+name_word named.Generate = codes "generate"
+name_word named.Types = codes "types"
+name_word named.Expand = codes "expand"
+name_word named.Check = codes "check"
+name_word named.SelfTest = codes "self-test"
+name_word named.Scope = codes "scope"
+name_word named.Batch = codes "batch"
+name_word named.Transfer = codes "transfer"
+
+-- the word of a task's command
 abbrev pub command_word : Task → List ℕ
-command_word (parse grammar) = codes "parse"
-command_word (generate grammar) = codes "generate"
-command_word (types grammar) = codes "types"
-command_word (expand grammar entry) = codes "expand"
-command_word (check grammar) = codes "check"
-command_word (self_test number size) = codes "self-test"
-command_word scope = codes "scope"
-command_word (batch grammar profile) = codes "batch"
-command_word (transfer rules) = codes "transfer"
+command_word task = name_word (command_in task)
 
 -- the places of its positional words
 abbrev pub places_of : Task → List Value
@@ -205,12 +223,19 @@ HasNames (transfer rules) names = names ≡ rules ∷ []
 -- What the words of a command line ask for.
 pub data Form : Type 0 where
   help : Form
+  help_on : (command : CommandName) → Form
   version : Form
   run : (task : Task) (options : Options) → Form
 
--- The words are of this form. The first word is the command's, and every command takes every option.
+-- The word asks for help.
+abbrev pub IsHelpFlag : List ℕ → Type 0
+IsHelpFlag word = (word ≡ codes "--help") ⊎ (word ≡ codes "-h")
+
+-- The words are of this form. Help on a command is asked for after its word, or before it by `help`. The words of a run begin with the
+-- command's, and every command takes every option.
 abbrev pub IsForm : List (List ℕ) → Form → Type 0
-IsForm words help = words ≡ codes "--help" ∷ []
+IsForm words help = (word : List ℕ) × (words ≡ word ∷ []) × (IsHelpFlag word ⊎ (word ≡ codes "help"))
+IsForm words (help_on command) = ((word : List ℕ) × (words ≡ name_word command ∷ word ∷ []) × IsHelpFlag word) ⊎ (words ≡ codes "help" ∷ name_word command ∷ [])
 IsForm words version = words ≡ codes "--version" ∷ []
 IsForm words (run task options) = (rest : List (List ℕ)) × (names : List (List ℕ)) × (words ≡ command_word task ∷ rest) × AreArguments (places_of task) rest names options × HasNames task names
 

@@ -50,7 +50,8 @@ pub enum Task<'a> {
 }
 
 impl Task<'_> {
-    ghost use Rattle.command_line.specs.Commands.{task, command_in};
+    ghost use Rattle.command_line.specs.Commands.{task};
+    ghost use Rattle.command_line.specs.Words.{command_in};
 
     /// The command whose task this is.
     pub fn command(&self) -> CommandName
@@ -73,8 +74,10 @@ impl Task<'_> {
 /// What the words of the command line ask for.
 #[derive(Clone, Copy, Debug, PartialEq, Eq)]
 pub enum Command<'a> {
-    /// The usage text: the words are `--help` alone.
+    /// Help: the words are `--help`, `-h` or `help` alone.
     Help,
+    /// Help on a command: the words are its word and `--help` or `-h`, or `help` and its word.
+    HelpOn(CommandName),
     /// The version: the words are `--version` alone.
     Version,
     /// A command with its options.

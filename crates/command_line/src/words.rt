@@ -1,11 +1,12 @@
 //! The command that words ask for.
-ghost use Rattle.std.specs.Prelude.{◌≡◌, ◌↔◌, IsTrue, ◌<◌, ◌^◌, IfOk, IfErr, map, string_bytes, true, ◌∷◌, option_map};
+ghost use Rattle.std.specs.Prelude.{◌≡◌, ◌↔◌, IsTrue, ◌<◌, ◌^◌, IfOk, IfErr, MatchOption, map, string_bytes, true, ◌∷◌, option_map};
 ghost use Rattle.std.specs.List.{list_all};
 ghost use Rattle.std.specs.Str.Parse.{IsNumeral, without_leading_plus};
-ghost use Rattle.command_line.specs.Words.{Form, IsForm, FillPlaces, is_name, number_of, run, Task as TaskOf, Options as OptionsOf};
+ghost use Rattle.command_line.specs.Words.{Form, IsForm, FillPlaces, is_name, number_of, name_word, run, help_on, Task as TaskOf, Options as OptionsOf};
 ghost use Rattle.command_line.specs.Commands.{form, task, IsAmong, IsFormAmong};
-ghost use Rattle.command_line.specs.Inner.Reading.{task_by, is_option_word, is_word, command_named, places_by, places_in, names_in, alone_form};
+ghost use Rattle.command_line.specs.Inner.Reading.{task_by, is_option_word, is_word, command_named, places_by, places_in, names_in, is_help_flag, one_word_form, two_word_form, told_form};
 ghost use Rattle.command_line.specs.declared.reading.WordsFault.{WordsFault};
+ghost use Rattle.command_line.specs.declared.tasks.CommandName.{CommandName};
 
 use crate::laws::one_form;
 use crate::reading::{Arguments, Places, WordsFault, read_arguments};
@@ -84,6 +85,13 @@ fn command_named(word: &str) -> Option<CommandName>
 }
 
 impl CommandName {
+    /// The command that goes by this word.
+    pub fn named(word: &str) -> Option<CommandName>
+        ensures { MatchOption result ((c : CommandName) → word.now ≡ name_word c → ⊥) (λ c. word.now ≡ name_word c) }
+    {
+        command_named(word)
+    }
+
     // The places of the command's positional words.
     fn places(&self) -> Places
         ensures { result ≡ places_by self.now }
@@ -146,33 +154,69 @@ fn command_by<'a>(alloc: Global, word: &str, words: &'a [String]) -> Result<Comm
     }
 }
 
-// The form that has one word alone.
-fn alone(words: &[String]) -> Option<Command<'_>>
-    ensures { option_map form result ≡ alone_form (map (λ w. string_bytes w) words.now) }
+// Whether the word asks for help.
+fn is_help_flag(word: &str) -> bool
+    ensures { result ≡ is_help_flag word.now }
+{
+    word == "--help" || word == "-h"
+}
+
+// The form that one word has.
+fn of_one<'a>(word: &str) -> Option<Command<'a>>
+    ensures { option_map form result ≡ one_word_form word.now }
+{
+    if is_help_flag(word) || word == "help" {
+        Some(Command::Help)
+    } else if word == "--version" {
+        Some(Command::Version)
+    } else {
+        None
+    }
+}
+
+// Help on the command of this word.
+fn help_by<'a>(word: &str) -> Option<Command<'a>>
+    ensures { option_map form result ≡ option_map (λ c. help_on c) (command_named word.now) }
+{
+    match command_named(word) {
+        Some(name) => Some(Command::HelpOn(name)),
+        None => None,
+    }
+}
+
+// The form that two words have, where it is help on a command.
+fn of_two<'a>(first: &str, second: &str) -> Option<Command<'a>>
+    ensures { option_map form result ≡ two_word_form first.now second.now }
+{
+    if first == "help" {
+        help_by(second)
+    } else if is_help_flag(second) {
+        help_by(first)
+    } else {
+        None
+    }
+}
+
+// The form of help or of the version that the words have.
+fn told(words: &[String]) -> Option<Command<'_>>
+    ensures { option_map form result ≡ told_form (map (λ w. string_bytes w) words.now) }
 {
     match words {
-        [word] => {
-            if word.as_str() == "--help" {
-                Some(Command::Help)
-            } else if word.as_str() == "--version" {
-                Some(Command::Version)
-            } else {
-                None
-            }
-        }
+        [word] => of_one(word),
+        [first, second] => of_two(first, second),
         _ => None,
     }
 }
 
 /// The command of these words, which don't hold the program's name.
 ///
-/// The first word is a command, `--help` or `--version`, and the last two stand alone; positional words and options come
-/// after it in any order, each option once. Words of no form are `Usage`. Want of memory may be answered for any words.
+/// The first word is a command, and positional words and options come after it in any order, each option once; or the words ask
+/// for help (`--help`, `-h` or `help` alone, or with a command's word) or are `--version`. Words of no form are `Usage`. Want of memory may be answered for any words.
 pub fn command_of(alloc: Global, words: &[String]) -> Result<Command<'_>, WordsFault>
     ensures ok { IfOk result (λ c. IsForm (map (λ w. string_bytes w) words.now) (form c)) }
     ensures usage { IfErr result (λ e. e ≡ WordsFault.Usage → (f : Form) → IsForm (map (λ w. string_bytes w) words.now) f → ⊥) }
 {
-    if let Some(command) = alone(words) {
+    if let Some(command) = told(words) {
         return Ok(command);
     }
     match words {
@@ -187,11 +231,12 @@ fn is_among(commands: &[CommandName], command: &Command<'_>) -> bool
 {
     match command {
         Command::Help | Command::Version => true,
+        Command::HelpOn(name) => commands.contains(name),
         Command::Run(task, _) => commands.contains(&task.command()),
     }
 }
 
-/// The command of these words where it is one of `commands`, or `--help` or `--version`; words of any other are `Usage`.
+/// The command of these words where it is one of `commands`, or help or the version; words of any other are `Usage`.
 ///
 /// A program that hasn't each command yet names those that it has, here alone.
 pub fn command_among<'a>(

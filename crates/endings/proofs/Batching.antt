@@ -1,24 +1,23 @@
 -- What a batch of lines adds to a run.
-use Rattle.std.proofs.Common.{zero, suc, map, get_or, take, drop, ◌<◌, ◌*◌, ◌/◌, ◌%◌, min, ⊎_elim, add-one, ◌≡◌, ℕ, ◌≤◌, ◌+◌, ◌∙◌, sym, ap, refl, List, [], ◌∷◌, ◌++◌, length, Option, None, Some, append_assoc, append-nil, arith, subst, true, false, Bool, ◌||◌, ◌==◌, inl, inr, Ok, Err, Result}
+use Rattle.std.proofs.Common.{zero, suc, map, take, drop, ◌<◌, ◌*◌, ◌/◌, ◌%◌, min, ⊎_elim, add-one, ◌≡◌, ℕ, ◌≤◌, ◌+◌, ◌∙◌, sym, ap, refl, List, [], ◌∷◌, ◌++◌, length, Option, None, Some, append_assoc, append-nil, arith, false, Bool, ◌||◌, inl, inr, Ok, Err, Result}
 use native.Mathlib.Nat.{suc-mul, add-mul, one-mul}
 use Rattle.std.specs.List.{concat}
 use Rattle.std.proofs.lemmas.Bool.{cases_lt}
-use Rattle.std.proofs.lemmas.Bool.Decides.{Decides-eqb}
 use Rattle.std.proofs.lemmas.Nat.{div-add-mod', mod_below}
 use Rattle.std.proofs.lemmas.List.Folds.{concat-append}
 use Rattle.lkb_io.specs.declared.lines.LineFault.{LineFault}
 use Rattle.lkb_io.specs.declared.lines.LineFault.TheVariants.{Failed, TooLong, NoMemory}
-use Rattle.lkb_io.specs.Outside.{HasRisen, Takes, Adds, IsAtEnd}
+use Rattle.lkb_io.specs.Outside.{HasRisen, Takes, Adds, AddsFront, IsAtEnd}
 use Rattle.lkb_io.specs.Lines.{IsTooLong, HasNoEnd, Kept}
 use Rattle.lkb_io.proofs.Told.{Adds-more}
 use Rattle.endings.specs.declared.Stop.{Stop}
-use Rattle.endings.specs.declared.Stop.TheVariants.{Read, TooLong as TooLongStop, TooMany, Write, NoMemory as NoMemoryStop}
+use Rattle.endings.specs.declared.Stop.TheVariants.{Read, TooLong as TooLongStop, TooMany, Write, Gaps, NoMemory as NoMemoryStop}
 use Rattle.endings.specs.Stops.{stop_of}
 use Rattle.endings.specs.Readings.{ReadsPart, ReadsAll, Reads}
-use Rattle.endings.specs.Reports.{AreAnswers, no_line, Streams, Served, ServedLine}
-use Rattle.endings.specs.Inner.Batches.{Gathered, ReadsSome}
+use Rattle.endings.specs.Reports.{Streams, IsServedInPart}
+use Rattle.endings.specs.Inner.Batches.{Gathered, ReadsSome, AreTold, ServedBatch, IsFlag, Ends, Told}
 use Rattle.endings.proofs.Reading.{part-held, so_far-either}
-use Rattle.endings.proofs.Exits.{AreAnswers-append, AreAnswers-more, at-nothing}
+use Rattle.endings.proofs.ToldLines.{AreTold-append}
 
 rest-nil : (xs ys : List ℕ) → xs ++ ys ≡ [] → ys ≡ []
 rest-nil [] ys e = e
@@ -66,7 +65,7 @@ gathered-later X Y old new faults_old mid faults_new held lines NoMemory le h = 
 
 -- the answers before a fault of reading were written
 pub at-read : (X : Type 0) (reports : List (List ℕ) → List (List ℕ) → Bool → Type 0) (o : Streams) (mid_in : ℕ) (held : Kept) (fault : LineFault) (lines pieces : List (List ℕ)) (refused : Bool)
-    → Gathered {X = X} o.left_old o.left_new mid_in o.in_new held lines (Err fault) → reports lines pieces refused → Adds o.written_old o.written_new (concat pieces) → o.in_old ≤ mid_in → Served reports o (Err (stop_of fault))
+    → Gathered {X = X} o.left_old o.left_new mid_in o.in_new held lines (Err fault) → reports lines pieces refused → Adds o.written_old o.written_new (concat pieces) → o.in_old ≤ mid_in → Ends reports o (Err (stop_of fault))
 at-read X reports o mid_in held Failed lines pieces refused h report w le =
     (record { lines = lines; part = held.bytes; pieces = pieces; refused = refused; reads = h.0; report = report; writes = w }, h.1, (let r = h.2 in omega (arith, r, le)))
 at-read X reports o mid_in held TooLong lines pieces refused h report w le =
@@ -74,29 +73,38 @@ at-read X reports o mid_in held TooLong lines pieces refused h report w le =
 at-read X reports o mid_in held NoMemory lines pieces refused h report w le =
     record { lines = lines; part = h.0; pieces = pieces; refused = refused; reads = h.1; report = report; writes = (concat pieces, ([], append-nil _), w) }
 
+-- a front of what is told of a batch was written, after what was told of the lines before
+in-part : (answers : ℕ → List ℕ → List (List ℕ) → Bool → Type 0) (o : Streams) (mid : Option (List ℕ)) (batch lines pieces : List (List ℕ)) (refused wanting : Bool) (n : ℕ)
+    → ReadsSome o.left_old o.left_new (lines ++ batch) → AreTold answers 1 lines pieces refused wanting → Adds o.written_old mid (concat pieces)
+    → (own : List (List ℕ)) (later lacking : Bool) → AreTold answers n batch own later lacking → AddsFront mid o.written_new (concat own) → n ≡ 1 + length lines
+    → IsServedInPart (Told answers (wanting || lacking)) o
+in-part answers o mid batch lines pieces refused wanting n read report w own later lacking told front e = record {
+  lines = lines ++ batch;
+  part = read.0;
+  pieces = pieces ++ own;
+  refused = refused || later;
+  reads = read.1;
+  report = AreTold-append answers 1 lines pieces refused wanting n batch own later lacking report e told;
+  writes = (concat pieces ++ front.0, (front.1.0, append_assoc (concat pieces) front.0 front.1.0 ∙ ap (λ t. concat pieces ++ t) front.1.1 ∙ sym (concat-append pieces own)), Adds-more o.written_old mid o.written_new (concat pieces) front.0 w front.2);
+}
+
 -- the answer to a batch stopped
-pub at-batch : (answers : ℕ → List ℕ → List (List ℕ) → Bool → Type 0) (o : Streams) (mid : Option (List ℕ)) (mid_out : ℕ) (stop : Stop) (batch lines pieces : List (List ℕ)) (refused : Bool) (n : ℕ)
-    → ReadsSome o.left_old o.left_new (lines ++ batch) → ReadsSome o.left_old o.left_new lines → AreAnswers answers 1 lines pieces refused → Adds o.written_old mid (concat pieces)
-    → ServedLine (AreAnswers answers n batch) mid o.written_new mid_out o.out_new (Err stop) → n ≡ 1 + length lines → o.out_old ≤ mid_out → Served (AreAnswers answers 1) o (Err stop)
-at-batch answers o mid mid_out Read batch lines pieces refused n read was report w served e le = absurd served
-at-batch answers o mid mid_out TooLongStop batch lines pieces refused n read was report w served e le = absurd served
-at-batch answers o mid mid_out TooMany batch lines pieces refused n read was report w served e le = absurd served
-at-batch answers o mid mid_out NoMemoryStop batch lines pieces refused n read was report w served e le =
-    at-nothing (AreAnswers answers 1) o mid was.0 lines pieces refused was.1 report w served
-at-batch answers o mid mid_out Write batch lines pieces refused n read was report w served e le =
-    let own = served.0 in
-    let front = served.3 in
-    let risen = served.4 in (
-      record {
-        lines = lines ++ batch;
-        part = read.0;
-        pieces = pieces ++ own;
-        refused = refused || served.1;
-        reads = read.1;
-        report = AreAnswers-append answers 1 lines pieces refused n batch own served.1 report e served.2;
-        writes = (concat pieces ++ front.0, (front.1.0, append_assoc (concat pieces) front.0 front.1.0 ∙ ap (λ t. concat pieces ++ t) front.1.1 ∙ sym (concat-append pieces own)), Adds-more o.written_old mid o.written_new (concat pieces) front.0 w front.2);
-      },
-      omega (arith, risen, le),
+pub at-batch : (answers : ℕ → List ℕ → List (List ℕ) → Bool → Type 0) (o : Streams) (mid : Option (List ℕ)) (mid_out : ℕ) (stop : Stop) (batch lines pieces : List (List ℕ)) (refused wanting before later : Bool) (n : ℕ)
+    → ReadsSome o.left_old o.left_new (lines ++ batch) → AreTold answers 1 lines pieces refused wanting → before ≡ wanting → Adds o.written_old mid (concat pieces)
+    → ServedBatch answers n batch mid o.written_new mid_out o.out_new before later (Err stop) → n ≡ 1 + length lines → o.out_old ≤ mid_out
+    → (w : Bool) × IsFlag {X = Bool} (Err stop) false w later × Ends (Told answers w) o (Err stop)
+at-batch answers o mid mid_out Read batch lines pieces refused wanting before later n read report was w served e le = absurd served.5
+at-batch answers o mid mid_out TooLongStop batch lines pieces refused wanting before later n read report was w served e le = absurd served.5
+at-batch answers o mid mid_out TooMany batch lines pieces refused wanting before later n read report was w served e le = absurd served.5
+at-batch answers o mid mid_out Gaps batch lines pieces refused wanting before later n read report was w served e le = absurd served.5
+at-batch answers o mid mid_out NoMemoryStop batch lines pieces refused wanting before later n read report was w served e le =
+    (wanting || served.2, cc, in-part answers o mid batch lines pieces refused wanting n read report w served.0 served.1 served.2 served.3 served.5 e)
+at-batch answers o mid mid_out Write batch lines pieces refused wanting before later n read report was w served e le =
+    let front = served.5.0 in
+    let risen = served.5.1 in (
+      wanting || served.2,
+      served.4 ∙ ap (λ b. b || served.2) was,
+      (in-part answers o mid batch lines pieces refused wanting n read report w served.0 served.1 served.2 served.3 front e, omega (arith, risen, le)),
     )
 
 -- the first of a list that are as many as it has, or more
@@ -105,24 +113,6 @@ take-whole f [] zero h = refl
 take-whole f [] (suc i) h = refl
 take-whole f (x ∷ xs) zero h = absurd (omega (arith, h))
 take-whole f (x ∷ xs) (suc i) h = ap (λ t. f x ∷ t) (take-whole f xs i (omega (arith, h)))
-
--- the answers by other names
-pub answers-as : (answers : ℕ → List ℕ → List (List ℕ) → Bool → Type 0) (n : ℕ) (lines lines_new pieces pieces_new : List (List ℕ)) (refused refused_new : Bool) → lines ≡ lines_new → pieces ≡ pieces_new → refused ≡ refused_new
-    → AreAnswers answers n lines pieces refused → AreAnswers answers n lines_new pieces_new refused_new
-answers-as answers n lines lines_new pieces pieces_new refused refused_new e f h a =
-    subst (λ b. AreAnswers answers n lines_new pieces_new b) h (subst (λ p. AreAnswers answers n lines_new p refused) f (subst (λ l. AreAnswers answers n l pieces refused) e a))
-
--- the answer to a line that stands alone
-pub answers-one : {X : Type 0} (answers : ℕ → List ℕ → List (List ℕ) → Bool → Type 0) (n : ℕ) (f : X → List ℕ) (xs : List X) (d : X) (line : List ℕ) (own : List (List ℕ)) (refused : Bool) → length xs ≡ 1 → line ≡ f (get_or xs 0 d)
-    → answers n line own refused → AreAnswers answers n (map f xs) own refused
-answers-one answers n f [] d line own refused h e a = absurd (omega (arith, h))
-answers-one answers n f (x ∷ []) d line own refused h e a = AreAnswers-more answers n [] [] false n (f x) own refused (no_line n) (omega arith) (subst (λ l. answers n l own refused) e a)
-answers-one answers n f (x ∷ y ∷ xs) d line own refused h e a = absurd (omega (arith, h))
-
--- no line has no answer
-pub answers-none : {X : Type 0} (answers : ℕ → List ℕ → List (List ℕ) → Bool → Type 0) (n : ℕ) (f : X → List ℕ) (xs : List X) (own : List (List ℕ)) (refused : Bool) → (length xs == 0) ≡ true → own ≡ [] → refused ≡ false → AreAnswers answers n (map f xs) own refused
-answers-none answers n f [] own refused h e k = answers-as answers n [] [] [] own false refused refl (sym e) (sym k) (no_line n)
-answers-none answers n f (x ∷ xs) own refused h e k = let z : length (x ∷ xs) ≡ 0 = (Decides-eqb (length (x ∷ xs)) 0).0 h in absurd (omega (arith, z))
 
 take-mapped : {X : Type 0} (f : X → List ℕ) (s : ℕ) (xs : List X) → take s (map f xs) ≡ map f (take s xs)
 take-mapped f zero xs = refl

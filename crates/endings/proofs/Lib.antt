@@ -6,4 +6,5 @@ pub mod Clauses
 pub mod Making
 pub mod Flushing
 pub mod Batching
-pub mod Joined
+pub mod ToldLines
+pub mod Served

@@ -4,22 +4,24 @@ use Rattle.std.specs.List.{concat}
 use Rattle.lkb_io.specs.Outside.{HasRisen, IsAtEnd, Adds, AddsFront}
 use Rattle.lkb_io.specs.Lines.{HasNoEnd, IsTooLong, lines_of}
 use Rattle.endings.specs.declared.Stop.{Stop}
-use Rattle.endings.specs.declared.Stop.TheVariants.{Read, TooLong, TooMany, Write, NoMemory}
+use Rattle.endings.specs.declared.Stop.TheVariants.{Read, TooLong, TooMany, Write, Gaps, NoMemory}
 use Rattle.endings.specs.declared.Fault.{Fault}
 use Rattle.endings.specs.declared.Fault.TheVariants.{Usage, Files as FilesFault, Stopped}
 use Rattle.endings.specs.declared.Status.{Status}
-use Rattle.endings.specs.declared.Status.TheVariants.{Done, Items, Usage as UsageStatus, Grammar as GrammarStatus, ReadFault, WriteFault, NoMemory as NoMemoryStatus}
+use Rattle.endings.specs.declared.Status.TheVariants.{Done, Items, Usage as UsageStatus, Grammar as GrammarStatus, ReadFault, WriteFault, Gaps as GapsStatus, NoMemory as NoMemoryStatus}
 use Rattle.endings.specs.Meanings.{Meaning, Shelves, FileFault, Fails}
 use Rattle.endings.specs.declared.pieces.Report.{Report}
+use Rattle.endings.specs.declared.commands.ItemsReport.{ItemsReport}
+use Rattle.endings.specs.declared.commands.ItemsReport.TheVariants.{AllAnswered, WithGaps}
 use Rattle.endings.specs.Reports.{Streams, output_of, Served, IsServedTo, IsServedToLast, IsServedInPart, Said, IsSaidInPart}
 
 -- How a command ends that met no fault of its files. `idle` says that the source is as it was.
-abbrev pub Runs : Bool → (List (List ℕ) → List (List ℕ) → Bool → Type 0) → Streams → (idle : Type 0) → Result Bool Stop → Type 0
-Runs true reports o idle end = Served reports o end
-Runs false reports o idle end = Said reports (output_of o) end × idle
+abbrev pub Runs : Bool → (reports gaps : List (List ℕ) → List (List ℕ) → Bool → Type 0) → Streams → (idle : Type 0) → Result Bool Stop → Type 0
+Runs true reports gaps o idle end = Served reports gaps o end
+Runs false reports gaps o idle end = Said reports gaps (output_of o) end × idle
 
 abbrev pub Ran : Meaning → Shelves → Streams → (idle : Type 0) → Result Bool Stop → Type 0
-Ran m h o idle end = Runs m.reads (m.report h.files) o idle end
+Ran m h o idle end = Runs m.reads (m.report h.files) (m.with_gaps h.files) o idle end
 
 -- A front of the command's report was written, over lines that were read where it reads any.
 abbrev pub RunsInPart : Bool → (List (List ℕ) → List (List ℕ) → Bool → Type 0) → Streams → Type 0
@@ -28,6 +30,10 @@ RunsInPart false reports o = IsSaidInPart reports (output_of o)
 
 abbrev pub RanInPart : Meaning → Shelves → Streams → Type 0
 RanInPart m h o = RunsInPart m.reads (m.report h.files) o
+
+-- The same of the report in which memory may have been wanting for items.
+abbrev pub RanWithGaps : Meaning → Shelves → Streams → Type 0
+RanWithGaps m h o = RunsInPart m.reads (m.with_gaps h.files) o
 
 -- The command reads lines, and the source failed, or 65,536 bytes came without a line end, or 2^64 - 1 lines came; exactly the report
 -- over the lines before was written.
@@ -47,7 +53,7 @@ IsReadThrough m left = m.reads ≡ true → IsAtEnd left
 -- How a run of a command ends. `untouched` says that source and sink are as they were.
 abbrev pub Ended : Meaning → Shelves → Streams → (idle untouched : Type 0) → Result Bool Fault → Type 0
 Ended m h o idle untouched (Ok refused) = Ran m h o idle (Ok refused)
-Ended m h o idle untouched (Err Usage) = ⊥
+Ended m h o idle untouched (Err (Usage text)) = ⊥
 Ended m h o idle untouched (Err (FilesFault text)) = (fault : FileFault) × Fails m h fault × (text.items ≡ fault.text) × untouched
 Ended m h o idle untouched (Err (Stopped NoMemory)) = untouched ⊎ Ran m h o idle (Err NoMemory)
 Ended m h o idle untouched (Err (Stopped stop)) = Ran m h o idle (Err stop)
@@ -56,12 +62,13 @@ Ended m h o idle untouched (Err (Stopped stop)) = Ran m h o idle (Err stop)
 abbrev pub status_of : Result Bool Fault → Status
 status_of (Ok false) = Done
 status_of (Ok true) = Items
-status_of (Err Usage) = UsageStatus
+status_of (Err (Usage text)) = UsageStatus
 status_of (Err (FilesFault text)) = GrammarStatus
 status_of (Err (Stopped Read)) = ReadFault
 status_of (Err (Stopped TooLong)) = ReadFault
 status_of (Err (Stopped TooMany)) = ReadFault
 status_of (Err (Stopped Write)) = WriteFault
+status_of (Err (Stopped Gaps)) = GapsStatus
 status_of (Err (Stopped NoMemory)) = NoMemoryStatus
 
 -- the number by which a status goes out
@@ -72,6 +79,7 @@ code_of GrammarStatus = 3
 code_of Items = 4
 code_of ReadFault = 5
 code_of WriteFault = 6
+code_of GapsStatus = 7
 code_of NoMemoryStatus = 7
 
 -- whether the status says that something is refused
@@ -82,21 +90,30 @@ is_items other = false
 abbrev pub usage_line : List ℕ
 usage_line = codes "usage: lkb parse|generate|types|check GRAMMAR, lkb expand GRAMMAR NAME, lkb self-test NUMBER SIZE, lkb scope, lkb batch GRAMMAR PROFILE, lkb transfer RULES, with options" ++ 10 ∷ []
 
+-- what is told of a word that is outside the form
+abbrev pub word_text : Result Bool Fault → List ℕ
+word_text (Err (Usage text)) = text.items
+word_text other = []
+
 -- what is told of each end
 abbrev pub fault_text : Result Bool Fault → List ℕ
 fault_text (Ok refused) = []
-fault_text (Err Usage) = usage_line
+fault_text (Err (Usage text)) = usage_line ++ text.items
 fault_text (Err (FilesFault text)) = text.items
 fault_text (Err (Stopped Read)) = codes "lkb: read fault" ++ 10 ∷ []
 fault_text (Err (Stopped TooLong)) = codes "lkb: line too long" ++ 10 ∷ []
 fault_text (Err (Stopped TooMany)) = codes "lkb: read fault" ++ 10 ∷ []
 fault_text (Err (Stopped Write)) = codes "lkb: write fault" ++ 10 ∷ []
+fault_text (Err (Stopped Gaps)) = codes "lkb: no memory" ++ 10 ∷ []
 fault_text (Err (Stopped NoMemory)) = codes "lkb: no memory" ++ 10 ∷ []
 
--- Memory was wanting, or the whole report over the lines of these bytes was written, and the status says whether something is refused.
+-- The whole report over the lines of these bytes was written, and the status says whether something is refused; or memory was wanting for some
+-- of its items, and the whole report was written in which these are told; or memory was wanting elsewhere.
 abbrev pub IsWhole : Meaning → Shelves → Streams → List ℕ → Status → Type 0
-IsWhole m h o bytes status = (status ≡ NoMemoryStatus) ⊎ ((pieces : List (List ℕ)) × (refused : Bool) × m.report h.files (lines_of bytes) pieces refused
-    × Adds o.written_old o.written_new (concat pieces) × (status ≡ status_of (Ok refused)))
+IsWhole m h o bytes status = (status ≡ NoMemoryStatus)
+    ⊎ (((status ≡ GapsStatus) × (pieces : List (List ℕ)) × m.with_gaps h.files (lines_of bytes) pieces true × Adds o.written_old o.written_new (concat pieces))
+    ⊎ ((pieces : List (List ℕ)) × (refused : Bool) × m.report h.files (lines_of bytes) pieces refused
+    × Adds o.written_old o.written_new (concat pieces) × (status ≡ status_of (Ok refused))))
 
 -- A front of the text was written to the error stream, and the whole of it where no fault of that stream was counted.
 abbrev pub Tells : Option (List ℕ) → Option (List ℕ) → ℕ → ℕ → List ℕ → Type 0
@@ -116,3 +133,11 @@ Comes good m h (Err fault) = NotCome m h fault
 -- The whole report of a command, whatever the lines of the input are.
 abbrev pub Made : Meaning → Shelves → Result Report Fault → Type 0
 Made m h = Comes (λ r. (lines : List (List ℕ)) → m.report h.files lines (map (λ l. l.items) r.lines.items) r.refused) m h
+
+-- The whole report of a command with items, or where memory was wanting for some of them the one in which these are told.
+abbrev pub IsReportOn : Meaning → Shelves → ItemsReport → List (List ℕ) → Type 0
+IsReportOn m h (AllAnswered r) lines = m.report h.files lines (map (λ l. l.items) r.lines.items) r.refused
+IsReportOn m h (WithGaps gapped) lines = m.with_gaps h.files lines (map (λ l. l.items) gapped.items) true
+
+abbrev pub MadeOfItems : Meaning → Shelves → Result ItemsReport Fault → Type 0
+MadeOfItems m h = Comes (λ r. (lines : List (List ℕ)) → IsReportOn m h r lines) m h

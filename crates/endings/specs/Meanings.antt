@@ -24,6 +24,12 @@ pub record Meaning : Type 1 where
   pub first : Files → (List ℕ → Bool) → FileFault → Type 0
   -- the report over lines: the report lines, each with its end, and whether the status tells of a refusal
   pub report : Files → List (List ℕ) → List (List ℕ) → Bool → Type 0
+  -- the same report where memory may have been wanting for some of its items: they are told to be so, and whether there is one
+  pub with_gaps : Files → List (List ℕ) → List (List ℕ) → Bool → Type 0
+
+-- what a command without items has for a report with gaps: there are none
+abbrev pub gapless : (Files → List (List ℕ) → List (List ℕ) → Bool → Type 0) → Files → List (List ℕ) → List (List ℕ) → Bool → Type 0
+gapless report files lines pieces wanting = (wanting ≡ false) × (refused : Bool) × report files lines pieces refused
 
 -- what the shelf tells of a run, before and after it
 pub record Shelves : Type 0 where
@@ -50,6 +56,9 @@ Fails m h fault = m.first h.files (has_failed h) fault × ((file : List ℕ) →
 -- What each command shows of its meaning: what has a report has no fault, and told files have one first fault, or none and one report.
 pub record Lawful (m : Meaning) : Type 0 where
   pub loads : (files : Files) (lines pieces : List (List ℕ)) (refused : Bool) → m.report files lines pieces refused → m.loadable files
+  pub gaps_load : (files : Files) (lines pieces : List (List ℕ)) (wanting : Bool) → m.with_gaps files lines pieces wanting → m.loadable files
+  -- a report with gaps that has none is the report
+  pub no_gap : (files : Files) (lines pieces : List (List ℕ)) → m.with_gaps files lines pieces false → (refused : Bool) × m.report files lines pieces refused
   pub one_first : (files : List ℕ → Option (List ℕ)) (f g : FileFault) → m.first (Some files) (λ name. false) f → m.first (Some files) (λ name. false) g → f.text ≡ g.text
   pub not_both : (files : List ℕ → Option (List ℕ)) (f : FileFault) → m.loadable (Some files) → m.first (Some files) (λ name. false) f → ⊥
   -- where the files are told, the report and the refusal depend on the files and the lines alone

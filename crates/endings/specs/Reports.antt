@@ -1,10 +1,11 @@
 -- The report over lines, and how a run over lines ends.
-use Rattle.std.specs.Prelude.{◌≡◌, ℕ, ◌<◌, ◌≤◌, ◌^◌, ◌-◌, List, [], ◌∷◌, ◌++◌, length, Option, Bool, false, ◌||◌, suc, Result, Ok, Err}
+use Rattle.std.specs.Prelude.{◌≡◌, ℕ, ◌<◌, ◌≤◌, ◌^◌, ◌-◌, List, [], ◌∷◌, ◌++◌, length, codes, Option, Bool, true, false, ◌||◌, suc, Result, Ok, Err}
+use Rattle.std.specs.Fmt.{decimal}
 use Rattle.std.specs.List.{concat}
 use Rattle.lkb_io.specs.Outside.{HasRisen, Adds, AddsFront}
 use Rattle.lkb_io.specs.Lines.{HasNoEnd, IsTooLong}
 use Rattle.endings.specs.declared.Stop.{Stop}
-use Rattle.endings.specs.declared.Stop.TheVariants.{Read, TooLong, TooMany, Write, NoMemory}
+use Rattle.endings.specs.declared.Stop.TheVariants.{Read, TooLong, TooMany, Write, Gaps, NoMemory}
 use Rattle.endings.specs.Readings.{ReadsAll, ReadsPart, Reads}
 
 -- The reports of lines that are numbered from here on, one after the other, and whether a line is refused.
@@ -13,6 +14,15 @@ pub data AreAnswers (answers : ℕ → List ℕ → List (List ℕ) → Bool →
   no_line : (n : ℕ) → AreAnswers answers n [] [] false
   a_line : (n : ℕ) (line : List ℕ) (lines own rest : List (List ℕ)) (refused later : Bool) → answers n line own refused
       → AreAnswers answers (suc n) lines rest later → AreAnswers answers n (line ∷ lines) (own ++ rest) (refused || later)
+
+-- `item N no-memory`: the line of an item for which memory was wanting
+abbrev pub no_memory_line : ℕ → List ℕ
+no_memory_line number = codes "item " ++ decimal number ++ codes " no-memory" ++ 10 ∷ []
+
+-- What stands in place of an answer where memory may have been wanting: the answer, or the line that tells it. The flag says whether it was.
+pub data OrNoMemory (answers : ℕ → List ℕ → List (List ℕ) → Bool → Type 0) (n : ℕ) (line : List ℕ) : List (List ℕ) → Bool → Type 0 where
+  answered : (own : List (List ℕ)) (refused : Bool) → answers n line own refused → OrNoMemory answers n line own false
+  no_memory : OrNoMemory answers n line (no_memory_line n ∷ []) true
 
 -- what the streams tell of a run, before and after it
 pub record Streams : Type 0 where
@@ -48,7 +58,8 @@ abbrev pub IsPut : {X Y : Type 0} → List ℕ → Output → Result X Y → Typ
 IsPut text p (Ok x) = Adds p.written_old p.written_new text × (p.faults_old ≤ p.faults_new)
 IsPut text p (Err y) = AddsFront p.written_old p.written_new text × (p.faults_old ≤ p.faults_new) × HasRisen p.faults_old p.faults_new
 
--- In what follows `reports` says what the report over lines is: the report lines, and whether a line is refused.
+-- In what follows `reports` says what the report over lines is: the report lines, and whether a line is refused; and `gaps` what it is where
+-- memory may have been wanting for items, and whether it was.
 
 -- All lines were read, and their whole report was written and flushed.
 pub record IsServed (reports : List (List ℕ) → List (List ℕ) → Bool → Type 0) (o : Streams) (refused : Bool) : Type 0 where
@@ -91,21 +102,16 @@ pub record IsServedInPart (reports : List (List ℕ) → List (List ℕ) → Boo
   pub report : reports lines pieces refused
   pub writes : AddsFront o.written_old o.written_new (concat pieces)
 
--- How a run over lines ends.
-abbrev pub Served : (List (List ℕ) → List (List ℕ) → Bool → Type 0) → Streams → Result Bool Stop → Type 0
-Served reports o (Ok refused) = IsServed reports o refused
-Served reports o (Err Read) = (r : IsServedTo reports o) × HasNoEnd r.part × HasRisen o.in_old o.in_new
-Served reports o (Err TooLong) = (r : IsServedTo reports o) × IsTooLong r.part
-Served reports o (Err TooMany) = IsServedToLast reports o
-Served reports o (Err Write) = IsServedInPart reports o × HasRisen o.out_old o.out_new
-Served reports o (Err NoMemory) = IsServedInPart reports o
-
--- How the answer to one line ends: its whole report was written, or a front of it, or nothing.
-abbrev pub ServedLine : (List (List ℕ) → Bool → Type 0) → Option (List ℕ) → Option (List ℕ) → ℕ → ℕ → Result Bool Stop → Type 0
-ServedLine reports old new faults_old faults_new (Ok refused) = (pieces : List (List ℕ)) × reports pieces refused × Adds old new (concat pieces)
-ServedLine reports old new faults_old faults_new (Err Write) = (pieces : List (List ℕ)) × (refused : Bool) × reports pieces refused × AddsFront old new (concat pieces) × HasRisen faults_old faults_new
-ServedLine reports old new faults_old faults_new (Err NoMemory) = Adds old new []
-ServedLine reports old new faults_old faults_new (Err stop) = ⊥
+-- How a run over lines ends. Where memory was wanting for an item, a run that comes to its end ends so; one that is stopped later counts as
+-- stopped for want of memory.
+abbrev pub Served : (reports gaps : List (List ℕ) → List (List ℕ) → Bool → Type 0) → Streams → Result Bool Stop → Type 0
+Served reports gaps o (Ok refused) = IsServed reports o refused
+Served reports gaps o (Err Read) = (r : IsServedTo reports o) × HasNoEnd r.part × HasRisen o.in_old o.in_new
+Served reports gaps o (Err TooLong) = (r : IsServedTo reports o) × IsTooLong r.part
+Served reports gaps o (Err TooMany) = IsServedToLast reports o
+Served reports gaps o (Err Write) = IsServedInPart reports o × HasRisen o.out_old o.out_new
+Served reports gaps o (Err Gaps) = IsServed gaps o true
+Served reports gaps o (Err NoMemory) = IsServedInPart gaps o
 
 -- The whole report of a command that reads no lines was written and flushed.
 pub record IsSaid (reports : List (List ℕ) → List (List ℕ) → Bool → Type 0) (p : Output) (refused : Bool) : Type 0 where
@@ -123,12 +129,17 @@ pub record IsSaidInPart (reports : List (List ℕ) → List (List ℕ) → Bool 
   pub writes : AddsFront p.written_old p.written_new (concat pieces)
 
 -- How a report ends that is written without reading lines.
-abbrev pub Said : (List (List ℕ) → List (List ℕ) → Bool → Type 0) → Output → Result Bool Stop → Type 0
-Said reports p (Ok refused) = IsSaid reports p refused
-Said reports p (Err Write) = IsSaidInPart reports p × HasRisen p.faults_old p.faults_new
-Said reports p (Err NoMemory) = IsSaidInPart reports p
-Said reports p (Err stop) = ⊥
+abbrev pub Said : (reports gaps : List (List ℕ) → List (List ℕ) → Bool → Type 0) → Output → Result Bool Stop → Type 0
+Said reports gaps p (Ok refused) = IsSaid reports p refused
+Said reports gaps p (Err Write) = IsSaidInPart reports p × HasRisen p.faults_old p.faults_new
+Said reports gaps p (Err Gaps) = IsSaid gaps p true
+Said reports gaps p (Err NoMemory) = IsSaidInPart gaps p
+Said reports gaps p (Err stop) = ⊥
 
 -- the report that has these report lines, and tells this of a refusal
 abbrev pub Exactly : List (List ℕ) → Bool → List (List ℕ) → List (List ℕ) → Bool → Type 0
 Exactly own told lines pieces refused = (pieces ≡ own) × (refused ≡ told)
+
+-- no report: where none with gaps can be, or none without
+abbrev pub NoReport : List (List ℕ) → List (List ℕ) → Bool → Type 0
+NoReport lines pieces flag = ⊥

@@ -1,7 +1,7 @@
 //! The answers to a batch of lines, which stand side by side.
-ghost use Rattle.std.specs.Prelude.{◌≡◌, ◌+◌, ◌<◌, ◌≤◌, ◌^◌, ◌++◌, ◌||◌, [], map, length, IfOk, OnOk, false};
-ghost use Rattle.endings.specs.Reports.{AreAnswers};
-ghost use Rattle.endings.specs.Inner.Batches.{lines_of_all, is_one_refused};
+ghost use Rattle.std.specs.Prelude.{ℕ, ◌+◌, ◌<◌, ◌≤◌, ◌^◌, List, Bool, length, IfOk};
+ghost use Rattle.side_by_side.specs.Works.{AreGiven};
+ghost use Rattle.endings.specs.Inner.Batches.{IsTold};
 
 use crate::lines::{Answers, NoMemory, Share};
 use crate::pieces::Report;
@@ -11,40 +11,21 @@ use std::sync::Wait;
 use std::thread::Threads;
 use worker_gate::{Gate, OpenGate};
 
-// The report over no line.
-fn no_report(alloc: Global) -> Report
-    ensures lines { result.lines.items ≡ [] }
-    ensures refused { result.refused ≡ false }
-{
-    Report {
-        lines: Vec::new(alloc),
-        refused: false,
-    }
-}
-
-// The report goes on with one over later lines.
-fn add(all: &mut Report, mut more: Report) -> Result<(), NoMemory>
-    ensures lines { OnOk result (all.new.lines.items ≡ all.old.lines.items ++ more.lines.items) }
-    ensures refused { OnOk result (all.new.refused ≡ (all.old.refused || more.refused)) }
-{
-    all.lines.append(&mut more.lines)?;
-    all.refused = all.refused || more.refused;
-    Ok(())
-}
-
-// What answers each of some lines, the first of this number, while others answer others.
+// What answers each of some lines, the first of this number, while others answer others. Where memory is wanting for a line, nothing
+// comes of it, and the others are answered.
 #[derive(Drop)]
 struct LineWork<'c, C> {
     command: &'c C,
     number: u64,
 }
 
-impl<'c, C: Answers> Work<Vec<u8>, Report> for LineWork<'c, C> {
-    ghost use Rattle.std.specs.Prelude.{◌+◌, ◌<◌, ◌^◌, map};
+impl<'c, C: Answers> Work<Vec<u8>, Option<Report>> for LineWork<'c, C> {
+    ghost use Rattle.std.specs.Prelude.{◌+◌, ◌<◌, ◌^◌};
+    ghost use Rattle.endings.specs.Inner.Batches.{IsTold};
 
     ghost ready = { λ w place line. C.ready w.command.now × (w.number + place < 2 ^ 64) };
 
-    ghost Gives = { λ w place line a. C.IsAnswer w.command.now (w.number + place) line.items (map (λ l. l.items) a.lines.items) a.refused };
+    ghost Gives = { λ w place line told. IsTold (C.IsAnswer w.command.now) (w.number + place) line.items told };
 
     fn perform<Rt: Threads + Wait + Sync>(
         &self,
@@ -52,68 +33,143 @@ impl<'c, C: Answers> Work<Vec<u8>, Report> for LineWork<'c, C> {
         alloc: Global,
         place: u64,
         line: &Vec<u8>,
-    ) -> Result<Report, AllocError> {
+    ) -> Result<Option<Report>, AllocError> {
         // (the gate was told of the line, and isn't told of what is done within it)
         let number = self.number + place;
-        match self
-            .command
-            .answer(rt, alloc, number, line, Share::Single, &OpenGate)
-        {
-            Ok(report) => Ok(report),
-            Err(NoMemory) => Err(AllocError),
+        Ok(told_by(
+            rt,
+            alloc,
+            self.command,
+            number,
+            line,
+            Share::Single,
+            &OpenGate,
+        ))
+    }
+}
+
+// The answer to a line by this share of the workers, or nothing where memory is wanting.
+fn told_by<C: Answers, Rt: Threads + Wait + Sync>(
+    rt: &Rt,
+    alloc: Global,
+    command: &C,
+    number: u64,
+    line: &[u8],
+    share: Share,
+    gate: &dyn Gate,
+) -> Option<Report>
+    requires ready { C.ready command.now }
+    ensures { IsTold (C.IsAnswer command.now) number line.now result }
+{
+    match command.answer(rt, alloc, number, line, share, gate) {
+        Ok(report) => Some(report),
+        Err(NoMemory) => None,
+    }
+}
+
+// The answer to a line by one worker, who tells no gate of it.
+fn told_by_one<C: Answers, Rt: Threads + Wait + Sync>(
+    rt: &Rt,
+    alloc: Global,
+    command: &C,
+    number: u64,
+    line: &[u8],
+) -> Option<Report>
+    requires ready { C.ready command.now }
+    ensures { IsTold (C.IsAnswer command.now) number line.now result }
+{
+    told_by(rt, alloc, command, number, line, Share::Single, &OpenGate)
+}
+
+// The answer to a line that comes alone. It has all workers first, and where memory is wanting so, one alone.
+fn told_alone<C: Answers, Rt: Threads + Wait + Sync>(
+    rt: &Rt,
+    alloc: Global,
+    command: &C,
+    number: u64,
+    line: &[u8],
+    gate: &dyn Gate,
+) -> Option<Report>
+    requires ready { C.ready command.now }
+    ensures { IsTold (C.IsAnswer command.now) number line.now result }
+{
+    let told = told_by(rt, alloc, command, number, line, Share::Whole, gate);
+    if told.is_some() || command.workers() == 1 {
+        return told;
+    }
+    told_by_one(rt, alloc, command, number, line)
+}
+
+// Lines of which nothing came while others were answered are answered once more, one after the other, by one worker.
+fn answer_again<C: Answers, Rt: Threads + Wait + Sync>(
+    rt: &Rt,
+    alloc: Global,
+    command: &C,
+    number: u64,
+    lines: &[Vec<u8>],
+    told: &mut Vec<Option<Report>>,
+)
+    requires ready { C.ready command.now }
+    requires room { number + length lines.now ≤ 2 ^ 64 }
+    requires told { AreGiven (λ place line a. IsTold (C.IsAnswer command.now) (number + place) line.items a) 0 lines.now told.old.items }
+    ensures { AreGiven (λ place line a. IsTold (C.IsAnswer command.now) (number + place) line.items a) 0 lines.now told.new.items }
+{
+    for place in 0..lines.len() {
+        if told[place].is_none() {
+            told[place] = told_by_one(rt, alloc, command, number + place as u64, &lines[place]);
         }
     }
 }
 
-// Reports one after the other, as one.
-fn join_reports(alloc: Global, reports: Vec<Report>) -> Result<Report, NoMemory>
-    ensures lines { IfOk result (λ a. map (λ l. l.items) a.lines.items ≡ lines_of_all reports.items) }
-    ensures refused { IfOk result (λ a. a.refused ≡ is_one_refused reports.items) }
-{
-    let mut all = no_report(alloc);
-    for report in reports {
-        add(&mut all, report)?;
-    }
-    Ok(all)
-}
-
-// The answers to these lines, the first of this number, as one report. Each worker takes one line after the other, and tells the gate of it
-// by its place, from 0. Nothing is answered where memory was wanting for one of the lines.
-fn answer_apart<C: Answers + Sync, Rt: Threads + Wait + Sync>(
+/// What comes of these lines, the first of this number, one after the other by the caller's thread: the answer to each, or nothing where
+/// memory was wanting for it. `NoMemory` comes only where there is no room to keep the answers.
+pub(crate) fn answer_in_turn<C: Answers, Rt: Threads + Wait + Sync>(
     rt: &Rt,
     alloc: Global,
     command: &C,
     number: u64,
     lines: &[Vec<u8>],
     gate: &dyn Gate,
-) -> Result<Report, NoMemory>
+) -> Result<Vec<Option<Report>>, NoMemory>
     requires ready { C.ready command.now }
     requires room { number + length lines.now ≤ 2 ^ 64 }
-    ensures { IfOk result (λ a. AreAnswers (C.IsAnswer command.now) number (map (λ l. l.items) lines.now) (map (λ l. l.items) a.lines.items) a.refused) }
+    ensures { IfOk result (λ told. AreGiven (λ place line a. IsTold (C.IsAnswer command.now) (number + place) line.items a) 0 lines.now told.items) }
 {
-    let work = LineWork { command, number };
-    let reports = each_by(rt, alloc, &work, lines, command.workers(), gate)?;
-    join_reports(alloc, reports)
+    let mut told = Vec::with_capacity(alloc, lines.len())?;
+    for place in 0..lines.len() {
+        told.push_reserved(told_alone(
+            rt,
+            alloc,
+            command,
+            number + place as u64,
+            &lines[place],
+            gate,
+        ));
+    }
+    Ok(told)
 }
 
-/// The answers to these lines, the first of this number, one after the other as one report. A line that comes alone has all workers.
-pub(crate) fn answer_lines<C: Answers + Sync, Rt: Threads + Wait + Sync>(
+/// What comes of these lines, the first of this number, where those that don't come alone are answered side by side. Each worker takes one
+/// line after the other, and tells the gate of it by its place, from 0. A line that comes alone has all workers.
+pub(crate) fn answer_apart<C: Answers + Sync, Rt: Threads + Wait + Sync>(
     rt: &Rt,
     alloc: Global,
     command: &C,
     number: u64,
     lines: &[Vec<u8>],
     gate: &dyn Gate,
-) -> Result<Report, NoMemory>
+) -> Result<Vec<Option<Report>>, NoMemory>
     requires ready { C.ready command.now }
     requires room { number + length lines.now ≤ 2 ^ 64 }
-    ensures { IfOk result (λ a. AreAnswers (C.IsAnswer command.now) number (map (λ l. l.items) lines.now) (map (λ l. l.items) a.lines.items) a.refused) }
+    ensures { IfOk result (λ told. AreGiven (λ place line a. IsTold (C.IsAnswer command.now) (number + place) line.items a) 0 lines.now told.items) }
 {
-    if lines.is_empty() {
-        return Ok(no_report(alloc));
+    if lines.len() > 1 {
+        let work = LineWork { command, number };
+        // (where there is no room for several workers, one answers all)
+        if let Ok(mut told) = each_by(rt, alloc, &work, lines, command.workers(), gate) {
+            answer_again(rt, alloc, command, number, lines, &mut told);
+            return Ok(told);
+        }
     }
-    if lines.len() == 1 {
-        return command.answer(rt, alloc, number, &lines[0], Share::Whole, gate);
-    }
-    answer_apart(rt, alloc, command, number, lines, gate)
+    answer_in_turn(rt, alloc, command, number, lines, gate)
 }

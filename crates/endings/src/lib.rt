@@ -8,19 +8,22 @@ ghost use Rattle.lkb_io.specs.Outside.{HasRisen};
 ghost use Rattle.lkb_io.specs.Lines.{lines_of};
 ghost use Rattle.endings.specs.Meanings.{Meaning, Lawful, FileFault, Fails, shelves};
 ghost use Rattle.endings.specs.Readings.{AreReadable};
-ghost use Rattle.endings.specs.Reports.{streams};
-ghost use Rattle.endings.specs.Endings.{Ended, RanInPart, StopsReading, IsFaultless, IsWhole, IsReadThrough, Tells, usage_line, fault_text, status_of, is_items};
+ghost use Rattle.endings.specs.Reports.{IsPut, output, streams};
+ghost use Rattle.endings.specs.Endings.{Ended, RanInPart, RanWithGaps, StopsReading, IsFaultless, IsWhole, IsReadThrough, Tells, word_text, fault_text, status_of, is_items};
 ghost use Rattle.endings.specs.declared.Fault.{Fault};
 
 mod answering;
 pub mod commands;
 mod gathering;
+pub mod in_turn;
+mod kept;
 pub mod lines;
 mod pace;
 pub mod pieces;
 pub mod plain;
+mod telling;
 
-use lkb_io::{Shelf, Sink, Source, put_all};
+use lkb_io::{Failed, Shelf, Sink, Source, put_all};
 use std::alloc::Global;
 use std::sync::Wait;
 use std::thread::Threads;
@@ -41,6 +44,8 @@ pub enum Stop {
     TooMany,
     /// The sink failed.
     Write,
+    /// All was done, but memory was wanting for some items, which were told to be so.
+    Gaps,
     /// Memory was wanting.
     NoMemory,
 }
@@ -48,8 +53,8 @@ pub enum Stop {
 /// Why a run ends without its whole report.
 #[derive(Debug, Drop)]
 pub enum Fault {
-    /// The words of the command line are outside the form.
-    Usage,
+    /// The words of the command line are outside the form. This text follows the usage text.
+    Usage(Vec<u8>),
     /// The command's files have a fault, which is told by this line.
     Files(Vec<u8>),
     /// The run stopped, at a line or for want of memory.
@@ -71,6 +76,8 @@ pub enum Status {
     ReadFault,
     /// The sink failed.
     WriteFault,
+    /// All was done, but memory was wanting for some items, which were told to be so.
+    Gaps,
     /// Memory was wanting.
     NoMemory,
 }
@@ -89,7 +96,7 @@ impl Status {
             Status::Items => 4,
             Status::ReadFault => 5,
             Status::WriteFault => 6,
-            Status::NoMemory => 7,
+            Status::Gaps | Status::NoMemory => 7,
         }
     }
 }
@@ -129,21 +136,41 @@ pub trait Command {
         ensures unopened { (meaning self.now).opens ≡ false → shelf.new ≡ shelf.old };
 }
 
-// What is told of this end of a run.
+// What is told first of this end of a run.
 fn text_of(end: &Result<bool, Fault>) -> &[u8]
-    ensures { result.now ≡ fault_text end.now }
+    ensures { result.now ++ word_text end.now ≡ fault_text end.now }
 {
     match end {
         Ok(_) => b"",
-        Err(Fault::Usage) => USAGE,
+        Err(Fault::Usage(_)) => USAGE,
         Err(Fault::Files(text)) => text,
         Err(Fault::Stopped(Stop::Read)) | Err(Fault::Stopped(Stop::TooMany)) => {
             b"lkb: read fault\n"
         }
         Err(Fault::Stopped(Stop::TooLong)) => b"lkb: line too long\n",
         Err(Fault::Stopped(Stop::Write)) => b"lkb: write fault\n",
-        Err(Fault::Stopped(Stop::NoMemory)) => b"lkb: no memory\n",
+        Err(Fault::Stopped(Stop::Gaps)) | Err(Fault::Stopped(Stop::NoMemory)) => {
+            b"lkb: no memory\n"
+        }
     }
+}
+
+// What is told then: of words that are outside the form, the text that follows the usage text.
+fn word_text_of(end: &Result<bool, Fault>) -> &[u8]
+    ensures { result.now ≡ word_text end.now }
+{
+    match end {
+        Err(Fault::Usage(text)) => text,
+        _ => b"",
+    }
+}
+
+// Tells this end of a run.
+fn tell<X: Sink>(err: &mut X, end: &Result<bool, Fault>) -> Result<(), Failed>
+    ensures { IsPut (fault_text end.now) (output X.written X.flushed X.faults err.old err.new) result }
+{
+    put_all(err, text_of(end))?;
+    put_all(err, word_text_of(end))
 }
 
 // The status of this end of a run.
@@ -153,9 +180,10 @@ fn status_at(end: &Result<bool, Fault>) -> Status
     match end {
         Ok(false) => Status::Done,
         Ok(true) => Status::Items,
-        Err(Fault::Usage) => Status::Usage,
+        Err(Fault::Usage(_)) => Status::Usage,
         Err(Fault::Files(_)) => Status::Grammar,
         Err(Fault::Stopped(Stop::Write)) => Status::WriteFault,
+        Err(Fault::Stopped(Stop::Gaps)) => Status::Gaps,
         Err(Fault::Stopped(Stop::NoMemory)) => Status::NoMemory,
         Err(Fault::Stopped(_)) => Status::ReadFault,
     }
@@ -169,7 +197,7 @@ pub fn conclude<X: Sink>(err: &mut X, end: &Result<bool, Fault>) -> Status
     ensures silent { (refused : _) → end.now ≡ Ok refused → err.new ≡ err.old }
 {
     if end.is_err() {
-        let _told = put_all(err, text_of(end));
+        let _told = tell(err, end);
     }
     status_at(end)
 }
@@ -230,17 +258,24 @@ pub fn run_command<C: Command, S: Shelf, I: Source, O: Sink, X: Sink, Rt: Thread
         → S.files shelf.old ≡ Some files → I.left input.old ≡ Some bytes → (C.meaning command.now).loadable (Some files)
         → (AreReadable (lines_of bytes) → ⊥) → IsFaultless h o → (result ≡ Status.ReadFault) ⊎ (result ≡ Status.NoMemory) }
 
-    // `WriteFault` only where the sink failed. Then, and after `NoMemory`, a front of the report over lines that were
-    // read was written; where memory was wanting before the first line, nothing was read or written.
+    // `WriteFault` only where the sink failed. Then a front of the report over lines that were read was written.
     ensures write_fault { let h = shelves S.files S.faults S.asked shelf.old shelf.new in
         let o = streams I.left I.faults O.written O.flushed O.faults input.old input.new out.old out.new in
         result ≡ Status.WriteFault → RanInPart (C.meaning command.now) h o × HasRisen (O.faults out.old) (O.faults out.new) }
+
+    // After `Gaps` the input was read to its end, and the whole report was written and flushed, but that memory was wanting for some items,
+    // which are told by a line each. After `NoMemory` a front of such a report, with gaps or without, over lines that were read was
+    // written; where memory was wanting before the first line, nothing was read or written.
+    ensures gaps { (bytes before after : List ℕ) → result ≡ Status.Gaps
+        → I.left input.old ≡ Some bytes → O.written out.old ≡ Some before → O.written out.new ≡ Some after
+        → (pieces : List (List ℕ)) × (C.meaning command.now).with_gaps (S.files shelf.old) (lines_of bytes) pieces true
+        × (after ≡ before ++ concat pieces) × IsReadThrough (C.meaning command.now) (I.left input.new) × (O.flushed out.new ≡ O.written out.new) }
     ensures no_memory { let h = shelves S.files S.faults S.asked shelf.old shelf.new in
         let o = streams I.left I.faults O.written O.flushed O.faults input.old input.new out.old out.new in
-        result ≡ Status.NoMemory → ((input.new ≡ input.old) × (out.new ≡ out.old)) ⊎ RanInPart (C.meaning command.now) h o }
+        result ≡ Status.NoMemory → ((input.new ≡ input.old) × (out.new ≡ out.old)) ⊎ RanWithGaps (C.meaning command.now) h o }
 
     // Completeness: where the told files have no fault, each line can be read and nothing fails, the whole report is
-    // written, or memory was wanting. That report is the only one.
+    // written, or memory was wanting, for some items alone or elsewhere. That report is the only one.
     ensures complete { let h = shelves S.files S.faults S.asked shelf.old shelf.new in
         let o = streams I.left I.faults O.written O.flushed O.faults input.old input.new out.old out.new in
         (files : List ℕ → Option (List ℕ)) (bytes : List ℕ) → S.files shelf.old ≡ Some files → I.left input.old ≡ Some bytes

@@ -1,14 +1,16 @@
 //! The run over lines: each line of a source is answered, and the answer written.
-ghost use Rattle.std.specs.Prelude.{◌≡◌, ℕ, ◌+◌, ◌<◌, ◌≤◌, ◌^◌, List, [], Bool, length, map, IfOk, OnOk, OnErr};
+ghost use Rattle.std.specs.Prelude.{◌≡◌, ℕ, ◌+◌, ◌<◌, ◌≤◌, ◌^◌, ◌||◌, List, [], Bool, false, length, map, IfOk, OnErr};
 ghost use Rattle.std.specs.Thread.{IsSync};
 ghost use Rattle.lkb_io.specs.Outside.{HasRisen, Adds};
-ghost use Rattle.endings.specs.Reports.{AreAnswers, Served, ServedLine, streams};
+ghost use Rattle.endings.specs.Reports.{AreAnswers, OrNoMemory, Served, streams};
+ghost use Rattle.endings.specs.Inner.Batches.{Ends, IsFlag, ServedBatch, Told};
 
 use crate::Stop;
-use crate::answering::answer_lines;
+use crate::answering::answer_apart;
 use crate::gathering::read_batch;
-use crate::pace::Pace;
-use crate::pieces::{Report, flush_at_stop, put_lines};
+use crate::kept::{Kept, either, ended, flush_before_read, nothing_kept};
+use crate::pieces::{Report, flush_at_stop};
+use crate::telling::{is_one_refused, is_one_wanting, put_told};
 use lkb_io::{Failed, Held, LineFault, Sink, Source};
 use std::alloc::{AllocError, AllocFailed, Global};
 use std::sync::Wait;
@@ -108,32 +110,21 @@ fn serve_batch<C: Answers + Sync, O: Sink, Rt: Threads + Wait + Sync>(
     command: &C,
     number: u64,
     lines: &[Vec<u8>],
-    pace: &mut Pace,
+    kept: &mut Kept,
     out: &mut O,
     gate: &dyn Gate,
 ) -> Result<bool, Stop>
     requires ready { C.ready command.now }
     requires room { number + length lines.now ≤ 2 ^ 64 }
-    ensures outcome { ServedLine (AreAnswers (C.IsAnswer command.now) number (map (λ l. l.items) lines.now)) (O.written out.old) (O.written out.new) (O.faults out.old) (O.faults out.new) result }
+    ensures outcome { ServedBatch (C.IsAnswer command.now) number (map (λ l. l.items) lines.now) (O.written out.old) (O.written out.new) (O.faults out.old) (O.faults out.new)
+        kept.old.wanting kept.new.wanting result }
     ensures no_fall { O.faults out.old ≤ O.faults out.new }
 {
-    let answer = answer_lines(rt, alloc, command, number, lines, gate)?;
-    pace.heed(lines.len() as u64, &answer);
-    put_lines(out, &answer.lines)?;
-    Ok(answer.refused)
-}
-
-// Flushes what was written before the source is asked for more, which may wait for a user who looks at the
-// answers. While a line is held, the source isn't asked.
-fn flush_before_read<O: Sink>(out: &mut O, held: &Held, has_written: bool) -> Result<(), Failed>
-    ensures same { Adds (O.written out.old) (O.written out.new) [] }
-    ensures no_fall { O.faults out.old ≤ O.faults out.new }
-    ensures failed { OnErr result (HasRisen (O.faults out.old) (O.faults out.new)) }
-{
-    if has_written && !held.has_line() {
-        return out.flush();
-    }
-    Ok(())
+    let told = answer_apart(rt, alloc, command, number, lines, gate)?;
+    kept.pace.heed(&told);
+    kept.wanting = either(kept.wanting, is_one_wanting(&told));
+    put_told(out, number, &told, &mut kept.note)?;
+    Ok(is_one_refused(&told))
 }
 
 // Answers all lines of the source, and flushes the sink at the end and before the source is asked for more.
@@ -143,12 +134,14 @@ fn serve_lines<C: Answers + Sync, I: Source, O: Sink, Rt: Threads + Wait + Sync>
     command: &C,
     input: &mut I,
     out: &mut O,
+    kept: &mut Kept,
     gate: &dyn Gate,
 ) -> Result<bool, Stop>
-    requires { C.ready command.now }
-    ensures { Served (AreAnswers (C.IsAnswer command.now) 1) (streams I.left I.faults O.written O.flushed O.faults input.old input.new out.old out.new) result }
+    requires ready { C.ready command.now }
+    requires none_yet { kept.old.wanting ≡ false }
+    ensures { (wanting : Bool) × IsFlag result false wanting kept.new.wanting
+        × Ends (Told (C.IsAnswer command.now) wanting) (streams I.left I.faults O.written O.flushed O.faults input.old input.new out.old out.new) result }
 {
-    let mut pace = Pace::new(command.workers());
     let mut held = Held::new(alloc);
     let mut refused = false;
     let mut count = 0;
@@ -160,19 +153,10 @@ fn serve_lines<C: Answers + Sync, I: Source, O: Sink, Rt: Threads + Wait + Sync>
             alloc,
             input,
             &mut held,
-            pace.lines().min(u64::MAX - count),
+            kept.pace.lines().min(u64::MAX - count),
             &mut lines,
         );
-        let batch_refused = serve_batch(
-            rt,
-            alloc,
-            command,
-            count + 1,
-            &lines,
-            &mut pace,
-            out,
-            gate,
-        )?;
+        let batch_refused = serve_batch(rt, alloc, command, count + 1, &lines, kept, out, gate)?;
         refused = refused || batch_refused;
         let came = read?;
         if came == 0 {
@@ -184,8 +168,9 @@ fn serve_lines<C: Answers + Sync, I: Source, O: Sink, Rt: Threads + Wait + Sync>
     Err(Stop::TooMany)
 }
 
-/// Answers all lines of the source by an object that is ready. `Ok` tells whether a line was refused. The sink is flushed at the end,
-/// where the run stops, and before the source is asked for more.
+/// Answers all lines of the source by an object that is ready. `Ok` tells whether a line was refused. A line for which memory is wanting is
+/// told to be so, and the next one is answered; the run then ends with `Gaps`. The sink is flushed at the end, where the run stops, and
+/// before the source is asked for more.
 pub fn serve<C: Answers + Sync, I: Source, O: Sink, Rt: Threads + Wait + Sync>(
     rt: &Rt,
     alloc: Global,
@@ -195,13 +180,16 @@ pub fn serve<C: Answers + Sync, I: Source, O: Sink, Rt: Threads + Wait + Sync>(
     gate: &dyn Gate,
 ) -> Result<bool, Stop>
     requires { C.ready command.now }
-    ensures { Served (AreAnswers (C.IsAnswer command.now) 1) (streams I.left I.faults O.written O.flushed O.faults input.old input.new out.old out.new) result }
+    ensures { Served (AreAnswers (C.IsAnswer command.now) 1) (AreAnswers (OrNoMemory (C.IsAnswer command.now)) 1)
+        (streams I.left I.faults O.written O.flushed O.faults input.old input.new out.old out.new) result }
 {
-    match serve_lines(rt, alloc, command, input, out, gate) {
-        Ok(refused) => Ok(refused),
+    let mut kept = nothing_kept(alloc, command.workers())?;
+    let end = serve_lines(rt, alloc, command, input, out, &mut kept, gate);
+    match end {
+        Ok(refused) => ended(Ok(refused), kept.wanting),
         Err(stop) => {
             flush_at_stop(out);
-            Err(stop)
+            ended(Err(stop), kept.wanting)
         }
     }
 }

@@ -30,6 +30,15 @@ fn bytes_of(report: &Report) -> u64 {
     bytes
 }
 
+// How many bytes the reports on some lines have.
+fn bytes_of_all(told: &[Option<Report>]) -> u64 {
+    let mut bytes: u64 = 0;
+    for report in told.iter().flatten() {
+        bytes = bytes.saturating_add(bytes_of(report));
+    }
+    bytes
+}
+
 impl Pace {
     /// The pace of the first batch. One worker is given one line after the other.
     pub(crate) fn new(workers: u32) -> Pace {
@@ -48,12 +57,13 @@ impl Pace {
         self.lines.max(1)
     }
 
-    /// A batch of so many lines had this report.
-    pub(crate) fn heed(&mut self, count: u64, report: &Report) {
+    /// This came of the lines of a batch.
+    pub(crate) fn heed(&mut self, told: &[Option<Report>]) {
         if self.workers <= 1 {
             return;
         }
-        let fitting = count.saturating_mul(REPORT_BYTES) / bytes_of(report).max(1);
+        let count = told.len() as u64;
+        let fitting = count.saturating_mul(REPORT_BYTES) / bytes_of_all(told).max(1);
         let workers = u64::from(self.workers);
         self.lines = fitting.min(workers * MOST_LINES).max(workers);
     }

@@ -1,8 +1,8 @@
 //! Report lines into a sink, each as one piece.
-ghost use Rattle.std.specs.Prelude.{◌≡◌, ◌≤◌, [], ◌∷◌, map, OnOk, false};
+ghost use Rattle.std.specs.Prelude.{◌≡◌, ◌≤◌, [], ◌∷◌, map, Err, OnOk, true, false};
 ghost use Rattle.std.specs.List.{concat};
 ghost use Rattle.lkb_io.specs.Outside.{Adds};
-ghost use Rattle.endings.specs.Reports.{IsPut, Said, Exactly, output};
+ghost use Rattle.endings.specs.Reports.{IsPut, Said, Exactly, NoReport, output};
 
 use crate::Stop;
 use lkb_io::{Failed, Sink, put_all};
@@ -53,7 +53,7 @@ fn put_text<O: Sink>(out: &mut O, text: &[u8]) -> Result<(), Failed>
 
 /// Writes a report, each line as one piece, and flushes. `Ok` tells whether something is refused.
 pub fn put_report<O: Sink>(report: &Report, out: &mut O) -> Result<bool, Stop>
-    ensures { Said (Exactly (map (λ l. l.items) report.now.lines.items) report.now.refused) (output O.written O.flushed O.faults out.old out.new) result }
+    ensures { Said (Exactly (map (λ l. l.items) report.now.lines.items) report.now.refused) NoReport (output O.written O.flushed O.faults out.old out.new) result }
 {
     match put_whole(out, &report.lines) {
         Ok(()) => Ok(report.refused),
@@ -64,9 +64,22 @@ pub fn put_report<O: Sink>(report: &Report, out: &mut O) -> Result<bool, Stop>
     }
 }
 
+/// Writes a report in which items are told for which memory was wanting, each line as one piece, and flushes. It says how the run ends.
+pub(crate) fn put_with_gaps<O: Sink>(lines: &[Vec<u8>], out: &mut O) -> Stop
+    ensures { Said NoReport (Exactly (map (λ l. l.items) lines.now) true) (output O.written O.flushed O.faults out.old out.new) (Err result) }
+{
+    match put_whole(out, lines) {
+        Ok(()) => Stop::Gaps,
+        Err(_) => {
+            flush_at_stop(out);
+            Stop::NoMemory
+        }
+    }
+}
+
 /// Writes a report of one line, and flushes. Nothing is refused.
 pub fn say<O: Sink>(out: &mut O, line: &[u8]) -> Result<bool, Stop>
-    ensures { Said (Exactly (line.now ∷ []) false) (output O.written O.flushed O.faults out.old out.new) result }
+    ensures { Said (Exactly (line.now ∷ []) false) NoReport (output O.written O.flushed O.faults out.old out.new) result }
 {
     match put_text(out, line) {
         Ok(()) => Ok(false),

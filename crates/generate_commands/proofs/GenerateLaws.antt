@@ -2,6 +2,7 @@
 use Rattle.std.proofs.Common.{◌≡◌, ℕ, List, Option, Some, sym, ◌∙◌, subst}
 use Rattle.endings.specs.Meanings.{Lawful}
 use Rattle.endings.specs.Reports.{AreAnswers}
+use Rattle.endings.proofs.ToldLines.{no-gap}
 use Rattle.rule_model.specs.Said.{SameViews}
 use Rattle.grammar_load.specs.Loaded.{GrammarTree}
 use Rattle.grammar_load.specs.Outcomes.{IsSameGrammar}
@@ -29,6 +30,8 @@ pub generate-laws : OneGrammar → OneFault → NotBoth → Calm → SameViews �
     → (name : List ℕ) (settings : Option (List ℕ)) (bounds : Bounds) → Lawful (generate_meaning name settings bounds)
 generate-laws one fault both calm views signs answers meanings faults places name settings bounds = record {
   loads = λ files lines pieces refused r. (r.1.0, r.1.1);
+  gaps_load = λ files lines pieces wanting r. (r.1.0, r.1.1);
+  no_gap = λ files lines pieces r. (let a = no-gap (IsAnswer r.0 bounds) 1 lines pieces r.2 in (a.0, (r.0, r.1, a.1)));
   one_first = λ files f g a b. fault files name settings f g a b;
   not_both = λ files f l a. both files name settings l.0 f l.1 a;
   one_report = λ files lines pieces others refused may p q. (

@@ -3,6 +3,5 @@ pub mod SameInputs
 pub mod OneAnswers
 pub mod GenerateLaws
 pub mod Answered
-pub mod Exits
 pub mod Engines
 pub mod Served

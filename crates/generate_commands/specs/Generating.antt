@@ -5,7 +5,7 @@ use Rattle.grammar_load.specs.Loaded.{GrammarTree}
 use Rattle.mrs_places.specs.Paths.{Feature}
 use Rattle.mrs_paths.specs.Settled.{c_cont_said}
 use Rattle.endings.specs.Meanings.{Meaning, Files}
-use Rattle.endings.specs.Reports.{AreAnswers}
+use Rattle.endings.specs.Reports.{AreAnswers, OrNoMemory}
 use Rattle.command_grammars.specs.Grammars.{HasGrammar, IsFirstFault}
 use Rattle.engine.specs.Speeches.{IsSpeechOf}
 use Rattle.generate_commands.specs.Answers.{Speaker, Bounds, IsAnswer}
@@ -30,4 +30,5 @@ generate_meaning name settings bounds = record {
   loadable = λ files. (g : GrammarTree) × HasGrammar files name settings g;
   first = IsFirstFault name settings;
   report = λ files lines pieces refused. (s : Speaker) × HasSpeaker files name settings s × AreAnswers (IsAnswer s bounds) 1 lines pieces refused;
+  with_gaps = λ files lines pieces wanting. (s : Speaker) × HasSpeaker files name settings s × AreAnswers (OrNoMemory (IsAnswer s bounds)) 1 lines pieces wanting;
 }

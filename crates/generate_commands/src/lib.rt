@@ -6,7 +6,6 @@ mod contributing;
 mod generating;
 pub mod laws;
 mod reports;
-mod serving;
 mod using;
 
 pub use generating::{Generate, generate_lines};

@@ -5,9 +5,9 @@ ghost use Rattle.chart_workers.specs.Crews.{IsCrewSize};
 
 use crate::answering::Generator;
 use crate::contributing::contributions_of;
-use crate::serving::serve;
 use chart_core::Limits;
 use endings::Stop;
+use endings::in_turn::serve_in_turn;
 use engine::desks::Desks;
 use engine::{Engine, Use};
 use lkb_io::{Sink, Source};
@@ -53,6 +53,8 @@ impl<I: Source, O: Sink> Use<I, O> for AllLines {
             limits: self.limits,
             desks: Desks::new(alloc, self.workers),
         };
-        serve(rt, alloc, &generator, input, out, gate)
+        // (what a grammar's lexical trees contribute isn't shown to be fit for threads that share it, since trees are of a type that reaches
+        // itself; so MRSs aren't answered side by side, as the lines of `parse` are)
+        serve_in_turn(rt, alloc, &generator, input, out, gate)
     }
 }

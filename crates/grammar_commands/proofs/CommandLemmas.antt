@@ -28,6 +28,8 @@ pub lawful : OneGrammar → OneFault → NotBoth → Calm → (reports : Grammar
     → (name : List ℕ) (settings : Option (List ℕ)) → Lawful (grammar_meaning reports name settings)
 lawful one fault both calm reports same name settings = record {
   loads = λ files lines pieces refused r. (r.0, r.1);
+  gaps_load = λ files lines pieces wanting r. (r.2.0, r.2.1);
+  no_gap = λ files lines pieces r. (r.1, r.2);
   one_first = λ files f g a b. fault files name settings f g a b;
   not_both = λ files f l a. both files name settings l.0 f l.1 a;
   one_report = λ files lines pieces others refused may p q. same p.0 q.0 (one files name settings p.0 q.0 p.1 q.1) pieces others refused may p.2 q.2;

@@ -1,6 +1,6 @@
 -- What the commands over a grammar are to do.
 use Rattle.std.specs.Prelude.{◌≡◌, ℕ, List, [], ◌∷◌, Option, Bool, true, false}
-use Rattle.endings.specs.Meanings.{Meaning}
+use Rattle.endings.specs.Meanings.{Meaning, gapless}
 use Rattle.grammar_load.specs.Loaded.{GrammarTree}
 use Rattle.command_grammars.specs.Grammars.{HasGrammar, IsFirstFault}
 use Rattle.grammar_commands.specs.Expansions.{IsExpansion}
@@ -15,6 +15,7 @@ grammar_meaning reports name settings = record {
   loadable = λ files. (g : GrammarTree) × HasGrammar files name settings g;
   first = IsFirstFault name settings;
   report = λ files lines pieces refused. (g : GrammarTree) × HasGrammar files name settings g × reports g pieces refused;
+  with_gaps = gapless (λ files lines pieces refused. (g : GrammarTree) × HasGrammar files name settings g × reports g pieces refused);
 }
 
 -- `types`: a line for each completed type

@@ -16,9 +16,6 @@ use endings::pieces::Report;
 use endings::{Fault, Stop};
 use lkb_io::Shelf;
 use std::alloc::Global;
-use std::sync::Wait;
-use std::thread::Threads;
-use worker_gate::Gate;
 
 /// `types`: the types of the grammar of this name, under the settings of the file of that name.
 #[derive(Clone, Copy, Debug)]
@@ -103,13 +100,7 @@ impl Whole for Types<'_> {
 
     ghost meaning = { λ t. types_meaning t.grammar.now (option_map (λ s. s.now) t.settings) };
 
-    fn report<S: Shelf, Rt: Threads + Wait + Sync>(
-        &self,
-        _rt: &Rt,
-        alloc: Global,
-        shelf: &mut S,
-        _gate: &dyn Gate,
-    ) -> Result<Report, Fault> {
+    fn report<S: Shelf>(&self, alloc: Global, shelf: &mut S) -> Result<Report, Fault> {
         types_report(alloc, shelf, self.grammar, self.settings)
     }
 }
@@ -120,13 +111,7 @@ impl Whole for Check<'_> {
 
     ghost meaning = { λ t. check_meaning t.grammar.now (option_map (λ s. s.now) t.settings) };
 
-    fn report<S: Shelf, Rt: Threads + Wait + Sync>(
-        &self,
-        _rt: &Rt,
-        alloc: Global,
-        shelf: &mut S,
-        _gate: &dyn Gate,
-    ) -> Result<Report, Fault> {
+    fn report<S: Shelf>(&self, alloc: Global, shelf: &mut S) -> Result<Report, Fault> {
         check_report(alloc, shelf, self.grammar, self.settings)
     }
 }
@@ -137,13 +122,7 @@ impl Whole for Expand<'_> {
 
     ghost meaning = { λ e. expand_meaning e.grammar.now e.entry.now (option_map (λ s. s.now) e.settings) };
 
-    fn report<S: Shelf, Rt: Threads + Wait + Sync>(
-        &self,
-        _rt: &Rt,
-        alloc: Global,
-        shelf: &mut S,
-        _gate: &dyn Gate,
-    ) -> Result<Report, Fault> {
+    fn report<S: Shelf>(&self, alloc: Global, shelf: &mut S) -> Result<Report, Fault> {
         expand_report(alloc, shelf, self.grammar, self.entry, self.settings)
     }
 }

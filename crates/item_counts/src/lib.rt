@@ -4,7 +4,7 @@
 mod sums;
 
 ghost use Rattle.std.specs.Prelude.{◌≡◌, ◌<◌, ◌^◌, ◌++◌, ◌∷◌, [], length, IfOk};
-ghost use Rattle.item_counts.specs.Summaries.{items_text, sums_text, summary_line, is_some_refused};
+ghost use Rattle.item_counts.specs.Summaries.{items_text, sums_text, summary_line, is_some_refused, is_some_lacking};
 
 use std::alloc::{AllocError, AllocFailed, Global};
 use sums::sums_of;
@@ -30,6 +30,8 @@ impl<T: Drop> From<AllocFailed<T>> for NoMemory {
 pub enum Count {
     /// It broke a limit.
     Refused,
+    /// Memory was wanting for it.
+    NoMemory,
     /// It has so many packed classes and readings.
     Found { classes: u32, readings: u32 },
 }
@@ -60,7 +62,7 @@ fn joined(mut line: Vec<u8>, more: &[u8]) -> Result<Vec<u8>, NoMemory>
 }
 
 /// `self-test NUMBER SIZE items I refused F classes C readings K` and a line end: how many items there are, how many of them
-/// are refused, and the sums of the classes and the readings of the others.
+/// are refused, and the sums of the classes and the readings of the others. An item for which memory was wanting counts as refused.
 pub fn summary(alloc: Global, number: u64, size: u32, counts: &[Count]) -> Result<Vec<u8>, NoMemory>
     requires { length counts.now < 2 ^ 32 }
     ensures { IfOk result (λ line. line.items ≡ summary_line number size counts.now) }
@@ -71,9 +73,16 @@ pub fn summary(alloc: Global, number: u64, size: u32, counts: &[Count]) -> Resul
     joined(first, &more)
 }
 
-/// Whether one of these items is refused.
+/// Whether one of these items is refused, or memory was wanting for one.
 pub fn some_refused(counts: &[Count]) -> bool
     ensures { result ≡ is_some_refused counts.now }
 {
-    counts.contains(&Count::Refused)
+    counts.iter().any(|c| !matches!(c, Count::Found { .. }))
+}
+
+/// Whether memory was wanting for one of these items.
+pub fn some_lacking(counts: &[Count]) -> bool
+    ensures { result ≡ is_some_lacking counts.now }
+{
+    counts.contains(&Count::NoMemory)
 }

@@ -26,7 +26,7 @@ pub fn sums_of(counts: &[Count]) -> Sums
     };
     for count in counts {
         match count {
-            Count::Refused => sums.refused += 1,
+            Count::Refused | Count::NoMemory => sums.refused += 1,
             Count::Found { classes, readings } => {
                 sums.classes += *classes as u64;
                 sums.readings += *readings as u64;

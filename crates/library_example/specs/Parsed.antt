@@ -7,7 +7,7 @@ use Rattle.command_line.specs.Words.{Form, run, parse, options_of}
 use Rattle.endings.specs.Meanings.{Files, FileFault, Meaning}
 use Rattle.endings.specs.Readings.{AreReadable}
 use Rattle.endings.specs.declared.Status.{Status}
-use Rattle.endings.specs.declared.Status.TheVariants.{Done, Items, Usage, Grammar, ReadFault, WriteFault, NoMemory}
+use Rattle.endings.specs.declared.Status.TheVariants.{Done, Items, Usage, Grammar, ReadFault, WriteFault, Gaps, NoMemory}
 use Rattle.top_call.specs.Commands.{meaning_of}
 
 -- the words that are asked: `parse grammar`, without an option
@@ -38,12 +38,13 @@ abbrev pub IsReport : Meaning → Files → (lines report : List ℕ) → Bool �
 IsReport meaning files lines report refused = (pieces : List (List ℕ)) × meaning.report files (lines_of lines) pieces refused × (report ≡ concat pieces)
 
 -- What a program gets over objects in memory, which can't fail: the report and the text of a fault, by the status. Memory may be wanting
--- at any time, and each other status tells what is so.
+-- at any time, for some lines alone, which are told, or elsewhere; and each other status tells what is so.
 abbrev pub Comes : Meaning → Files → (lines report fault : List ℕ) → Status → Type 0
 Comes meaning files lines report fault Done = IsReport meaning files lines report false × (fault ≡ [])
 Comes meaning files lines report fault Items = IsReport meaning files lines report true × (fault ≡ [])
 Comes meaning files lines report fault Grammar = IsFirstFault meaning files fault × (report ≡ [])
 Comes meaning files lines report fault ReadFault = AreReadable (lines_of lines) → ⊥
+Comes meaning files lines report fault Gaps = (pieces : List (List ℕ)) × meaning.with_gaps files (lines_of lines) pieces true × (report ≡ concat pieces)
 Comes meaning files lines report fault NoMemory = Unit {0}
 Comes meaning files lines report fault Usage = ⊥
 Comes meaning files lines report fault WriteFault = ⊥

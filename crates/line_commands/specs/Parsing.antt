@@ -2,7 +2,7 @@
 use Rattle.std.specs.Prelude.{ℕ, true, List, Option}
 use Rattle.grammar_load.specs.Loaded.{GrammarTree}
 use Rattle.endings.specs.Meanings.{Meaning}
-use Rattle.endings.specs.Reports.{AreAnswers}
+use Rattle.endings.specs.Reports.{AreAnswers, OrNoMemory}
 use Rattle.command_grammars.specs.Grammars.{HasGrammar, IsFirstFault}
 use Rattle.engine.specs.Speeches.{Speech, HasSpeech}
 use Rattle.line_commands.specs.Answers.{Asked, IsAnswer}
@@ -15,4 +15,5 @@ parse_meaning name settings asked = record {
   loadable = λ files. (g : GrammarTree) × HasGrammar files name settings g;
   first = IsFirstFault name settings;
   report = λ files lines pieces refused. (speech : Speech) × HasSpeech files name settings speech × AreAnswers (IsAnswer speech asked) 1 lines pieces refused;
+  with_gaps = λ files lines pieces wanting. (speech : Speech) × HasSpeech files name settings speech × AreAnswers (OrNoMemory (IsAnswer speech asked)) 1 lines pieces wanting;
 }

@@ -57,13 +57,13 @@ struct Serving {
 }
 
 impl<I: Source, O: Sink> Use<I, O> for Serving {
-    ghost use Rattle.endings.specs.Reports.{AreAnswers, Served, streams};
+    ghost use Rattle.endings.specs.Reports.{AreAnswers, OrNoMemory, Served, streams};
     ghost use Rattle.line_commands.specs.Answers.{IsAnswer};
     ghost use Rattle.line_commands.specs.Views.{asked_with};
 
     type Out = Result<bool, Stop>;
 
-    ghost Gives = { λ job grammar speech input_old input_new out_old out_new end. Served (AreAnswers (IsAnswer speech (asked_with job.limits job.lattice job.mrs)) 1)
+    ghost Gives = { λ job grammar speech input_old input_new out_old out_new end. Served (AreAnswers (IsAnswer speech (asked_with job.limits job.lattice job.mrs)) 1) (AreAnswers (OrNoMemory (IsAnswer speech (asked_with job.limits job.lattice job.mrs))) 1)
         (streams I.left I.faults O.written O.flushed O.faults input_old input_new out_old out_new) end };
 
     fn run<Rt: Threads + Wait + Sync>(

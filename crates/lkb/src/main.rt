@@ -3,6 +3,7 @@
 
 use endings::{Fault, Stop, conclude};
 use lkb_io::{FileShelf, StdSink, StdSource};
+use std::alloc::Global;
 use std::io::{BufWriter, ErrorKind};
 use std::process::ExitCode;
 use std::{env, io};
@@ -17,7 +18,10 @@ const BUFFER: usize = 131_072;
 // The words of the command line without the program's name. One that isn't UTF-8 is outside every form.
 fn words_of(rt: &HostRuntime) -> Result<Vec<String>, Fault> {
     let mut words = Vec::new(rt.alloc());
-    for word in env::args(rt).map_err(fault_of_words)?.skip(1) {
+    for word in env::args(rt)
+        .map_err(|error| fault_of_words(rt.alloc(), error))?
+        .skip(1)
+    {
         words
             .push(word)
             .map_err(|_| Fault::Stopped(Stop::NoMemory))?;
@@ -26,10 +30,10 @@ fn words_of(rt: &HostRuntime) -> Result<Vec<String>, Fault> {
 }
 
 // What an error of the system at the words of the command line is to the program.
-fn fault_of_words(error: io::Error) -> Fault {
+fn fault_of_words(alloc: Global, error: io::Error) -> Fault {
     match error.kind() {
         ErrorKind::OutOfMemory => Fault::Stopped(Stop::NoMemory),
-        _ => Fault::Usage,
+        _ => Fault::Usage(Vec::new(alloc)),
     }
 }
 

@@ -23,6 +23,7 @@ use Rattle.profile_reports.specs.declared.ItemResult.{ItemResult}
 use Rattle.profile_reports.specs.Comparing.{result_of}
 use Rattle.profile_reports.specs.Lines.{report_lines, is_refused}
 use Rattle.profile_batch.specs.Results.{IsResult, of_long, of_bytes, of_line, of_item, IsReported, outcome_of}
+use Rattle.profile_batch.proofs.Reported.{all-results}
 use Rattle.profile_batch.specs.Batches.{IsFirst, of_grammar, of_profile, batch_meaning}
 
 -- laws of the text of a file
@@ -69,6 +70,11 @@ module _ (one : OneGrammar) (fault : OneFault) (both : NotBoth) (calm : Calm) (t
   pub batch-laws : SameViews → OneSigns → ParseAnswersAreOne → (limits : Limits) (most : ℕ) → Lawful (batch_meaning grammar settings profile limits most)
   batch-laws views signs answers limits most = record {
     loads = λ files lines pieces refused r. ((r.1.0, r.1.1), r.2.0, r.2.1);
+    gaps_load = λ files lines pieces wanting r. ((r.1.0, r.1.1), r.2.0, r.2.1);
+    no_gap = λ files lines pieces r. (
+        let results = r.2.2.0 in
+        let are = all-results r.0 limits most (items_of r.2.0) results r.2.2.1 (sym r.2.2.3) in
+        (is_refused (items_of r.2.0) results, (r.0, r.1, (r.2.0, r.2.1, (results, are, r.2.2.2, refl)))));
     one_first = one-first;
     not_both = λ files f l a. not-both files f l.0.0 l.0.1 l.1 l.2 a;
     one_report = λ files lines pieces others refused may p q. (

@@ -18,12 +18,12 @@ use Rattle.engine.proofs.NamedTrees.{unmap}
 use Rattle.profile_items.specs.declared.Expected.{Expected}
 use Rattle.profile_items.specs.declared.ProfileItem.{ProfileItem}
 use Rattle.profile_items.specs.declared.ProfileItem.TheVariants.{TooLong, NotUtf8, NoItem}
-use Rattle.profile_items.specs.Profiles.{an_item}
+use Rattle.profile_items.specs.Profiles.{too_long, not_utf8, no_item, an_item}
 use Rattle.profile_items.specs.Views.{item_kept}
-use Rattle.profile_reports.specs.declared.Got.TheVariants.{Bad}
+use Rattle.profile_reports.specs.declared.Got.TheVariants.{Bad, NoMemory}
 use Rattle.profile_reports.specs.declared.ItemResult.{ItemResult}
 use Rattle.profile_reports.specs.Comparing.{plain_result, result_of}
-use Rattle.profile_batch.specs.Results.{IsResult, of_long, of_bytes, of_line, of_item, outcome_of}
+use Rattle.profile_batch.specs.Results.{IsResult, of_long, of_bytes, of_line, of_item, IsResultOrGap, a_result, a_gap, outcome_of}
 
 -- there are as many texts as trees
 pub texts-few : (names : List (List ℕ)) (trees : List Tree) (texts : List (Vec ℕ Global)) → map (λ t. t.items) texts ≡ map (text_of names false) (map derivation_of trees)
@@ -55,11 +55,15 @@ module _ (speech : Speech) (limits : Limits) (most place : ℕ) where
   judged-is expected sentence trees answer r is same = subst (IsResult speech limits most place (an_item expected sentence trees)) (sym same) (of_item expected sentence trees answer is)
 
   -- and of one that is bad
-  pub long-is : (item : ProfileItem) (r : ItemResult) → item ≡ TooLong → r ≡ plain_result place Bad → IsResult speech limits most place (item_kept item) r
-  long-is item r is same = subst (λ i. IsResult speech limits most place (item_kept i) r) (sym is) (subst (IsResult speech limits most place (item_kept TooLong)) (sym same) of_long)
+  pub long-is : (item : ProfileItem) (r : ItemResult) → item ≡ TooLong → r ≡ plain_result place Bad → IsResultOrGap speech limits most place (item_kept item) r
+  long-is item r is same = subst (λ i. IsResultOrGap speech limits most place (item_kept i) r) (sym is) (a_result too_long r (subst (IsResult speech limits most place too_long) (sym same) of_long))
 
-  pub bytes-is : (item : ProfileItem) (r : ItemResult) → item ≡ NotUtf8 → r ≡ plain_result place Bad → IsResult speech limits most place (item_kept item) r
-  bytes-is item r is same = subst (λ i. IsResult speech limits most place (item_kept i) r) (sym is) (subst (IsResult speech limits most place (item_kept NotUtf8)) (sym same) of_bytes)
+  pub bytes-is : (item : ProfileItem) (r : ItemResult) → item ≡ NotUtf8 → r ≡ plain_result place Bad → IsResultOrGap speech limits most place (item_kept item) r
+  bytes-is item r is same = subst (λ i. IsResultOrGap speech limits most place (item_kept i) r) (sym is) (a_result not_utf8 r (subst (IsResult speech limits most place not_utf8) (sym same) of_bytes))
 
-  pub line-is : (item : ProfileItem) (r : ItemResult) → item ≡ NoItem → r ≡ plain_result place Bad → IsResult speech limits most place (item_kept item) r
-  line-is item r is same = subst (λ i. IsResult speech limits most place (item_kept i) r) (sym is) (subst (IsResult speech limits most place (item_kept NoItem)) (sym same) of_line)
+  pub line-is : (item : ProfileItem) (r : ItemResult) → item ≡ NoItem → r ≡ plain_result place Bad → IsResultOrGap speech limits most place (item_kept item) r
+  line-is item r is same = subst (λ i. IsResultOrGap speech limits most place (item_kept i) r) (sym is) (a_result no_item r (subst (IsResult speech limits most place no_item) (sym same) of_line))
+
+  -- memory was wanting for one that isn't
+  pub gap-is : (expected : Expected) (sentence : List ℕ) (trees : List (List ℕ)) (r : ItemResult) → r ≡ plain_result place NoMemory → IsResultOrGap speech limits most place (an_item expected sentence trees) r
+  gap-is expected sentence trees r same = subst (IsResultOrGap speech limits most place (an_item expected sentence trees)) (sym same) (a_gap expected sentence trees)

@@ -10,7 +10,7 @@ use Rattle.command_files.specs.Texts.{IsTextFault}
 use Rattle.command_grammars.specs.Grammars.{HasGrammar, IsFirstFault}
 use Rattle.engine.specs.Speeches.{Speech, HasSpeech}
 use Rattle.profile_items.specs.Profiles.{items_of}
-use Rattle.profile_batch.specs.Results.{IsReported}
+use Rattle.profile_batch.specs.Results.{IsReported, IsReportedWithGaps}
 
 -- The first fault of the files, where the shelf fails at these names: that of the grammar, and where it has none that of the profile.
 pub data IsFirst (grammar : List ℕ) (settings : Option (List ℕ)) (profile : List ℕ) (files : Files) (fails : List ℕ → Bool) : FileFault → Type 0 where
@@ -25,4 +25,5 @@ batch_meaning grammar settings profile limits most = record {
   loadable = λ files. ((g : GrammarTree) × HasGrammar files grammar settings g) × (text : List ℕ) × IsText files profile text;
   first = IsFirst grammar settings profile;
   report = λ files lines pieces refused. ((speech : Speech) × HasSpeech files grammar settings speech × ((text : List ℕ) × IsText files profile text × IsReported speech limits most (items_of text) pieces refused));
+  with_gaps = λ files lines pieces wanting. ((speech : Speech) × HasSpeech files grammar settings speech × ((text : List ℕ) × IsText files profile text × IsReportedWithGaps speech limits most (items_of text) pieces wanting));
 }

@@ -1,3 +1,4 @@
 pub mod Results
 pub mod Batches
 pub mod Views
+pub mod Inner

@@ -9,10 +9,10 @@ use Rattle.engine.specs.Speeches.{Speech, lattice_of_words}
 use Rattle.side_by_side.specs.Works.{AreGiven}
 use Rattle.profile_items.specs.declared.Expected.{Expected}
 use Rattle.profile_items.specs.Profiles.{Item, too_long, not_utf8, no_item, an_item}
-use Rattle.profile_reports.specs.declared.Got.TheVariants.{Bad}
+use Rattle.profile_reports.specs.declared.Got.TheVariants.{Bad, NoMemory}
 use Rattle.profile_reports.specs.declared.ItemResult.{ItemResult}
 use Rattle.profile_reports.specs.Outcomes.{Outcome, by_lexical_depth, by_unary_chain, by_edges, by_readings, found}
-use Rattle.profile_reports.specs.Comparing.{plain_result, result_of}
+use Rattle.profile_reports.specs.Comparing.{plain_result, result_of, is_some_lacking}
 use Rattle.profile_reports.specs.Lines.{report_lines, is_refused}
 
 -- what an answer is to a profile: the limit that is broken, or the texts of the trees, without nodes
@@ -42,3 +42,16 @@ module _ (speech : Speech) (limits : Limits) (most : ℕ) where
   -- the report of a profile
   abbrev pub IsReported : List Item → List (List ℕ) → Bool → Type 0
   IsReported items pieces refused = (results : List ItemResult) × AreResults items results × (pieces ≡ report_lines items results) × (refused ≡ is_refused items results)
+
+  -- The same where memory may have been wanting. Of the item at a place there is its result or, unless it is bad, that memory was wanting
+  -- for it.
+  pub data IsResultOrGap (place : ℕ) : Item → ItemResult → Type 0 where
+    a_result : (item : Item) (r : ItemResult) → IsResult place item r → IsResultOrGap place item r
+    a_gap : (expected : Expected) (sentence : List ℕ) (trees : List (List ℕ)) → IsResultOrGap place (an_item expected sentence trees) (plain_result place NoMemory)
+
+  abbrev pub AreResultsOrGaps : List Item → List ItemResult → Type 0
+  AreResultsOrGaps items results = AreGiven IsResultOrGap 0 items results
+
+  -- the report in which items for which memory was wanting are told to be so, and whether there is one
+  abbrev pub IsReportedWithGaps : List Item → List (List ℕ) → Bool → Type 0
+  IsReportedWithGaps items pieces wanting = (results : List ItemResult) × AreResultsOrGaps items results × (pieces ≡ report_lines items results) × (wanting ≡ is_some_lacking results)

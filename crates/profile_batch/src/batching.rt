@@ -11,21 +11,24 @@ ghost use Rattle.grammar_load.specs.Conditions.{IsLoaded};
 ghost use Rattle.grammar_load.specs.Views.{grammar_of};
 ghost use Rattle.grammar_names.specs.Fitting.{HasMrsPaths};
 ghost use Rattle.endings.specs.Meanings.{Files, shelves};
-ghost use Rattle.endings.specs.Endings.{Made};
+ghost use Rattle.endings.specs.Endings.{MadeOfItems};
 ghost use Rattle.engine.specs.Speeches.{Speech, IsSpeechOf};
 ghost use Rattle.profile_items.specs.Profiles.{items_of};
 ghost use Rattle.profile_items.specs.Views.{item_kept};
 ghost use Rattle.profile_batch.specs.Batches.{batch_meaning};
-ghost use Rattle.profile_batch.specs.Results.{AreResults, IsReported};
+ghost use Rattle.profile_batch.specs.Results.{AreResultsOrGaps};
+ghost use Rattle.profile_batch.specs.Inner.Told.{IsToldOf, told_as};
 ghost use Rattle.profile_batch.specs.Views.{trees_of};
 
 use crate::command::Batch;
 use crate::judging::Judge;
+use crate::turns::judge_all;
 use book_signs::laws::whole_book;
 use chart_core::Limits;
 use command_files::laws::late_text;
 use command_files::load_text;
 use command_grammars::load_grammar;
+use endings::commands::ItemsReport;
 use endings::pieces::Report;
 use endings::{Fault, Stop};
 use engine::desks::Desks;
@@ -34,8 +37,7 @@ use grammar_load::Grammar;
 use grammar_names::loaded_paths;
 use lkb_io::Shelf;
 use profile_items::{NoMemory, ProfileItem, profile};
-use profile_reports::{ItemResult, report_on};
-use side_by_side::each_by;
+use profile_reports::{ItemResult, ProfileReport, report_on, some_lacking};
 use std::alloc::Global;
 use std::sync::Wait;
 use std::thread::Threads;
@@ -57,11 +59,11 @@ impl Use<(), ()> for Items<'_> {
     ghost use Rattle.std.specs.Prelude.{map, IfOk};
     ghost use Rattle.packed_items.specs.Answers.{limits_in};
     ghost use Rattle.profile_items.specs.Views.{item_kept};
-    ghost use Rattle.profile_batch.specs.Results.{AreResults};
+    ghost use Rattle.profile_batch.specs.Results.{AreResultsOrGaps};
 
     type Out = Result<Vec<ItemResult>, NoMemory>;
 
-    ghost Gives = { λ job g speech a b c d out. IfOk out (λ results. AreResults speech (limits_in job.limits) job.limits.lexical (map item_kept job.items.now) results.items) };
+    ghost Gives = { λ job g speech a b c d out. IfOk out (λ results. AreResultsOrGaps speech (limits_in job.limits) job.limits.lexical (map item_kept job.items.now) results.items) };
 
     fn run<Rt: Threads + Wait + Sync>(
         &self,
@@ -77,13 +79,14 @@ impl Use<(), ()> for Items<'_> {
             limits: self.limits,
             desks: Desks::new(alloc, 1),
         };
-        each_by(rt, alloc, &judge, self.items, self.workers, gate)
+        judge_all(rt, alloc, judge, self.items, self.workers, gate)
     }
 }
 
 /// What is found of each of these items, in their order, by what the grammar gives for its sentence within these limits. So many workers
-/// draw the items, and each tells the gate its number and the item's place, from 0, before it begins it. Neither changes a result.
-/// `NoMemory` may come in place of any answer.
+/// draw the items, and each tells the gate its number and the item's place, from 0, before it begins it. Neither changes a result. An item
+/// for which memory is wanting is told to be so, and the others have their results; where others were at work beside it, it was judged once
+/// more by one worker alone. `NoMemory` comes where there is no engine, or no room for the results.
 pub fn batch<Rt: Threads + Wait + Sync>(
     rt: &Rt,
     alloc: Global,
@@ -101,7 +104,7 @@ pub fn batch<Rt: Threads + Wait + Sync>(
     requires few { length items.now < 2 ^ 32 }
     requires trees { All (λ i. trees_of i < 2 ^ 32) items.now }
     ensures { IfOk result (λ results. (speech : Speech) × IsSpeechOf (grammar_of grammar.now) speech
-        × AreResults speech (limits_in limits.now) limits.now.lexical (map item_kept items.now) results.items) }
+        × AreResultsOrGaps speech (limits_in limits.now) limits.now.lexical (map item_kept items.now) results.items) }
 {
     let job = Items {
         items,
@@ -116,6 +119,19 @@ pub fn batch<Rt: Threads + Wait + Sync>(
     }
 }
 
+// The report, with items that are told to lack memory where there are such.
+fn told(found: ProfileReport, lacking: bool) -> ItemsReport
+    ensures { result ≡ told_as found lacking }
+{
+    if lacking {
+        return ItemsReport::WithGaps(found.lines);
+    }
+    ItemsReport::AllAnswered(Report {
+        lines: found.lines,
+        refused: found.refused,
+    })
+}
+
 // The report on the items of a text, by a grammar.
 fn report_with<Rt: Threads + Wait + Sync>(
     rt: &Rt,
@@ -124,13 +140,13 @@ fn report_with<Rt: Threads + Wait + Sync>(
     grammar: &Grammar,
     text: &[u8],
     gate: &dyn Gate,
-) -> Result<Report, NoMemory>
+) -> Result<ItemsReport, NoMemory>
     requires loaded { IsLoaded (grammar_of grammar.now) }
     requires whole { IsWhole grammar.now.book }
     requires fits { HasMrsPaths (grammar_of grammar.now) }
     requires few { length text.now < 2 ^ 31 }
     ensures { IfOk result (λ r. (speech : Speech) × IsSpeechOf (grammar_of grammar.now) speech
-        × IsReported speech (limits_in batch_of.now.limits) batch_of.now.limits.lexical (items_of text.now) (map (λ l. l.items) r.lines.items) r.refused) }
+        × IsToldOf speech (limits_in batch_of.now.limits) batch_of.now.limits.lexical (items_of text.now) r) }
 {
     let items = profile(alloc, text)?;
     let results = batch(
@@ -143,21 +159,18 @@ fn report_with<Rt: Threads + Wait + Sync>(
         gate,
     )?;
     let found = report_on(alloc, &items, &results)?;
-    Ok(Report {
-        lines: found.lines,
-        refused: found.refused,
-    })
+    Ok(told(found, some_lacking(&results)))
 }
 
-/// The report of `batch`, or the first fault of its files: the grammar's, and then the profile's.
+/// The report of `batch`, with items that are told to lack memory where there are such, or the first fault of its files: the grammar's, and then the profile's.
 pub(crate) fn report_of<S: Shelf, Rt: Threads + Wait + Sync>(
     rt: &Rt,
     alloc: Global,
     command: &Batch<'_>,
     shelf: &mut S,
     gate: &dyn Gate,
-) -> Result<Report, Fault>
-    ensures { Made (batch_meaning command.now.grammar.now (option_map (λ s. s.now) command.now.settings) command.now.profile.now (limits_in command.now.limits) command.now.limits.lexical)
+) -> Result<ItemsReport, Fault>
+    ensures { MadeOfItems (batch_meaning command.now.grammar.now (option_map (λ s. s.now) command.now.settings) command.now.profile.now (limits_in command.now.limits) command.now.limits.lexical)
         (shelves S.files S.faults S.asked shelf.old shelf.new) result }
 {
     whole_book();

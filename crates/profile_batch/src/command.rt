@@ -1,4 +1,4 @@
-//! `batch`, as what makes a whole report.
+//! `batch`, as what makes a report of the items of its files.
 
 ghost use Rattle.chart_core.specs.Kept.{InRange};
 ghost use Rattle.chart_workers.specs.Crews.{IsCrewSize};
@@ -6,8 +6,7 @@ ghost use Rattle.chart_workers.specs.Crews.{IsCrewSize};
 use crate::batching::report_of;
 use chart_core::Limits;
 use endings::Fault;
-use endings::commands::Whole;
-use endings::pieces::Report;
+use endings::commands::{ItemsReport, OfItems};
 use lkb_io::Shelf;
 use std::alloc::Global;
 use std::sync::Wait;
@@ -29,7 +28,7 @@ pub struct Batch<'a> {
     ghost crew: { IsCrewSize workers },
 }
 
-impl Whole for Batch<'_> {
+impl OfItems for Batch<'_> {
     ghost use Rattle.std.specs.Prelude.{option_map};
     ghost use Rattle.packed_items.specs.Answers.{limits_in};
     ghost use Rattle.profile_batch.specs.Batches.{batch_meaning};
@@ -42,7 +41,7 @@ impl Whole for Batch<'_> {
         alloc: Global,
         shelf: &mut S,
         gate: &dyn Gate,
-    ) -> Result<Report, Fault> {
+    ) -> Result<ItemsReport, Fault> {
         report_of(rt, alloc, self, shelf, gate)
     }
 }

@@ -114,7 +114,9 @@ impl Judge<'_, '_, '_> {
     ghost use Rattle.profile_items.specs.declared.Expected.{Expected};
     ghost use Rattle.profile_items.specs.Profiles.{an_item};
     ghost use Rattle.profile_reports.specs.Views.{Keeps, HasTexts, texts_kept};
-    ghost use Rattle.profile_batch.specs.Results.{outcome_of, IsResult};
+    ghost use Rattle.profile_items.specs.Views.{item_kept};
+    ghost use Rattle.profile_batch.specs.Results.{outcome_of, IsResult, IsResultOrGap};
+    ghost use Rattle.profile_batch.specs.Views.{trees_of};
 
     // What came of a sentence.
     fn came<Rt: Threads + Wait + Sync>(
@@ -148,8 +150,8 @@ impl Judge<'_, '_, '_> {
         came_of(alloc, &self.engine.grammar.names, &answer, wanted)
     }
 
-    // What is found of the item at a place that isn't bad.
-    fn judged<Rt: Threads + Wait + Sync>(
+    // The result of the item at a place that isn't bad.
+    fn compared<Rt: Threads + Wait + Sync>(
         &self,
         rt: &Rt,
         alloc: Global,
@@ -167,6 +169,55 @@ impl Judge<'_, '_, '_> {
         let came = self.came(rt, alloc, sentence, !trees.is_empty())?;
         result_of(alloc, place, trees, &came)
     }
+
+    // What is found of the item at a place that isn't bad: its result, or that memory was wanting for it.
+    fn found<Rt: Threads + Wait + Sync>(
+        &self,
+        rt: &Rt,
+        alloc: Global,
+        place: u32,
+        sentence: &str,
+        trees: &[Vec<u8>],
+    ) -> ItemResult
+        requires sync { IsSync Rt.row }
+        requires ready { IsReady self.now.engine }
+        requires limits { InRange self.now.limits }
+        requires few { length trees.now < 2 ^ 32 }
+        ensures { (expected : Expected)
+            → IsResultOrGap (speech_of self.now.engine) (limits_in self.now.limits) self.now.limits.lexical place (an_item expected sentence.now (map (λ t. t.items) trees.now)) result }
+    {
+        match self.compared(rt, alloc, place, sentence, trees) {
+            Ok(found) => found,
+            Err(_) => ItemResult::plain(place, Got::NoMemory),
+        }
+    }
+
+    /// What is found of the item at a place: its result, or that memory was wanting for it.
+    pub(crate) fn judged<Rt: Threads + Wait + Sync>(
+        &self,
+        rt: &Rt,
+        alloc: Global,
+        place: u32,
+        item: &ProfileItem,
+    ) -> ItemResult
+        requires sync { IsSync Rt.row }
+        requires ready { IsReady self.now.engine }
+        requires limits { InRange self.now.limits }
+        requires few { trees_of item.now < 2 ^ 32 }
+        ensures { IsResultOrGap (speech_of self.now.engine) (limits_in self.now.limits) self.now.limits.lexical place (item_kept item.now) result }
+    {
+        let bad = ItemResult::plain(place, Got::Bad);
+        match item {
+            ProfileItem::TooLong => bad,
+            ProfileItem::NotUtf8 => bad,
+            ProfileItem::NoItem => bad,
+            ProfileItem::Item {
+                expected: _,
+                sentence,
+                trees,
+            } => self.found(rt, alloc, place, sentence, trees),
+        }
+    }
 }
 
 impl Work<ProfileItem, ItemResult> for Judge<'_, '_, '_> {
@@ -176,12 +227,12 @@ impl Work<ProfileItem, ItemResult> for Judge<'_, '_, '_> {
     ghost use Rattle.engine.specs.Ready.{IsReady};
     ghost use Rattle.engine.specs.Views.{speech_of};
     ghost use Rattle.profile_items.specs.Views.{item_kept};
-    ghost use Rattle.profile_batch.specs.Results.{IsResult};
+    ghost use Rattle.profile_batch.specs.Results.{IsResultOrGap};
     ghost use Rattle.profile_batch.specs.Views.{trees_of};
 
     ghost ready = { λ j place item. IsReady j.engine × InRange j.limits × (place < 2 ^ 32) × (trees_of item < 2 ^ 32) };
 
-    ghost Gives = { λ j place item r. IsResult (speech_of j.engine) (limits_in j.limits) j.limits.lexical place (item_kept item) r };
+    ghost Gives = { λ j place item r. IsResultOrGap (speech_of j.engine) (limits_in j.limits) j.limits.lexical place (item_kept item) r };
 
     fn perform<Rt: Threads + Wait + Sync>(
         &self,
@@ -190,17 +241,6 @@ impl Work<ProfileItem, ItemResult> for Judge<'_, '_, '_> {
         place: u64,
         item: &ProfileItem,
     ) -> Result<ItemResult, NoMemory> {
-        let place = place as u32;
-        let bad = ItemResult::plain(place, Got::Bad);
-        match item {
-            ProfileItem::TooLong => Ok(bad),
-            ProfileItem::NotUtf8 => Ok(bad),
-            ProfileItem::NoItem => Ok(bad),
-            ProfileItem::Item {
-                expected: _,
-                sentence,
-                trees,
-            } => self.judged(rt, alloc, place, sentence, trees),
-        }
+        Ok(self.judged(rt, alloc, place as u32, item))
     }
 }

@@ -5,6 +5,7 @@ mod batching;
 mod command;
 mod judging;
 pub mod laws;
+mod turns;
 
 pub use batching::batch;
 pub use command::Batch;

@@ -7,7 +7,7 @@ use Rattle.profile_reports.specs.declared.Got.{Got}
 use Rattle.profile_reports.specs.declared.Got.TheVariants.{Readings as GotReadings}
 use Rattle.profile_reports.specs.declared.ItemResult.{ItemResult}
 use Rattle.profile_reports.specs.Texts.{kept, lost, gained}
-use Rattle.profile_reports.specs.Outcomes.{Outcome, found, got_of, texts_of}
+use Rattle.profile_reports.specs.Outcomes.{Outcome, got_of, texts_of}
 use Rattle.profile_reports.specs.Views.{Keeps, HasTexts, texts_kept, got_kept}
 use Rattle.profile_reports.specs.Comparing.{plain_result, compared_result, result_of}
 

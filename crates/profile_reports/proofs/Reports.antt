@@ -1,5 +1,5 @@
 -- The lines and the counts of items, one item more.
-use Rattle.std.proofs.Common.{◌≡◌, ℕ, ◌+◌, ◌<◌, ◌≤◌, List, ◌∷◌, ◌++◌, length, map, drop, get_or, refl, sym, ap, ◌∙◌, arith}
+use Rattle.std.proofs.Common.{◌≡◌, ℕ, ◌+◌, ◌<◌, ◌≤◌, List, ◌∷◌, ◌++◌, length, map, drop, get_or, sym, ap, ◌∙◌, arith}
 use Rattle.std.proofs.lemmas.List.{drop_more, append_assoc}
 use Rattle.profile_items.specs.declared.ProfileItem.{ProfileItem}
 use Rattle.profile_items.specs.Profiles.{Item}
@@ -8,8 +8,7 @@ use Rattle.profile_reports.specs.declared.Counts.{Counts}
 use Rattle.profile_reports.specs.declared.ItemResult.{ItemResult}
 use Rattle.profile_reports.specs.declared.Verdict.{Verdict}
 use Rattle.profile_reports.specs.declared.Verdict.TheVariants.{Same, Differs, New, Bad}
-use Rattle.profile_reports.specs.Comparing.{verdict_of}
-use Rattle.profile_reports.specs.Lines.{item_lines, lines_from, counted, counts_of}
+use Rattle.profile_reports.specs.Lines.{counted}
 use Rattle.profile_reports.specs.Inner.{sum_counts}
 
 abbrev counts_with : ℕ → ℕ → ℕ → ℕ → Counts

@@ -1,5 +1,5 @@
 -- The report lines of a profile, each with its end.
-use Rattle.std.specs.Prelude.{ℕ, ◌+◌, ◌==◌, ◌||◌, not, Bool, true, false, if◌then◌else◌, List, [], ◌∷◌, ◌++◌, length, codes}
+use Rattle.std.specs.Prelude.{ℕ, ◌+◌, ◌==◌, ◌&&◌, ◌||◌, not, Bool, true, false, if◌then◌else◌, List, [], ◌∷◌, ◌++◌, length, codes}
 use Rattle.std.specs.Fmt.{decimal}
 use Rattle.profile_items.specs.declared.Expected.{Expected}
 use Rattle.profile_items.specs.declared.Expected.TheVariants.{Unknown, Readings as ExpectsReadings, LexicalDepth as ExpectsDepth, UnaryChain as ExpectsChain, Edges as ExpectsEdges, TooManyReadings as ExpectsMany}
@@ -7,11 +7,11 @@ use Rattle.profile_items.specs.Names.{lexical_depth_name, unary_chain_name, edge
 use Rattle.profile_items.specs.Profiles.{Item, too_long, not_utf8, no_item, an_item}
 use Rattle.profile_reports.specs.declared.Counts.{Counts}
 use Rattle.profile_reports.specs.declared.Got.{Got}
-use Rattle.profile_reports.specs.declared.Got.TheVariants.{Bad as GotBad, Readings, LexicalDepth, UnaryChain, Edges, TooManyReadings}
+use Rattle.profile_reports.specs.declared.Got.TheVariants.{Bad as GotBad, Readings, LexicalDepth, UnaryChain, Edges, TooManyReadings, NoMemory}
 use Rattle.profile_reports.specs.declared.ItemResult.{ItemResult}
 use Rattle.profile_reports.specs.declared.Verdict.{Verdict}
 use Rattle.profile_reports.specs.declared.Verdict.TheVariants.{Same, Differs, New, Bad}
-use Rattle.profile_reports.specs.Comparing.{compared, verdict_of}
+use Rattle.profile_reports.specs.Comparing.{compared, lacks_memory, verdict_of}
 
 -- what came, as it is written
 abbrev pub got_text : Got → List ℕ
@@ -20,6 +20,7 @@ got_text LexicalDepth = lexical_depth_name
 got_text UnaryChain = unary_chain_name
 got_text Edges = edges_name
 got_text TooManyReadings = readings_name
+got_text NoMemory = codes "no-memory"
 got_text GotBad = codes "bad"
 
 -- what is expected, as it is written
@@ -37,12 +38,16 @@ compared_text New expected got = codes "new " ++ got_text got
 compared_text Same expected got = codes "same " ++ got_text got
 compared_text other expected got = codes "differs " ++ expected_text expected ++ (32 ∷ got_text got)
 
+-- what is told of an item of good form: that memory was wanting for it, or what came
+abbrev pub told_of : Expected → ItemResult → List ℕ
+told_of expected r = if lacks_memory r then codes "no-memory" else compared_text (compared expected r) expected r.got
+
 -- what is told of an item: why it is bad, or what came
 abbrev pub told : Item → ItemResult → List ℕ
 told too_long r = codes "too-long"
 told not_utf8 r = codes "not-utf8"
 told no_item r = codes "no-item"
-told (an_item expected sentence trees) r = compared_text (compared expected r) expected r.got
+told (an_item expected sentence trees) r = told_of expected r
 
 -- `item N TEXT`
 abbrev pub item_line : ℕ → List ℕ → List ℕ
@@ -57,9 +62,9 @@ abbrev pub has_trees : Item → Bool
 has_trees (an_item expected sentence (t ∷ ts)) = true
 has_trees other = false
 
--- the line on its trees follows an item for which trees are written
+-- the line on its trees follows an item for which trees are written, unless memory was wanting for it
 abbrev pub trees_lines : Item → ItemResult → List (List ℕ)
-trees_lines item r = if has_trees item then trees_line r ∷ [] else []
+trees_lines item r = if has_trees item && not (lacks_memory r) then trees_line r ∷ [] else []
 
 -- the report lines of the item of this number
 abbrev pub item_lines : ℕ → Item → ItemResult → List (List ℕ)

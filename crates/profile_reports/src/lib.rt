@@ -10,7 +10,7 @@ mod verdicts;
 pub use compare::result_of;
 pub use profile_items::NoMemory;
 pub use report::{ProfileReport, report_on};
-pub use verdicts::verdict_of;
+pub use verdicts::{some_lacking, verdict_of};
 
 /// What a grammar gives for an item.
 #[derive(Clone, Copy, Debug, PartialEq, Eq)]
@@ -27,6 +27,8 @@ pub enum Got {
     Edges,
     /// There are too many readings.
     TooManyReadings,
+    /// Memory was wanting for the item.
+    NoMemory,
 }
 
 /// What is found of the item at a place, counted from 0.
@@ -68,7 +70,7 @@ pub enum Verdict {
     Differs,
     /// Nothing was expected.
     New,
-    /// The item is bad.
+    /// The item is bad, or memory was wanting for it.
     Bad,
 }
 

@@ -2,9 +2,10 @@
 ghost use Rattle.std.specs.Prelude.{◌≡◌, ◌++◌, ◌∷◌, [], IfOk, OnOk};
 ghost use Rattle.std.specs.Fmt.{decimal};
 ghost use Rattle.profile_items.specs.Views.{item_kept};
-ghost use Rattle.profile_reports.specs.Comparing.{verdict_of};
-ghost use Rattle.profile_reports.specs.Lines.{got_text, expected_text, compared_text, told, item_line, trees_line, has_trees, summary_line};
+ghost use Rattle.profile_reports.specs.Comparing.{verdict_on, verdict_of};
+ghost use Rattle.profile_reports.specs.Lines.{got_text, expected_text, compared_text, told_of, told, item_line, trees_line, has_trees, summary_line};
 
+use crate::verdicts::lacks_memory;
 use crate::{Counts, Got, ItemResult, NoMemory, Verdict};
 use itoa::Buffer;
 use profile_items::{Expected, ProfileItem};
@@ -44,6 +45,7 @@ fn put_got(got: Got, into: &mut Vec<u8>) -> Result<(), NoMemory>
         Got::UnaryChain => put(b"unary-chain", into),
         Got::Edges => put(b"edges", into),
         Got::TooManyReadings => put(b"readings", into),
+        Got::NoMemory => put(b"no-memory", into),
         Got::Bad => put(b"bad", into),
     }
 }
@@ -95,6 +97,22 @@ fn put_compared(
     }
 }
 
+// What is told of an item of good form, by its verdict.
+fn put_told_of(
+    verdict: Verdict,
+    expected: Expected,
+    found: &ItemResult,
+    into: &mut Vec<u8>,
+) -> Result<(), NoMemory>
+    requires { verdict ≡ verdict_on expected found.now }
+    ensures { OnOk result (into.new.items ≡ into.old.items ++ told_of expected found.now) }
+{
+    if lacks_memory(found) {
+        return put(b"no-memory", into);
+    }
+    put_compared(verdict, expected, found.got, into)
+}
+
 // What is told of an item, by its verdict.
 fn put_told(
     verdict: Verdict,
@@ -109,7 +127,7 @@ fn put_told(
         ProfileItem::TooLong => put(b"too-long", into),
         ProfileItem::NotUtf8 => put(b"not-utf8", into),
         ProfileItem::NoItem => put(b"no-item", into),
-        ProfileItem::Item { expected, .. } => put_compared(verdict, *expected, found.got, into),
+        ProfileItem::Item { expected, .. } => put_told_of(verdict, *expected, found, into),
     }
 }
 

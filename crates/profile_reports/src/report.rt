@@ -5,7 +5,7 @@ ghost use Rattle.profile_reports.specs.Comparing.{verdict_of};
 ghost use Rattle.profile_reports.specs.Lines.{item_lines, trees_lines, report_lines, is_refused};
 
 use crate::lines::{has_trees, item_line, summary_line, trees_line};
-use crate::verdicts::{count, verdict_of};
+use crate::verdicts::{count, lacks_memory, verdict_of};
 use crate::{Counts, ItemResult, NoMemory, Verdict};
 use profile_items::ProfileItem;
 use std::alloc::Global;
@@ -17,7 +17,7 @@ pub struct ProfileReport {
     pub refused: bool,
 }
 
-// The line on an item's trees, where trees are written for it.
+// The line on an item's trees, where trees are written for it and memory wasn't wanting.
 fn put_trees(
     alloc: Global,
     item: &ProfileItem,
@@ -26,7 +26,7 @@ fn put_trees(
 ) -> Result<(), NoMemory>
     ensures { OnOk result (map (λ l. l.items) lines.new.items ≡ map (λ l. l.items) lines.old.items ++ trees_lines (item_kept item.now) found.now) }
 {
-    if !has_trees(item) {
+    if !has_trees(item) || lacks_memory(found) {
         return Ok(());
     }
     lines.push(trees_line(alloc, found)?)?;

@@ -1,7 +1,7 @@
 //! Verdicts on items.
 ghost use Rattle.std.specs.Prelude.{◌≡◌, ◌+◌, ◌-◌, ◌<◌, ◌^◌};
 ghost use Rattle.profile_items.specs.Views.{item_kept};
-ghost use Rattle.profile_reports.specs.Comparing.{is_expected, compared, verdict_of};
+ghost use Rattle.profile_reports.specs.Comparing.{is_expected, compared, lacks_memory, is_some_lacking, verdict_on, verdict_of};
 ghost use Rattle.profile_reports.specs.Lines.{counted};
 
 use crate::{Counts, Got, ItemResult, Verdict};
@@ -34,12 +34,36 @@ fn compared(expected: Expected, found: &ItemResult) -> Verdict
     Verdict::Differs
 }
 
+// Whether memory was wanting for the item.
+pub(crate) fn lacks_memory(found: &ItemResult) -> bool
+    ensures { result ≡ lacks_memory found.now }
+{
+    matches!(found.got, Got::NoMemory)
+}
+
+/// Whether memory was wanting for one of several items.
+pub fn some_lacking(results: &[ItemResult]) -> bool
+    ensures { result ≡ is_some_lacking results.now }
+{
+    results.iter().any(|r| lacks_memory(r))
+}
+
+// The verdict on an item of good form.
+fn verdict_on(expected: Expected, found: &ItemResult) -> Verdict
+    ensures { result ≡ verdict_on expected found.now }
+{
+    if lacks_memory(found) {
+        return Verdict::Bad;
+    }
+    compared(expected, found)
+}
+
 /// The verdict on an item, by what is found of it.
 pub fn verdict_of(item: &ProfileItem, found: &ItemResult) -> Verdict
     ensures { result ≡ verdict_of (item_kept item.now) found.now }
 {
     match item {
-        ProfileItem::Item { expected, .. } => compared(*expected, found),
+        ProfileItem::Item { expected, .. } => verdict_on(*expected, found),
         ProfileItem::TooLong => Verdict::Bad,
         ProfileItem::NotUtf8 => Verdict::Bad,
         ProfileItem::NoItem => Verdict::Bad,

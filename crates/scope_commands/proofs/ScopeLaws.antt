@@ -1,6 +1,7 @@
 -- What holds of `scope`.
 use Rattle.std.proofs.Common.{ℕ}
 use Rattle.endings.specs.Meanings.{Lawful}
+use Rattle.endings.proofs.ToldLines.{no-gap}
 use Rattle.scope_commands.specs.Answers.{IsAnswer}
 use Rattle.scope_commands.specs.Scoping.{scope_meaning}
 use Rattle.scope_commands.proofs.OneAnswers.{TextLaws, ReadingLaws, one-answer, one-answers}
@@ -8,6 +9,8 @@ use Rattle.scope_commands.proofs.OneAnswers.{TextLaws, ReadingLaws, one-answer, 
 pub scope-laws : TextLaws → ReadingLaws → (max : ℕ) → Lawful (scope_meaning max)
 scope-laws texts readings max = record {
   loads = λ files lines pieces refused r. tt;
+  gaps_load = λ files lines pieces wanting r. tt;
+  no_gap = λ files lines pieces r. no-gap (IsAnswer max) 1 lines pieces r;
   one_first = λ files f g a b. absurd a;
   not_both = λ files f l a. a;
   one_report = λ files lines pieces others refused may p q. one-answers (IsAnswer max) (one-answer texts readings max) 1 lines pieces others refused may p q;

@@ -1,4 +1,5 @@
 pub mod CountedLines
+pub mod GivenAt
 pub mod WorkloadFaults
 pub mod Reported
 pub mod OneSummary

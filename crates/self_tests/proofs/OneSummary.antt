@@ -1,5 +1,5 @@
 -- A workload has one summary.
-use Rattle.std.proofs.Common.{◌≡◌, ◌∙◌, ℕ, List, [], ◌∷◌, Option, Some, None, Bool, map, refl, sym, ap, subst}
+use Rattle.std.proofs.Common.{◌≡◌, ◌∙◌, ℕ, List, [], ◌∷◌, ◌++◌, Option, Some, None, Bool, map, refl, sym, ap, subst}
 use Rattle.std.specs.List.{AllZip}
 use Rattle.std.specs.Str.{chars}
 use Rattle.fs_model.specs.Claims.{IsOrder}
@@ -16,6 +16,7 @@ use Rattle.engine.specs.Speeches.{Speech, HasSpeech, lattice_of_words}
 use Rattle.engine.proofs.GrammarLaws.{OneGrammar, OneFault, NotBoth, speeches-same, has-order}
 use Rattle.engine.proofs.Speeches.{OneSigns}
 use Rattle.self_tests.specs.Items.{count_of, IsItem}
+use Rattle.self_tests.proofs.CountedLines.{all-counted, no-gap-lines}
 use Rattle.self_tests.specs.SelfTests.{workload_shelf, workload_name, IsSummed, self_test_meaning}
 
 module _ (answers : ParseAnswersAreOne) (g : Signs) (order : IsOrder g.system) (words : Words) (limits : Limits) (most : ℕ) where
@@ -47,6 +48,12 @@ one-report one views signs answers files name limits most number size pieces oth
 pub self-test-laws : OneGrammar → OneFault → NotBoth → SameViews → OneSigns → ParseAnswersAreOne → (number size : ℕ) (limits : Limits) (most : ℕ) → Lawful (self_test_meaning number size limits most)
 self-test-laws one fault both views signs answers number size limits most = record {
   loads = λ files lines pieces refused r. (r.1.0, r.1.1);
+  gaps_load = λ files lines pieces wanting r. (r.1.0, r.1.1);
+  no_gap = λ files ls pieces r. (
+      let counts = r.2.0 in
+      let none = sym r.2.3 in
+      let only = ap (λ gaps. gaps ++ summary_line number size counts ∷ []) (no-gap-lines 1 counts none) in
+      (is_some_refused counts, (r.0, r.1, (counts, all-counted r.0 limits most (lines number size) counts r.2.1 none, r.2.2 ∙ only, refl))));
   one_first = λ files f g a b. fault workload_shelf workload_name None f g a b;
   not_both = λ files f l a. both workload_shelf workload_name None l.0 f l.1 a;
   one_report = λ files lines pieces others refused may p q. one-report one views signs answers workload_shelf workload_name limits most number size pieces others refused may p q;

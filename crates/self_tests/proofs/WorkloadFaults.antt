@@ -3,15 +3,18 @@ use Rattle.std.proofs.Common.{◌≡◌, ℕ, List, Some, None, arith, subst}
 use Rattle.lkb_io.specs.Outside.{HasRisen}
 use Rattle.lkb_io.specs.Shelves.{NamedFile, file_or_empty}
 use Rattle.endings.specs.Meanings.{Shelves, Files}
-use Rattle.endings.specs.Endings.{NotCome}
+use Rattle.endings.specs.Endings.{NotCome, IsReportOn}
+use Rattle.endings.specs.declared.commands.ItemsReport.{ItemsReport}
+use Rattle.endings.specs.declared.commands.ItemsReport.TheVariants.{AllAnswered, WithGaps}
 use Rattle.endings.specs.declared.Fault.{Fault}
 use Rattle.endings.specs.declared.Fault.TheVariants.{Usage, Files as FilesFault, Stopped}
-use Rattle.endings.specs.declared.Stop.TheVariants.{Read, TooLong, TooMany, Write, NoMemory}
+use Rattle.endings.specs.declared.Stop.TheVariants.{Read, TooLong, TooMany, Write, Gaps, NoMemory}
 use Rattle.command_grammars.specs.Grammars.{never, IsFirstFault, LacksGrammar}
 use Rattle.item_model.specs.Items.{Limits}
+use Rattle.engine.specs.Speeches.{Speech, HasSpeech}
 use Rattle.engine.proofs.GrammarLaws.{Calm}
 use Rattle.self_tests.specs.SelfTests.{workload_files, workload_name, self_test_meaning}
-use Rattle.self_tests.specs.Inner.Counts.{IsWorkloadFault}
+use Rattle.self_tests.specs.Inner.Counts.{IsWorkloadFault, IsSummedSo}
 
 -- a shelf of these files that never fails
 abbrev pub still : List NamedFile → Shelves
@@ -25,18 +28,26 @@ pub workload-fault : Calm → (files : List NamedFile) → Some (file_or_empty f
 workload-fault calm files e (FilesFault text) x =
     (x.0, subst (λ (f : Files). IsFirstFault workload_name None f never x.0) e (calm (still files) workload_name None x.0 x.1 x.2 none-risen), λ file failed. none-risen (x.2 file failed).0, x.3)
 workload-fault calm files e (Stopped NoMemory) x = tt
-workload-fault calm files e Usage x = absurd x
+workload-fault calm files e (Usage text) x = absurd x
 workload-fault calm files e (Stopped Read) x = absurd x
 workload-fault calm files e (Stopped TooLong) x = absurd x
 workload-fault calm files e (Stopped TooMany) x = absurd x
 workload-fault calm files e (Stopped Write) x = absurd x
+workload-fault calm files e (Stopped Gaps) x = absurd x
 
 -- is why nothing came
 pub fault-not-come : (number size : ℕ) (limits : Limits) (most : ℕ) (h : Shelves) (fault : Fault) → IsWorkloadFault fault → NotCome (self_test_meaning number size limits most) h fault
 fault-not-come number size limits most h (FilesFault text) x = (x.0, (x.1, λ file failed. absurd (x.2 file failed)), x.3)
 fault-not-come number size limits most h (Stopped NoMemory) x = tt
-fault-not-come number size limits most h Usage x = absurd x
+fault-not-come number size limits most h (Usage text) x = absurd x
 fault-not-come number size limits most h (Stopped Read) x = absurd x
 fault-not-come number size limits most h (Stopped TooLong) x = absurd x
 fault-not-come number size limits most h (Stopped TooMany) x = absurd x
 fault-not-come number size limits most h (Stopped Write) x = absurd x
+fault-not-come number size limits most h (Stopped Gaps) x = absurd x
+
+-- what is summed up is the report of `self-test`
+pub told-report : (number size : ℕ) (limits : Limits) (most : ℕ) (h : Shelves) (lines : List (List ℕ)) (speech : Speech) → HasSpeech workload_files workload_name None speech
+    → (report : ItemsReport) → IsSummedSo speech limits most number size report → IsReportOn (self_test_meaning number size limits most) h report lines
+told-report number size limits most h lines speech has (AllAnswered r) summed = (speech, has, summed)
+told-report number size limits most h lines speech has (WithGaps gapped) summed = (speech, has, summed)

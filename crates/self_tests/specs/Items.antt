@@ -9,7 +9,7 @@ use Rattle.parse_items.specs.Answers.{IsParseAnswer}
 use Rattle.lexical_items.specs.Seen.{lattice_seen}
 use Rattle.engine.specs.Speeches.{lattice_of_words}
 use Rattle.item_counts.specs.declared.Count.{Count}
-use Rattle.item_counts.specs.declared.Count.TheVariants.{Refused, Found}
+use Rattle.item_counts.specs.declared.Count.TheVariants.{Refused, NoMemory, Found}
 
 -- what is counted of an answer: that a limit is broken, or the number of packed classes and of trees
 abbrev pub count_of : Answer → Count
@@ -27,3 +27,11 @@ module _ (g : Signs) (words : Words) (limits : Limits) (most : ℕ) where
     pub answers : List Answer
     pub items : AllZip IsItem lines answers
     pub counts_are : counts ≡ map count_of answers
+
+  -- What is counted of a line where memory may have been wanting: that of its answer, or that memory was wanting for it.
+  pub data IsCountOrGap (line : List ℕ) : Count → Type 0 where
+    a_count : (answer : Answer) → IsItem line answer → IsCountOrGap line (count_of answer)
+    a_gap : IsCountOrGap line NoMemory
+
+  abbrev pub AreCountsOrGaps : List (List ℕ) → List Count → Type 0
+  AreCountsOrGaps lines counts = AllZip IsCountOrGap lines counts

@@ -1,16 +1,18 @@
 -- What `self-test` is to do: the lines of a workload are parsed with the workload's grammar, and what is counted of the answers is summed up.
-use Rattle.std.specs.Prelude.{ℕ, ◌≡◌, Bool, false, List, [], ◌∷◌, Option, None, Some, map, codes}
+use Rattle.std.specs.Prelude.{ℕ, suc, ◌≡◌, Bool, false, List, [], ◌∷◌, ◌++◌, Option, None, Some, map, codes}
 use Rattle.lkb_io.specs.Shelves.{NamedFile, file_or_empty}
 use Rattle.workload.specs.Made.{File, files}
 use Rattle.workload.specs.Lines.{lines}
 use Rattle.grammar_load.specs.Loaded.{GrammarTree}
 use Rattle.endings.specs.Meanings.{Meaning, Files}
+use Rattle.endings.specs.Reports.{no_memory_line}
 use Rattle.command_grammars.specs.Grammars.{HasGrammar, IsFirstFault, never}
 use Rattle.item_model.specs.Items.{Limits}
 use Rattle.item_counts.specs.declared.Count.{Count}
-use Rattle.item_counts.specs.Summaries.{summary_line, is_some_refused}
+use Rattle.item_counts.specs.declared.Count.TheVariants.{NoMemory}
+use Rattle.item_counts.specs.Summaries.{summary_line, is_some_refused, is_some_lacking}
 use Rattle.engine.specs.Speeches.{Speech, HasSpeech}
-use Rattle.self_tests.specs.Items.{AreCounted}
+use Rattle.self_tests.specs.Items.{AreCounted, AreCountsOrGaps}
 
 -- a file of a workload, as a shelf has it
 abbrev pub shelved : File → NamedFile
@@ -33,6 +35,23 @@ IsSummed speech limits most number size pieces refused =
     (counts : List Count) × AreCounted speech.signs speech.words limits most (lines number size) counts
     × (pieces ≡ summary_line number size counts ∷ []) × (refused ≡ is_some_refused counts)
 
+-- the line of the item of a number, where memory was wanting for it
+abbrev pub gap_line : ℕ → Count → List (List ℕ)
+gap_line number NoMemory = no_memory_line number ∷ []
+gap_line number other = []
+
+-- these lines of items that are numbered from here on
+abbrev pub gap_lines : ℕ → List Count → List (List ℕ)
+gap_lines number [] = []
+gap_lines number (count ∷ counts) = gap_line number count ++ gap_lines (suc number) counts
+
+-- The same where memory may have been wanting: such items are told before the summary, and count as refused there; and whether there is
+-- one.
+abbrev pub IsSummedWithGaps : Speech → Limits → ℕ → ℕ → ℕ → List (List ℕ) → Bool → Type 0
+IsSummedWithGaps speech limits most number size pieces wanting =
+    (counts : List Count) × AreCountsOrGaps speech.signs speech.words limits most (lines number size) counts
+    × (pieces ≡ gap_lines 1 counts ++ summary_line number size counts ∷ []) × (wanting ≡ is_some_lacking counts)
+
 -- `self-test`, within these limits: the items of the workload of a number and a size, by the grammar that its file loads to under the
 -- default settings. A first fault of that file would be told as one of any grammar.
 abbrev pub self_test_meaning : ℕ → ℕ → Limits → ℕ → Meaning
@@ -42,4 +61,5 @@ self_test_meaning number size limits most = record {
   loadable = λ files. (g : GrammarTree) × HasGrammar workload_files workload_name None g;
   first = λ files fails fault. IsFirstFault workload_name None workload_files never fault;
   report = λ files lines pieces refused. (speech : Speech) × HasSpeech workload_files workload_name None speech × IsSummed speech limits most number size pieces refused;
+  with_gaps = λ files lines pieces wanting. (speech : Speech) × HasSpeech workload_files workload_name None speech × IsSummedWithGaps speech limits most number size pieces wanting;
 }

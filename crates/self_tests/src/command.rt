@@ -1,12 +1,11 @@
-//! `self-test`, as what makes a whole report.
+//! `self-test`, as what makes a report of the items of its workload.
 ghost use Rattle.chart_core.specs.Kept.{InRange};
 ghost use Rattle.chart_workers.specs.Crews.{IsCrewSize};
 
 use crate::testing::report_of;
 use chart_core::Limits;
 use endings::Fault;
-use endings::commands::Whole;
-use endings::pieces::Report;
+use endings::commands::{ItemsReport, OfItems};
 use lkb_io::Shelf;
 use std::alloc::Global;
 use std::sync::Wait;
@@ -26,7 +25,7 @@ pub struct SelfTest {
     ghost crew: { IsCrewSize workers },
 }
 
-impl Whole for SelfTest {
+impl OfItems for SelfTest {
     ghost use Rattle.packed_items.specs.Answers.{limits_in};
     ghost use Rattle.self_tests.specs.SelfTests.{self_test_meaning};
 
@@ -38,7 +37,7 @@ impl Whole for SelfTest {
         alloc: Global,
         _shelf: &mut S,
         gate: &dyn Gate,
-    ) -> Result<Report, Fault> {
+    ) -> Result<ItemsReport, Fault> {
         report_of(rt, alloc, self, gate)
     }
 }

@@ -28,7 +28,7 @@ use worker_gate::OpenGate;
 pub(crate) struct Counter<'c, 'g, 's, 'b, 'h, 'm, 'r, 'd, 'k, 'f, 'p> {
     pub(crate) engine: &'c Engine<'g, 's, 'b, 'h, 'm, 'r, 'd, 'k, 'f, 'p>,
     pub(crate) limits: &'c Limits,
-    pub(crate) desks: &'c Desks,
+    pub(crate) desks: Desks,
     pub(crate) share: Share,
 }
 
@@ -69,17 +69,54 @@ fn count_line<Rt: Threads + Wait + Sync>(
     Ok(count_of(&answer))
 }
 
+impl Counter<'_, '_, '_, '_, '_, '_, '_, '_, '_, '_, '_> {
+    ghost use Rattle.std.specs.Thread.{IsSync};
+    ghost use Rattle.std.specs.Str.{IsUtf8};
+    ghost use Rattle.chart_core.specs.Kept.{InRange};
+    ghost use Rattle.packed_items.specs.Answers.{limits_in};
+    ghost use Rattle.engine.specs.Ready.{IsReady};
+    ghost use Rattle.engine.specs.Views.{speech_of};
+    ghost use Rattle.self_tests.specs.Inner.Counts.{MayBeCounted};
+
+    /// What is counted of the answer to a line, or that memory was wanting for it. A desk at which it was wanting is let go, with what it
+    /// holds.
+    pub(crate) fn counted<Rt: Threads + Wait + Sync>(
+        &self,
+        rt: &Rt,
+        alloc: Global,
+        line: &[u8],
+    ) -> Count
+        requires sync { IsSync Rt.row }
+        requires ready { IsReady self.now.engine.now }
+        requires limits { InRange self.now.limits.now }
+        requires text { IsUtf8 line.now }
+        ensures { MayBeCounted (speech_of self.now.engine.now) (limits_in self.now.limits.now) self.now.limits.now.lexical line.now result }
+    {
+        let Ok(text) = str::from_utf8(line) else {
+            unreachable!()
+        };
+        let mut desk = self.desks.take(rt, alloc, self.share);
+        match count_line(rt, alloc, self.engine, &mut desk, self.limits, text) {
+            Ok(count) => {
+                self.desks.give_back(rt, self.share, desk);
+                count
+            }
+            Err(_) => Count::NoMemory,
+        }
+    }
+}
+
 impl Work<Vec<u8>, Count> for Counter<'_, '_, '_, '_, '_, '_, '_, '_, '_, '_, '_> {
     ghost use Rattle.std.specs.Str.{IsUtf8};
     ghost use Rattle.chart_core.specs.Kept.{InRange};
     ghost use Rattle.packed_items.specs.Answers.{limits_in};
     ghost use Rattle.engine.specs.Ready.{IsReady};
     ghost use Rattle.engine.specs.Views.{speech_of};
-    ghost use Rattle.self_tests.specs.Inner.Counts.{IsCounted};
+    ghost use Rattle.self_tests.specs.Inner.Counts.{MayBeCounted};
 
     ghost ready = { λ c place line. IsReady c.engine.now × InRange c.limits.now × IsUtf8 line.items };
 
-    ghost Gives = { λ c place line count. IsCounted (speech_of c.engine.now) (limits_in c.limits.now) c.limits.now.lexical line.items count };
+    ghost Gives = { λ c place line count. MayBeCounted (speech_of c.engine.now) (limits_in c.limits.now) c.limits.now.lexical line.items count };
 
     fn perform<Rt: Threads + Wait + Sync>(
         &self,
@@ -88,12 +125,6 @@ impl Work<Vec<u8>, Count> for Counter<'_, '_, '_, '_, '_, '_, '_, '_, '_, '_, '_
         _place: u64,
         line: &Vec<u8>,
     ) -> Result<Count, NoMemory> {
-        let Ok(text) = str::from_utf8(line) else {
-            unreachable!()
-        };
-        let mut desk = self.desks.take(rt, alloc, self.share);
-        let counted = count_line(rt, alloc, self.engine, &mut desk, self.limits, text);
-        self.desks.give_back(rt, self.share, desk);
-        counted
+        Ok(self.counted(rt, alloc, line))
     }
 }

@@ -4,12 +4,12 @@ ghost use Rattle.std.specs.Prelude.{◌≡◌, map};
 ghost use Rattle.workload.specs.Lines.{lines as workload_lines};
 
 use crate::counter::Counter;
+use crate::turns::count_all;
 use crate::{NoMemory, SelfTest};
 use endings::lines::Share;
 use engine::desks::Desks;
 use engine::{Engine, Use};
 use item_counts::Count;
-use side_by_side::each_by;
 use std::alloc::Global;
 use std::sync::Wait;
 use std::thread::Threads;
@@ -37,12 +37,12 @@ impl Use<(), ()> for Counting<'_> {
     ghost use Rattle.std.specs.Prelude.{IfOk};
     ghost use Rattle.packed_items.specs.Answers.{limits_in};
     ghost use Rattle.workload.specs.Lines.{lines as workload_lines};
-    ghost use Rattle.self_tests.specs.Items.{AreCounted};
+    ghost use Rattle.self_tests.specs.Items.{AreCountsOrGaps};
 
     type Out = Result<Vec<Count>, NoMemory>;
 
     ghost Gives = { λ c g speech a b p q out. let t = c.test.now in
-        IfOk out (λ counts. AreCounted speech.signs speech.words (limits_in t.limits) t.limits.lexical (workload_lines t.number t.size) counts.items) };
+        IfOk out (λ counts. AreCountsOrGaps speech.signs speech.words (limits_in t.limits) t.limits.lexical (workload_lines t.number t.size) counts.items) };
 
     fn run<Rt: Threads + Wait + Sync>(
         &self,
@@ -55,14 +55,12 @@ impl Use<(), ()> for Counting<'_> {
     ) -> Result<Vec<Count>, NoMemory> {
         lines_are_text();
         let workers = self.test.workers;
-        let desks = Desks::new(alloc, workers);
         let counter = Counter {
             engine,
             limits: &self.test.limits,
-            desks: &desks,
+            desks: Desks::new(alloc, workers),
             share: share_of(workers, self.lines.len()),
         };
-        let counts = each_by(rt, alloc, &counter, self.lines, workers, gate)?;
-        Ok(counts)
+        count_all(rt, alloc, counter, self.lines, workers, gate)
     }
 }

@@ -5,7 +5,9 @@ mod command;
 mod counter;
 mod counting;
 pub mod laws;
+mod summing;
 mod testing;
+mod turns;
 
 pub use command::SelfTest;
 pub use engine::NoMemory;

@@ -1,7 +1,6 @@
 //! A workload is parsed with its grammar.
 
-ghost use Rattle.std.specs.Prelude.{◌≡◌, ◌∷◌, [], None, length, map, IfOk, IfErr};
-ghost use Rattle.item_counts.specs.Summaries.{summary_line, is_some_refused};
+ghost use Rattle.std.specs.Prelude.{◌≡◌, None, map, IfOk, IfErr};
 ghost use Rattle.book_signs.specs.Conditions.{IsWhole};
 ghost use Rattle.packed_items.specs.Answers.{limits_in};
 ghost use Rattle.grammar_load.specs.Conditions.{IsLoaded};
@@ -9,24 +8,25 @@ ghost use Rattle.grammar_load.specs.Views.{grammar_of};
 ghost use Rattle.grammar_names.specs.Fitting.{HasMrsPaths};
 ghost use Rattle.command_grammars.specs.Grammars.{HasGrammar};
 ghost use Rattle.endings.specs.Meanings.{Shelves};
-ghost use Rattle.endings.specs.Endings.{Made};
+ghost use Rattle.endings.specs.Endings.{MadeOfItems};
 ghost use Rattle.workload.specs.Made.{file_of, files as workload_files_made};
 ghost use Rattle.workload.specs.Lines.{lines as workload_lines};
 ghost use Rattle.engine.specs.Speeches.{Speech, IsSpeechOf};
-ghost use Rattle.self_tests.specs.SelfTests.{shelved, workload_files, workload_name, IsSummed, self_test_meaning};
-ghost use Rattle.self_tests.specs.Inner.Counts.{AreCountedWith, IsWorkloadFault};
+ghost use Rattle.self_tests.specs.SelfTests.{shelved, workload_files, workload_name, self_test_meaning};
+ghost use Rattle.self_tests.specs.Inner.Counts.{AreCountedWith, IsSummedSo, IsWorkloadFault};
 
 use crate::counting::Counting;
+use crate::summing::report_on;
 use crate::{NoMemory, SelfTest};
 use book_signs::laws::whole_book;
 use command_grammars::laws::grammar_laws;
 use command_grammars::load_grammar;
-use endings::pieces::Report;
+use endings::commands::ItemsReport;
 use endings::{Fault, Stop};
 use engine::with_engine;
 use grammar_load::Grammar;
 use grammar_names::loaded_paths;
-use item_counts::{Count, some_refused, summary};
+use item_counts::Count;
 use lkb_io::{ShelfFile, WholeShelf};
 use std::alloc::Global;
 use std::sync::Wait;
@@ -81,23 +81,6 @@ fn count_with<Rt: Threads + Wait + Sync>(
     with_engine(rt, alloc, grammar, &job, &mut nothing, &mut no_more, gate)?
 }
 
-// The report on what is counted of a workload: a count for each line.
-fn report_on(alloc: Global, number: u64, size: u32, counts: &[Count]) -> Result<Report, NoMemory>
-    requires { length counts.now ≡ size }
-    ensures line { IfOk result (λ r. map (λ l. l.items) r.lines.items ≡ summary_line number size counts.now ∷ []) }
-    ensures refused { IfOk result (λ r. r.refused ≡ is_some_refused counts.now) }
-{
-    let Ok(line) = summary(alloc, number, size, counts) else {
-        return Err(NoMemory);
-    };
-    let mut lines = Vec::with_capacity(alloc, 1)?;
-    lines.push(line)?;
-    Ok(Report {
-        lines,
-        refused: some_refused(counts),
-    })
-}
-
 // The report on the lines of a workload, by its grammar.
 fn report_with<Rt: Threads + Wait + Sync>(
     rt: &Rt,
@@ -106,12 +89,12 @@ fn report_with<Rt: Threads + Wait + Sync>(
     grammar: &Grammar,
     lines: &[Vec<u8>],
     gate: &dyn Gate,
-) -> Result<Report, NoMemory>
+) -> Result<ItemsReport, NoMemory>
     requires grammar { HasGrammar workload_files workload_name None (grammar_of grammar.now) }
     requires loaded { IsLoaded (grammar_of grammar.now) }
     requires lines { map (λ l. l.items) lines.now ≡ workload_lines test.now.number test.now.size }
     ensures { IfOk result (λ r. (speech : Speech) × IsSpeechOf (grammar_of grammar.now) speech
-        × IsSummed speech (limits_in test.now.limits) test.now.limits.lexical test.now.number test.now.size (map (λ l. l.items) r.lines.items) r.refused) }
+        × IsSummedSo speech (limits_in test.now.limits) test.now.limits.lexical test.now.number test.now.size r) }
 {
     whole_book();
     loaded_paths();
@@ -119,14 +102,14 @@ fn report_with<Rt: Threads + Wait + Sync>(
     report_on(alloc, test.number, test.size, &counts)
 }
 
-/// The report of `self-test`: the summary of a workload's items, or the first fault of its file.
+/// The report of `self-test`: the summary of a workload's items, after those that are told to lack memory, or the first fault of its file.
 pub(crate) fn report_of<Rt: Threads + Wait + Sync>(
     rt: &Rt,
     alloc: Global,
     test: &SelfTest,
     gate: &dyn Gate,
-) -> Result<Report, Fault>
-    ensures { (h : Shelves) → Made (self_test_meaning test.now.number test.now.size (limits_in test.now.limits) test.now.limits.lexical) h result }
+) -> Result<ItemsReport, Fault>
+    ensures { (h : Shelves) → MadeOfItems (self_test_meaning test.now.number test.now.size (limits_in test.now.limits) test.now.limits.lexical) h result }
 {
     let Ok(workload) = make(alloc, test.number, test.size) else {
         return Err(Fault::Stopped(Stop::NoMemory));

@@ -1,35 +1,47 @@
 -- What follows from words that are of a form, or of none.
-use Rattle.std.proofs.Common.{◌≡◌, ◌∙◌, ◌⊎◌, inl, inr, sym, ap, refl, List, ℕ, Bool, Err, Result}
+use Rattle.std.proofs.Common.{◌≡◌, ◌∙◌, ◌⊎◌, inl, inr, sym, List, [], ◌++◌, ℕ, Option, Err}
 use Rattle.command_line.specs.Words.{Form, IsForm}
-use Rattle.command_line.specs.declared.reading.WordsFault.{WordsFault}
-use Rattle.command_line.specs.declared.reading.WordsFault.TheVariants.{Usage as UsageWords, NoMemory as NoMemoryWords}
 use Rattle.endings.specs.declared.Status.{Status}
-use Rattle.endings.specs.declared.Status.TheVariants.{Done, Items, Usage, Grammar, ReadFault, WriteFault, NoMemory}
+use Rattle.endings.specs.declared.Status.TheVariants.{Done, Items, Usage, Grammar, ReadFault, WriteFault, Gaps, NoMemory}
 use Rattle.endings.specs.declared.Fault.{Fault}
-use Rattle.endings.specs.declared.Fault.TheVariants.{Usage as UsageFault, Stopped}
-use Rattle.endings.specs.declared.Stop.TheVariants.{NoMemory as NoMemoryStop}
-use Rattle.endings.specs.Endings.{status_of}
-use Rattle.top_call.specs.Runs.{IsFormless}
+use Rattle.endings.specs.declared.Fault.TheVariants.{Usage as UsageFault, Files, Stopped}
+use Rattle.endings.specs.declared.Stop.TheVariants.{Read, TooLong, TooMany, Write, Gaps, NoMemory as NoMemoryStop}
+use Rattle.endings.specs.Endings.{status_of, fault_text, usage_line, Tells}
+use Rattle.word_faults.specs.Faults.{IsText}
+use Rattle.top_call.specs.Runs.{IsFormless, TellsWords, IsOfWords}
 
--- a run that ends with this fault
-abbrev pub ends : Fault → Result Bool Fault
-ends fault = Err fault
-
--- the end that a fault of the words makes
-pub outside : (words : List (List ℕ)) (fault : WordsFault) (end : Fault) → (fault ≡ UsageWords → IsFormless words) → (fault ≡ UsageWords → end ≡ UsageFault) → (fault ≡ NoMemoryWords → end ≡ Stopped NoMemoryStop)
-    → ((ends end ≡ ends UsageFault) × IsFormless words) ⊎ (ends end ≡ ends (Stopped NoMemoryStop))
-outside words UsageWords end formless u m = inl (ap ends (u refl), formless refl)
-outside words NoMemoryWords end formless u m = inr (ap ends (m refl))
-
--- its status
-pub outside-status : (words : List (List ℕ)) (end : Result Bool Fault) (status : Status) → status ≡ status_of end → ((end ≡ ends UsageFault) × IsFormless words) ⊎ (end ≡ ends (Stopped NoMemoryStop))
-    → ((status ≡ Usage) × IsFormless words) ⊎ (status ≡ NoMemory)
-outside-status words end status e (inl u) = inl (e ∙ ap status_of u.0, u.1)
-outside-status words end status e (inr m) = inr (e ∙ ap status_of m)
+-- what is told of words of no form
+pub tells-words : (words : List (List ℕ)) (text : List ℕ) → IsFormless words → IsText words text ⊎ (text ≡ []) → TellsWords words text
+tells-words words text formless (inl (inl t)) = inl t
+tells-words words text formless (inl (inr t)) = absurd (formless t.0.0 t.0.1)
+tells-words words text formless (inr e) = inr e
 
 -- a run whose words asked for nothing
 abbrev pub IsOutside : List (List ℕ) → Status → Type 0
 IsOutside words status = ((status ≡ Usage) × IsFormless words) ⊎ (status ≡ NoMemory)
+
+-- its status
+pub outside-status : (words : List (List ℕ)) (end : Fault) (status : Status) → status ≡ status_of (Err end) → IsOfWords words end → IsOutside words status
+outside-status words (UsageFault text) status e h = inl (e, h.0)
+outside-status words (Stopped NoMemoryStop) status e h = inr e
+outside-status words (Files text) status e h = absurd h
+outside-status words (Stopped Read) status e h = absurd h
+outside-status words (Stopped TooLong) status e h = absurd h
+outside-status words (Stopped TooMany) status e h = absurd h
+outside-status words (Stopped Write) status e h = absurd h
+outside-status words (Stopped Gaps) status e h = absurd h
+
+-- what is told then
+pub told-at : (words : List (List ℕ)) (end : Fault) (status : Status) (old new : Option (List ℕ)) (faults_old faults_new : ℕ) → status ≡ status_of (Err end) → IsOfWords words end
+    → Tells old new faults_old faults_new (fault_text (Err end)) → status ≡ Usage → (text : List ℕ) × TellsWords words text × Tells old new faults_old faults_new (usage_line ++ text)
+told-at words (UsageFault text) status old new faults_old faults_new e h told u = (text.items, h.1, told)
+told-at words (Stopped NoMemoryStop) status old new faults_old faults_new e h told u = let bad : NoMemory ≡ Usage = sym e ∙ u in cc
+told-at words (Files text) status old new faults_old faults_new e h told u = absurd h
+told-at words (Stopped Read) status old new faults_old faults_new e h told u = absurd h
+told-at words (Stopped TooLong) status old new faults_old faults_new e h told u = absurd h
+told-at words (Stopped TooMany) status old new faults_old faults_new e h told u = absurd h
+told-at words (Stopped Write) status old new faults_old faults_new e h told u = absurd h
+told-at words (Stopped Gaps) status old new faults_old faults_new e h told u = absurd h
 
 pub memory-at : (words : List (List ℕ)) (s : Status) → IsOutside words s → (f : Form) → IsForm words f → s ≡ NoMemory
 memory-at words s (inl u) f h = absurd (u.1 f h)
@@ -60,3 +72,7 @@ not-read words s (inr m) e = let bad : NoMemory ≡ ReadFault = sym m ∙ e in c
 pub not-write : (words : List (List ℕ)) (s : Status) → IsOutside words s → s ≡ WriteFault → ⊥
 not-write words s (inl u) e = let bad : Usage ≡ WriteFault = sym u.0 ∙ e in cc
 not-write words s (inr m) e = let bad : NoMemory ≡ WriteFault = sym m ∙ e in cc
+
+pub not-gaps : (words : List (List ℕ)) (s : Status) → IsOutside words s → s ≡ Gaps → ⊥
+not-gaps words s (inl u) e = let bad : Usage ≡ Gaps = sym u.0 ∙ e in cc
+not-gaps words s (inr m) e = let bad : NoMemory ≡ Gaps = sym m ∙ e in cc

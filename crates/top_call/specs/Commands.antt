@@ -1,6 +1,6 @@
 -- What the program does. A command is one case of `meaning_of`.
 use Rattle.std.specs.Prelude.{◌≡◌, ◌++◌, ◌∷◌, [], ℕ, List, codes}
-use Rattle.command_line.specs.Words.{Form, help, version, run, parse, generate, types, expand, check, self_test, scope, batch, transfer, Task, Options, AreWithin, IsWithin, in_range}
+use Rattle.command_line.specs.Words.{Form, help, help_on, version, run, parse, generate, types, expand, check, self_test, scope, batch, transfer, Task, Options, AreWithin, IsWithin, in_range}
 use Rattle.endings.specs.Meanings.{Meaning}
 use Rattle.endings.specs.PlainTexts.{plain_meaning}
 use Rattle.grammar_commands.specs.Commands.{types_meaning, expand_meaning, check_meaning}
@@ -12,7 +12,7 @@ use Rattle.scope_commands.specs.Scoping.{scope_meaning}
 use Rattle.self_tests.specs.SelfTests.{self_test_meaning}
 use Rattle.profile_batch.specs.Batches.{batch_meaning}
 use Rattle.transfer_commands.specs.Transferring.{transfer_meaning}
-use Rattle.top_call.specs.Help.{help_page}
+use Rattle.top_call.specs.Help.{help_page, page_on}
 
 abbrev pub version_line : List ℕ
 version_line = codes "lkb 0.1.0" ++ 10 ∷ []
@@ -28,6 +28,7 @@ bounds_of o = record { limits = (asked_of o).limits; lexical = o.lexical; empty 
 -- what a form of the command line asks for
 abbrev pub meaning_of : Form → Meaning
 meaning_of help = plain_meaning help_page
+meaning_of (help_on command) = plain_meaning (page_on command)
 meaning_of version = plain_meaning version_line
 meaning_of (run (parse grammar) options) = parse_meaning grammar options.settings (asked_of options)
 meaning_of (run (generate grammar) options) = generate_meaning grammar options.settings (bounds_of options)

@@ -1,5 +1,5 @@
 -- How a run of the program ends.
-use Rattle.std.specs.Prelude.{◌≡◌, ◌⊎◌, ℕ, List, Bool, Result, Err, false}
+use Rattle.std.specs.Prelude.{◌≡◌, ◌⊎◌, ℕ, List, [], Bool, Result, Ok, Err, false}
 use Rattle.command_line.specs.Words.{Form, IsForm}
 use Rattle.endings.specs.Meanings.{Shelves}
 use Rattle.endings.specs.Reports.{Streams}
@@ -7,15 +7,31 @@ use Rattle.endings.specs.Endings.{Ended}
 use Rattle.endings.specs.declared.Fault.{Fault}
 use Rattle.endings.specs.declared.Fault.TheVariants.{Usage, Stopped}
 use Rattle.endings.specs.declared.Stop.TheVariants.{NoMemory}
+use Rattle.word_faults.specs.declared.faults.WordFault.{WordFault}
+use Rattle.word_faults.specs.Faults.{IsFault, fault_line}
 use Rattle.top_call.specs.Commands.{meaning_of}
 
 -- the words are of no form
 abbrev pub IsFormless : List (List ℕ) → Type 0
 IsFormless words = (form : Form) → IsForm words form → ⊥
 
--- The words are of a form, and the run ended by what that form asks for; or they are of no form, or memory was wanting while
--- they were read, and nothing was read or written. `unopened` says that the shelf is as it was.
+-- The text tells what is wrong with the words, or it is nothing, where memory was wanting for it.
+abbrev pub TellsWords : List (List ℕ) → List ℕ → Type 0
+TellsWords words text = ((fault : WordFault) × IsFault words fault × (text ≡ fault_line fault)) ⊎ (text ≡ [])
+
+-- How a run ends whose words asked for nothing: they are of no form, or memory was wanting while they were read.
+abbrev pub IsOfWords : List (List ℕ) → Fault → Type 0
+IsOfWords words (Usage text) = IsFormless words × TellsWords words text.items
+IsOfWords words (Stopped NoMemory) = Unit {0}
+IsOfWords words other = ⊥
+
+abbrev pub EndedByWords : List (List ℕ) → Result Bool Fault → Type 0
+EndedByWords words (Ok refused) = ⊥
+EndedByWords words (Err fault) = IsOfWords words fault
+
+-- The words are of a form, and the run ended by what that form asks for; or they asked for nothing, and nothing was read or written.
+-- `unopened` says that the shelf is as it was.
 abbrev pub RunEnded : List (List ℕ) → Shelves → Streams → (unopened idle untouched : Type 0) → Result Bool Fault → Type 0
 RunEnded words h o unopened idle untouched end =
     ((form : Form) × IsForm words form × Ended (meaning_of form) h o idle untouched end × ((meaning_of form).opens ≡ false → unopened))
-    ⊎ ((((end ≡ Err Usage) × IsFormless words) ⊎ (end ≡ Err (Stopped NoMemory))) × unopened × untouched)
+    ⊎ (EndedByWords words end × unopened × untouched)

@@ -1,5 +1,5 @@
 //! What the words of the command line ask for, as a command. A command is one arm of `do_task`.
-ghost use Rattle.std.specs.Prelude.{◌≡◌, IfOk, IfErr, map, string_bytes, false};
+ghost use Rattle.std.specs.Prelude.{◌≡◌, ◌⊎◌, [], IfOk, IfErr, map, string_bytes, false};
 ghost use Rattle.chart_core.specs.Kept.{InRange};
 ghost use Rattle.chart_workers.specs.Crews.{IsCrewSize};
 ghost use Rattle.command_line.specs.Commands.{form, options_in, task as task_in};
@@ -9,19 +9,18 @@ ghost use Rattle.command_line.specs.declared.tasks.Command.{Command};
 ghost use Rattle.endings.specs.Meanings.{shelves};
 ghost use Rattle.endings.specs.Reports.{streams};
 ghost use Rattle.endings.specs.Endings.{Ended};
-ghost use Rattle.endings.specs.declared.Fault.{Fault};
-ghost use Rattle.endings.specs.declared.Stop.{Stop};
 ghost use Rattle.generate_commands.specs.Views.{bounds_with};
 ghost use Rattle.line_commands.specs.Views.{asked_with};
 ghost use Rattle.top_call.specs.Commands.{IsInRange, IsSized, meaning_of, asked_of, bounds_of, version_line};
-ghost use Rattle.top_call.specs.Runs.{IsFormless};
+ghost use Rattle.top_call.specs.Runs.{IsFormless, IsOfWords};
+ghost use Rattle.word_faults.specs.Faults.{IsText};
 
-use crate::help::help_text;
+use crate::help::{help_text, text_on};
 use crate::laws::built_lawful;
 use chart_core::Limits;
 use command_line::laws::{numbers_are_within, one_form};
 use command_line::{Command, Options, Task, WordsFault, command_of};
-use endings::commands::write_whole;
+use endings::commands::{write_items, write_whole};
 use endings::plain::Plain;
 use endings::{Fault, Stop};
 use generate_commands::{Generate, generate_lines};
@@ -35,6 +34,7 @@ use std::alloc::Global;
 use std::sync::Wait;
 use std::thread::Threads;
 use transfer_commands::{Transfer, transfer_lines};
+use word_faults::word_fault;
 use worker_gate::Gate;
 
 /// The version and its line end.
@@ -73,6 +73,10 @@ impl endings::Command for Asked<'_> {
         match self.command {
             Command::Help => {
                 let text = help_text();
+                (Plain { text }).perform(rt, alloc, shelf, input, out, gate)
+            }
+            Command::HelpOn(command) => {
+                let text = text_on(command);
                 (Plain { text }).perform(rt, alloc, shelf, input, out, gate)
             }
             Command::Version => {
@@ -167,7 +171,7 @@ fn do_task<S: Shelf, I: Source, O: Sink, Rt: Threads + Wait + Sync>(
         }
         Task::Types(grammar) => {
             let command = Types { grammar, settings };
-            write_whole(rt, alloc, &command, shelf, input, out, gate)
+            write_whole(alloc, &command, shelf, input, out)
         }
         Task::Expand(grammar, entry) => {
             let command = Expand {
@@ -175,11 +179,11 @@ fn do_task<S: Shelf, I: Source, O: Sink, Rt: Threads + Wait + Sync>(
                 entry,
                 settings,
             };
-            write_whole(rt, alloc, &command, shelf, input, out, gate)
+            write_whole(alloc, &command, shelf, input, out)
         }
         Task::Check(grammar) => {
             let command = Check { grammar, settings };
-            write_whole(rt, alloc, &command, shelf, input, out, gate)
+            write_whole(alloc, &command, shelf, input, out)
         }
         Task::SelfTest(number, size) => {
             let command = SelfTest {
@@ -188,7 +192,7 @@ fn do_task<S: Shelf, I: Source, O: Sink, Rt: Threads + Wait + Sync>(
                 limits: limits_of(&options),
                 workers: workers_of(&options),
             };
-            write_whole(rt, alloc, &command, shelf, input, out, gate)
+            write_items(rt, alloc, &command, shelf, input, out, gate)
         }
         Task::Scope => {
             let scoper = Scoper {
@@ -205,7 +209,7 @@ fn do_task<S: Shelf, I: Source, O: Sink, Rt: Threads + Wait + Sync>(
                 limits: limits_of(&options),
                 workers: workers_of(&options),
             };
-            write_whole(rt, alloc, &command, shelf, input, out, gate)
+            write_items(rt, alloc, &command, shelf, input, out, gate)
         }
         Task::Transfer(rules) => {
             let command = Transfer {
@@ -231,13 +235,22 @@ pub fn asked_by(alloc: Global, words: &[String]) -> Result<Asked<'_>, WordsFault
     }
 }
 
-/// What a fault of the words is to the program.
-pub fn fault_of(fault: WordsFault) -> Fault
-    ensures usage { fault ≡ WordsFault.Usage → result ≡ Fault.Usage }
-    ensures memory { fault ≡ WordsFault.NoMemory → result ≡ Fault.Stopped Stop.NoMemory }
+// What is told of words of no form: nothing, where memory is wanting for it.
+fn told_of(alloc: Global, words: &[String]) -> Vec<u8>
+    ensures { IsText (map (λ w. string_bytes w) words.now) result.items ⊎ (result.items ≡ []) }
+{
+    match word_fault(alloc, words) {
+        Ok(text) => text,
+        Err(_) => Vec::new(alloc),
+    }
+}
+
+/// What a fault of these words is to the program.
+pub fn fault_of(alloc: Global, fault: WordsFault, words: &[String]) -> Fault
+    ensures { (fault ≡ WordsFault.Usage → IsFormless (map (λ w. string_bytes w) words.now)) → IsOfWords (map (λ w. string_bytes w) words.now) result }
 {
     match fault {
-        WordsFault::Usage => Fault::Usage,
+        WordsFault::Usage => Fault::Usage(told_of(alloc, words)),
         WordsFault::NoMemory => Fault::Stopped(Stop::NoMemory),
     }
 }

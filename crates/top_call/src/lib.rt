@@ -9,10 +9,10 @@ ghost use Rattle.command_line.specs.Words.{Form, IsForm};
 ghost use Rattle.endings.specs.Meanings.{FileFault, Fails, shelves};
 ghost use Rattle.endings.specs.Reports.{streams};
 ghost use Rattle.endings.specs.Readings.{AreReadable};
-ghost use Rattle.endings.specs.Endings.{RanInPart, StopsReading, IsFaultless, IsReadThrough, IsWhole, Tells, fault_text, status_of, is_items};
+ghost use Rattle.endings.specs.Endings.{RanInPart, RanWithGaps, StopsReading, IsFaultless, IsReadThrough, IsWhole, Tells, fault_text, usage_line, status_of, is_items};
 ghost use Rattle.endings.specs.declared.Fault.{Fault};
 ghost use Rattle.top_call.specs.Commands.{meaning_of};
-ghost use Rattle.top_call.specs.Runs.{IsFormless, RunEnded};
+ghost use Rattle.top_call.specs.Runs.{IsFormless, RunEnded, TellsWords};
 
 pub mod asked;
 pub mod help;
@@ -58,9 +58,12 @@ pub fn run<S: Shelf, I: Source, O: Sink, X: Sink, Rt: AllocGlobal + Threads + Wa
     ensures silent { (result ≡ Status.Done) ⊎ (result ≡ Status.Items) → err.new ≡ err.old }
 
     // `Usage` only where the words are of no form, and always there, unless memory was wanting. Nothing is read, and
-    // nothing written to `out`.
+    // nothing written to `out`. What is told is the usage text and the line of the words' fault, or the usage text alone,
+    // where memory was wanting for that line.
     ensures usage { result ≡ Status.Usage → IsFormless (map (λ w. string_bytes w) words.now)
-        × (shelf.new ≡ shelf.old) × (input.new ≡ input.old) × (out.new ≡ out.old) }
+        × (shelf.new ≡ shelf.old) × (input.new ≡ input.old) × (out.new ≡ out.old)
+        × ((text : List ℕ) × TellsWords (map (λ w. string_bytes w) words.now) text
+        × Tells (X.written err.old) (X.written err.new) (X.faults err.old) (X.faults err.new) (usage_line ++ text)) }
     ensures no_form { IsFormless (map (λ w. string_bytes w) words.now) → ((result ≡ Status.Usage) ⊎ (result ≡ Status.NoMemory))
         × (shelf.new ≡ shelf.old) × (input.new ≡ input.old) × (out.new ≡ out.old) }
     ensures unopened { (form : Form) → IsForm (map (λ w. string_bytes w) words.now) form → (meaning_of form).opens ≡ false → shelf.new ≡ shelf.old }
@@ -94,19 +97,27 @@ pub fn run<S: Shelf, I: Source, O: Sink, X: Sink, Rt: AllocGlobal + Threads + Wa
         → (meaning_of form).loadable (Some files) → (AreReadable (lines_of bytes) → ⊥) → IsFaultless h o
         → (result ≡ Status.ReadFault) ⊎ (result ≡ Status.NoMemory) }
 
-    // `WriteFault` only where the sink failed. Then, and after `NoMemory`, a front of the report over lines that were
-    // read was written; where memory was wanting before the first line, nothing was read or written.
+    // `WriteFault` only where the sink failed. Then a front of the report over lines that were read was written.
     ensures write_fault { let h = shelves S.files S.faults S.asked shelf.old shelf.new in
         let o = streams I.left I.faults O.written O.flushed O.faults input.old input.new out.old out.new in
         result ≡ Status.WriteFault → (form : Form) × IsForm (map (λ w. string_bytes w) words.now) form
         × RanInPart (meaning_of form) h o × HasRisen (O.faults out.old) (O.faults out.new) }
+
+    // After `Gaps` the input was read to its end, where the command reads it, and the whole report was written and flushed, but that memory
+    // was wanting for some items, which are told by a line each. After `NoMemory` a front of such a report, with gaps or without, over
+    // lines that were read was written; where memory was wanting before the first line, nothing was read or written.
+    ensures gaps { (bytes before after : List ℕ) → result ≡ Status.Gaps
+        → I.left input.old ≡ Some bytes → O.written out.old ≡ Some before → O.written out.new ≡ Some after
+        → (form : Form) × (pieces : List (List ℕ)) × IsForm (map (λ w. string_bytes w) words.now) form
+        × (meaning_of form).with_gaps (S.files shelf.old) (lines_of bytes) pieces true
+        × (after ≡ before ++ concat pieces) × IsReadThrough (meaning_of form) (I.left input.new) × (O.flushed out.new ≡ O.written out.new) }
     ensures no_memory { let h = shelves S.files S.faults S.asked shelf.old shelf.new in
         let o = streams I.left I.faults O.written O.flushed O.faults input.old input.new out.old out.new in
         result ≡ Status.NoMemory → ((input.new ≡ input.old) × (out.new ≡ out.old))
-        ⊎ ((form : Form) × IsForm (map (λ w. string_bytes w) words.now) form × RanInPart (meaning_of form) h o) }
+        ⊎ ((form : Form) × IsForm (map (λ w. string_bytes w) words.now) form × RanWithGaps (meaning_of form) h o) }
 
     // Completeness: where the words are in the form, the told files have no fault, each line can be read and nothing
-    // fails, the whole report is written, or memory was wanting. That report is the only one.
+    // fails, the whole report is written, or memory was wanting, for some items alone or elsewhere. That report is the only one.
     ensures complete { let h = shelves S.files S.faults S.asked shelf.old shelf.new in
         let o = streams I.left I.faults O.written O.flushed O.faults input.old input.new out.old out.new in
         (form : Form) (files : List ℕ → Option (List ℕ)) (bytes : List ℕ) → IsForm (map (λ w. string_bytes w) words.now) form
@@ -120,6 +131,6 @@ pub fn run<S: Shelf, I: Source, O: Sink, X: Sink, Rt: AllocGlobal + Threads + Wa
     built_lawful();
     match asked_by(rt.alloc(), words) {
         Ok(command) => run_command(rt, rt.alloc(), &command, shelf, input, out, err, gate),
-        Err(fault) => conclude(err, &Err(fault_of(fault))),
+        Err(fault) => conclude(err, &Err(fault_of(rt.alloc(), fault, words))),
     }
 }

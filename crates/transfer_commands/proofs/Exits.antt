@@ -10,7 +10,7 @@ use Rattle.endings.specs.Meanings.{Shelves, Fails, has_failed}
 use Rattle.endings.specs.Endings.{NotCome}
 use Rattle.endings.specs.declared.Fault.{Fault}
 use Rattle.endings.specs.declared.Fault.TheVariants.{Usage, Files as FilesFault, Stopped}
-use Rattle.endings.specs.declared.Stop.TheVariants.{Read as ReadStop, TooLong as TooLongStop, TooMany, Write, NoMemory}
+use Rattle.endings.specs.declared.Stop.TheVariants.{Read as ReadStop, TooLong as TooLongStop, TooMany, Write, Gaps, NoMemory}
 use Rattle.command_files.specs.Told.{told_of, IsToldAs}
 use Rattle.command_files.proofs.ToldLemmas.{failed_same, of_shelf, told_by, not_come}
 use Rattle.transfer_commands.specs.Faults.{told_of_form, IsUnread, unread, out_of_form}
@@ -47,4 +47,5 @@ module _ (h : Shelves) (name : Name) (settings : Option Name) where
   not-rules t ss (Stopped TooLongStop) i s x = absurd x
   not-rules t ss (Stopped TooMany) i s x = absurd x
   not-rules t ss (Stopped Write) i s x = absurd x
-  not-rules t ss Usage i s x = absurd x
+  not-rules t ss (Stopped Gaps) i s x = absurd x
+  not-rules t ss (Usage text) i s x = absurd x

@@ -2,6 +2,7 @@
 use Rattle.std.proofs.Common.{◌≡◌, ℕ, List, Bool, Option, Some, All, sym, ◌∙◌, ap, subst}
 use Rattle.endings.specs.Meanings.{Lawful, FileFault, Files, has_failed}
 use Rattle.endings.specs.Reports.{AreAnswers}
+use Rattle.endings.proofs.ToldLines.{no-gap}
 use Rattle.tdl_reader.specs.Trees.{StatementTree}
 use Rattle.grammar_settings.specs.Forms.{Name}
 use Rattle.grammar_settings.specs.Settled.{SettingsTree}
@@ -59,6 +60,8 @@ module _ (reading : OneReading) (rules : RuleLaws) (name : Name) (settings : Opt
 pub transfer-laws : OneReading → RuleLaws → TextLaws → ResultLaws → (name : List ℕ) (settings : Option (List ℕ)) → Lawful (transfer_meaning name settings)
 transfer-laws reading rules texts results name settings = record {
   loads = λ files lines pieces refused r. (r.0, r.1);
+  gaps_load = λ files lines pieces wanting r. (r.0, r.1);
+  no_gap = λ files lines pieces r. (let a = no-gap (IsAnswer r.0) 1 lines pieces r.2 in (a.0, (r.0, r.1, a.1)));
   one_first = λ files f g a b. one-fault reading rules name settings files f g a b;
   not_both = λ files f l a. not-both reading rules name settings files l.0 f l.1 a;
   one_report = λ files lines pieces others refused may p q. (

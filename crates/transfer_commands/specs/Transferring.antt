@@ -1,7 +1,7 @@
 -- What `transfer` is to do: the MRSs that the lines of the input write are answered by what rules make of them.
 use Rattle.std.specs.Prelude.{ℕ, true, List, Option}
 use Rattle.endings.specs.Meanings.{Meaning}
-use Rattle.endings.specs.Reports.{AreAnswers}
+use Rattle.endings.specs.Reports.{AreAnswers, OrNoMemory}
 use Rattle.transfer_commands.specs.Rewriters.{Rewriter, HasRewriter}
 use Rattle.transfer_commands.specs.Faults.{IsFirstFault}
 use Rattle.transfer_commands.specs.Answers.{IsAnswer}
@@ -14,4 +14,5 @@ transfer_meaning rules settings = record {
   loadable = λ files. (w : Rewriter) × HasRewriter files rules settings w;
   first = λ files fails fault. IsFirstFault rules settings files fails fault;
   report = λ files lines pieces refused. (w : Rewriter) × HasRewriter files rules settings w × AreAnswers (IsAnswer w) 1 lines pieces refused;
+  with_gaps = λ files lines pieces wanting. (w : Rewriter) × HasRewriter files rules settings w × AreAnswers (OrNoMemory (IsAnswer w)) 1 lines pieces wanting;
 }

@@ -1,11 +1,11 @@
 -- How the program reads its words: what it looks at before `clap` does, and its tables. No contract of a public function cites it.
-use Rattle.std.specs.Prelude.{◌≡◌, ℕ, List, [], ◌∷◌, Option, Some, None, Bool, true, ◌||◌, codes, if◌then◌else◌}
+use Rattle.std.specs.Prelude.{◌≡◌, ℕ, List, [], ◌∷◌, Option, Some, None, Bool, true, ◌||◌, codes, option_map, if◌then◌else◌}
 use Rattle.std.specs.Str.{bytes_eq}
 use Rattle.command_line.specs.declared.reading.Places.{Places}
 use Rattle.command_line.specs.declared.reading.Places.TheVariants.{NoPlace, OneName, TwoNames, TwoNumbers}
 use Rattle.command_line.specs.declared.tasks.CommandName.{CommandName}
 use Rattle.command_line.specs.declared.tasks.CommandName.TheVariants as named
-use Rattle.command_line.specs.Words.{OptionName, Workers, Edges, Readings, Lexical, Unary, Empty, Settings, Mrs, Lattice, Value, in_range, name, Task, parse, generate, types, expand, check, self_test, scope, batch, transfer, Form, help, version, is_name, word_of, number_of}
+use Rattle.command_line.specs.Words.{OptionName, Workers, Edges, Readings, Lexical, Unary, Empty, Settings, Mrs, Lattice, Value, in_range, name, Task, parse, generate, types, expand, check, self_test, scope, batch, transfer, Form, help, help_on, version, is_name, word_of, number_of}
 
 -- a word of a command line after the command's: that of an option, or a name
 pub data IsWord : List ℕ → Type 0 where
@@ -68,7 +68,21 @@ task_by named.Scope first second = scope
 task_by named.Batch first second = batch first second
 task_by named.Transfer first second = transfer first
 
--- the form that has one word alone
-abbrev pub alone_form : List (List ℕ) → Option Form
-alone_form (w ∷ []) = if bytes_eq w (codes "--help") then Some help else (if bytes_eq w (codes "--version") then Some version else None)
-alone_form words = None
+-- the word asks for help
+abbrev pub is_help_flag : List ℕ → Bool
+is_help_flag w = bytes_eq w (codes "--help") || bytes_eq w (codes "-h")
+
+-- the form that one word has
+abbrev pub one_word_form : List ℕ → Option Form
+one_word_form w = if is_help_flag w || bytes_eq w (codes "help") then Some help else (if bytes_eq w (codes "--version") then Some version else None)
+
+-- the form that two words have, where it is help on a command
+abbrev pub two_word_form : List ℕ → List ℕ → Option Form
+two_word_form w x = if bytes_eq w (codes "help") then option_map (λ c. help_on c) (command_named x)
+    else (if is_help_flag x then option_map (λ c. help_on c) (command_named w) else None)
+
+-- the form of help or of the version that words have
+abbrev pub told_form : List (List ℕ) → Option Form
+told_form (w ∷ []) = one_word_form w
+told_form (w ∷ x ∷ []) = two_word_form w x
+told_form words = None

@@ -5,7 +5,7 @@ use Rattle.endings.specs.declared.Status.TheVariants.{Done, Items, Grammar, Read
 use Rattle.endings.specs.Meanings.{Shelves, Lawful, shelves}
 use Rattle.endings.specs.Reports.{Streams, streams}
 use Rattle.endings.specs.Endings.{is_items, status_of, IsWhole, Tells}
-use Rattle.endings.proofs.Clauses.{report-so, no-grammar, first-so, complete-so, unread-so}
+use Rattle.endings.proofs.Clauses.{report-so, no-grammar, first-so, complete-so, unread-so, gaps-so}
 use Rattle.endings.proofs.run_command.Given.{Over}
 use Rattle.endings.proofs.run_command.Goals as goal
 
@@ -66,3 +66,8 @@ returns-clause-unreadable g c = λ files bytes reads told l is can calm. (
 
 pub returns-clause-one_report : goal.returns-clause-one_report
 returns-clause-one_report g c = c.lawful.ensures.one_report
+
+pub returns-clause-gaps : goal.returns-clause-gaps
+returns-clause-gaps g c = λ bytes before after is l w v. (
+    let m = g.C.Command.meaning c.args.command.now in
+    gaps-so m (shelves-at g c) (streams-at g c) (idle-at g c) (untouched-at g c) c.perform-end.result bytes before after c.perform-end.ensures.ended (sym c.conclude.ensures.status ∙ is) l w v)

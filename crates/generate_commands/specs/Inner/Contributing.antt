@@ -3,7 +3,7 @@ use Rattle.std.specs.Prelude.{ℕ, Bool, List, Result}
 use Rattle.mrs_places.specs.Paths.{Feature, paths_of}
 use Rattle.grammar_load.specs.Loaded.{GrammarTree}
 use Rattle.endings.specs.declared.Stop.{Stop}
-use Rattle.endings.specs.Reports.{AreAnswers, Streams, Served}
+use Rattle.endings.specs.Reports.{AreAnswers, OrNoMemory, Streams, Served}
 use Rattle.mrs_generate.specs.declared.contributors.Contributors.{Contributors}
 use Rattle.mrs_generate.specs.Contributors.{AreContributors}
 use Rattle.engine.specs.Speeches.{Speech}
@@ -21,4 +21,4 @@ speaker_by g speech = record { speech = speech; c_cont_path = c_cont_of g }
 
 -- the answers to all lines, with such a grammar
 abbrev pub IsServedBy : GrammarTree → Speech → Bounds → Streams → Result Bool Stop → Type 0
-IsServedBy g speech bounds o end = Served (AreAnswers (IsAnswer (speaker_by g speech) bounds) 1) o end
+IsServedBy g speech bounds o end = Served (AreAnswers (IsAnswer (speaker_by g speech) bounds) 1) (AreAnswers (OrNoMemory (IsAnswer (speaker_by g speech) bounds)) 1) o end

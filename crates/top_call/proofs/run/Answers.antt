@@ -5,7 +5,7 @@ use Rattle.endings.specs.Meanings.{Shelves, shelves}
 use Rattle.endings.specs.Reports.{Streams, streams}
 use Rattle.endings.specs.Endings.{IsWhole}
 use Rattle.top_call.specs.Commands.{meaning_of}
-use Rattle.top_call.proofs.Words.{outside, outside-status, memory-at, formless-at, either-at, not-done, not-grammar, not-read, not-write}
+use Rattle.top_call.proofs.Words.{outside-status, told-at, memory-at, formless-at, either-at, not-done, not-grammar, not-read, not-write, not-gaps}
 use Rattle.top_call.proofs.run.Goals as goal
 
 -- ---- words of a form
@@ -92,6 +92,13 @@ returns-in-Ok-clause-write_fault g c =
     let r = c.run_command.ensures in
     λ e. (let p = r.write_fault e in (f, is, p.0, p.1))
 
+pub returns-in-Ok-clause-gaps : goal.returns-in-Ok-clause-gaps
+returns-in-Ok-clause-gaps g c =
+    let f = form c.in-Ok.command.command in
+    let is = c.in-Ok.ensures.ok in
+    let r = c.run_command.ensures in
+    λ bytes before after e l w v. (let p = r.gaps bytes before after e l w v in (f, p.0, is, p.1, p.2, p.3, p.4))
+
 pub returns-in-Ok-clause-no_memory : goal.returns-in-Ok-clause-no_memory
 returns-in-Ok-clause-no_memory g c =
     let f = form c.in-Ok.command.command in
@@ -120,105 +127,113 @@ returns-in-Ok-clause-one_report g c = λ k. (c.built_lawful.ensures k).one_repor
 pub returns-in-Err-clause-ended : goal.returns-in-Err-clause-ended
 returns-in-Err-clause-ended g c =
     let words = map (λ w. string_bytes w) c.args.words.now in
-    let end = outside words c.in-Err.fault c.fault_of.result c.in-Err.ensures.usage c.fault_of.ensures.usage c.fault_of.ensures.memory in
+    let end = c.fault_of.ensures c.in-Err.ensures.usage in
     let s = c.conclude.result in
-    let st = outside-status words (Err c.fault_of.result) s c.conclude.ensures.status end in
+    let st = outside-status words c.fault_of.result s c.conclude.ensures.status end in
     (Err c.fault_of.result, inr (end, refl, (refl, refl)), c.conclude.ensures.status, c.conclude.ensures.tells)
 
 pub returns-in-Err-clause-report : goal.returns-in-Err-clause-report
 returns-in-Err-clause-report g c =
     let words = map (λ w. string_bytes w) c.args.words.now in
-    let end = outside words c.in-Err.fault c.fault_of.result c.in-Err.ensures.usage c.fault_of.ensures.usage c.fault_of.ensures.memory in
+    let end = c.fault_of.ensures c.in-Err.ensures.usage in
     let s = c.conclude.result in
-    let st = outside-status words (Err c.fault_of.result) s c.conclude.ensures.status end in
+    let st = outside-status words c.fault_of.result s c.conclude.ensures.status end in
     λ bytes before after d. absurd (not-done words s st d)
 
 pub returns-in-Err-clause-flushed : goal.returns-in-Err-clause-flushed
 returns-in-Err-clause-flushed g c =
     let words = map (λ w. string_bytes w) c.args.words.now in
-    let end = outside words c.in-Err.fault c.fault_of.result c.in-Err.ensures.usage c.fault_of.ensures.usage c.fault_of.ensures.memory in
+    let end = c.fault_of.ensures c.in-Err.ensures.usage in
     let s = c.conclude.result in
-    let st = outside-status words (Err c.fault_of.result) s c.conclude.ensures.status end in
+    let st = outside-status words c.fault_of.result s c.conclude.ensures.status end in
     λ d. absurd (not-done words s st d)
 
 pub returns-in-Err-clause-silent : goal.returns-in-Err-clause-silent
 returns-in-Err-clause-silent g c =
     let words = map (λ w. string_bytes w) c.args.words.now in
-    let end = outside words c.in-Err.fault c.fault_of.result c.in-Err.ensures.usage c.fault_of.ensures.usage c.fault_of.ensures.memory in
+    let end = c.fault_of.ensures c.in-Err.ensures.usage in
     let s = c.conclude.result in
-    let st = outside-status words (Err c.fault_of.result) s c.conclude.ensures.status end in
+    let st = outside-status words c.fault_of.result s c.conclude.ensures.status end in
     λ d. absurd (not-done words s st d)
 
 pub returns-in-Err-clause-usage : goal.returns-in-Err-clause-usage
 returns-in-Err-clause-usage g c =
     let words = map (λ w. string_bytes w) c.args.words.now in
-    let end = outside words c.in-Err.fault c.fault_of.result c.in-Err.ensures.usage c.fault_of.ensures.usage c.fault_of.ensures.memory in
+    let end = c.fault_of.ensures c.in-Err.ensures.usage in
     let s = c.conclude.result in
-    let st = outside-status words (Err c.fault_of.result) s c.conclude.ensures.status end in
-    λ e. (formless-at words s st e, refl, refl, refl)
+    let st = outside-status words c.fault_of.result s c.conclude.ensures.status end in
+    λ e. (formless-at words s st e, refl, refl, refl, told-at words c.fault_of.result s _ _ _ _ c.conclude.ensures.status end c.conclude.ensures.tells e)
 
 pub returns-in-Err-clause-no_form : goal.returns-in-Err-clause-no_form
 returns-in-Err-clause-no_form g c =
     let words = map (λ w. string_bytes w) c.args.words.now in
-    let end = outside words c.in-Err.fault c.fault_of.result c.in-Err.ensures.usage c.fault_of.ensures.usage c.fault_of.ensures.memory in
+    let end = c.fault_of.ensures c.in-Err.ensures.usage in
     let s = c.conclude.result in
-    let st = outside-status words (Err c.fault_of.result) s c.conclude.ensures.status end in
+    let st = outside-status words c.fault_of.result s c.conclude.ensures.status end in
     λ n. (either-at words s st, refl, refl, refl)
 
 pub returns-in-Err-clause-grammar : goal.returns-in-Err-clause-grammar
 returns-in-Err-clause-grammar g c =
     let words = map (λ w. string_bytes w) c.args.words.now in
-    let end = outside words c.in-Err.fault c.fault_of.result c.in-Err.ensures.usage c.fault_of.ensures.usage c.fault_of.ensures.memory in
+    let end = c.fault_of.ensures c.in-Err.ensures.usage in
     let s = c.conclude.result in
-    let st = outside-status words (Err c.fault_of.result) s c.conclude.ensures.status end in
+    let st = outside-status words c.fault_of.result s c.conclude.ensures.status end in
     λ e. absurd (not-grammar words s st e)
 
 pub returns-in-Err-clause-no_grammar : goal.returns-in-Err-clause-no_grammar
 returns-in-Err-clause-no_grammar g c =
     let words = map (λ w. string_bytes w) c.args.words.now in
-    let end = outside words c.in-Err.fault c.fault_of.result c.in-Err.ensures.usage c.fault_of.ensures.usage c.fault_of.ensures.memory in
+    let end = c.fault_of.ensures c.in-Err.ensures.usage in
     let s = c.conclude.result in
-    let st = outside-status words (Err c.fault_of.result) s c.conclude.ensures.status end in
+    let st = outside-status words c.fault_of.result s c.conclude.ensures.status end in
     λ k h n. inr (memory-at words s st k h)
 
 pub returns-in-Err-clause-first_fault : goal.returns-in-Err-clause-first_fault
 returns-in-Err-clause-first_fault g c =
     let words = map (λ w. string_bytes w) c.args.words.now in
-    let end = outside words c.in-Err.fault c.fault_of.result c.in-Err.ensures.usage c.fault_of.ensures.usage c.fault_of.ensures.memory in
+    let end = c.fault_of.ensures c.in-Err.ensures.usage in
     let s = c.conclude.result in
-    let st = outside-status words (Err c.fault_of.result) s c.conclude.ensures.status end in
+    let st = outside-status words c.fault_of.result s c.conclude.ensures.status end in
     λ k files fault h told first calm. inl (memory-at words s st k h)
 
 pub returns-in-Err-clause-read_fault : goal.returns-in-Err-clause-read_fault
 returns-in-Err-clause-read_fault g c =
     let words = map (λ w. string_bytes w) c.args.words.now in
-    let end = outside words c.in-Err.fault c.fault_of.result c.in-Err.ensures.usage c.fault_of.ensures.usage c.fault_of.ensures.memory in
+    let end = c.fault_of.ensures c.in-Err.ensures.usage in
     let s = c.conclude.result in
-    let st = outside-status words (Err c.fault_of.result) s c.conclude.ensures.status end in
+    let st = outside-status words c.fault_of.result s c.conclude.ensures.status end in
     λ e. absurd (not-read words s st e)
 
 pub returns-in-Err-clause-unreadable : goal.returns-in-Err-clause-unreadable
 returns-in-Err-clause-unreadable g c =
     let words = map (λ w. string_bytes w) c.args.words.now in
-    let end = outside words c.in-Err.fault c.fault_of.result c.in-Err.ensures.usage c.fault_of.ensures.usage c.fault_of.ensures.memory in
+    let end = c.fault_of.ensures c.in-Err.ensures.usage in
     let s = c.conclude.result in
-    let st = outside-status words (Err c.fault_of.result) s c.conclude.ensures.status end in
+    let st = outside-status words c.fault_of.result s c.conclude.ensures.status end in
     λ k files bytes h reads told l load can calm. inr (memory-at words s st k h)
 
 pub returns-in-Err-clause-write_fault : goal.returns-in-Err-clause-write_fault
 returns-in-Err-clause-write_fault g c =
     let words = map (λ w. string_bytes w) c.args.words.now in
-    let end = outside words c.in-Err.fault c.fault_of.result c.in-Err.ensures.usage c.fault_of.ensures.usage c.fault_of.ensures.memory in
+    let end = c.fault_of.ensures c.in-Err.ensures.usage in
     let s = c.conclude.result in
-    let st = outside-status words (Err c.fault_of.result) s c.conclude.ensures.status end in
+    let st = outside-status words c.fault_of.result s c.conclude.ensures.status end in
     λ e. absurd (not-write words s st e)
+
+pub returns-in-Err-clause-gaps : goal.returns-in-Err-clause-gaps
+returns-in-Err-clause-gaps g c =
+    let words = map (λ w. string_bytes w) c.args.words.now in
+    let end = c.fault_of.ensures c.in-Err.ensures.usage in
+    let s = c.conclude.result in
+    let st = outside-status words c.fault_of.result s c.conclude.ensures.status end in
+    λ bytes before after e. absurd (not-gaps words s st e)
 
 pub returns-in-Err-clause-complete : goal.returns-in-Err-clause-complete
 returns-in-Err-clause-complete g c =
     let words = map (λ w. string_bytes w) c.args.words.now in
-    let end = outside words c.in-Err.fault c.fault_of.result c.in-Err.ensures.usage c.fault_of.ensures.usage c.fault_of.ensures.memory in
+    let end = c.fault_of.ensures c.in-Err.ensures.usage in
     let s = c.conclude.result in
-    let st = outside-status words (Err c.fault_of.result) s c.conclude.ensures.status end in
+    let st = outside-status words c.fault_of.result s c.conclude.ensures.status end in
     λ k files bytes h told l load can calm. inl (memory-at words s st k h)
 
 pub returns-in-Err-clause-one_report : goal.returns-in-Err-clause-one_report

@@ -2,14 +2,14 @@ use Rattle.std.proofs.Common.{◌≡◌, ℕ, ◌≤◌, ◌-◌, List, length}
 use Rattle.std.specs.List.{concat}
 use Rattle.lkb_io.specs.Outside.{Adds}
 use Rattle.endings.specs.Readings.{ReadsSoFar}
-use Rattle.endings.specs.Reports.{AreAnswers}
+use Rattle.endings.specs.Inner.Batches.{AreTold}
 use Rattle.endings.proofs.lines.serve_lines.Given as goal
 
 abbrev pub invariant-loop-count : goal.invariant-loop-count
 invariant-loop-count g l = record {
   read : (lines : List (List ℕ)) × (pieces : List (List ℕ))
       × ReadsSoFar (g.I.Source.left l.fn.input) (g.I.Source.left l.input) l.held.bytes l.held.ended lines
-      × AreAnswers (g.C.Answers.IsAnswer l.command) 1 lines pieces l.refused
+      × AreTold (g.C.Answers.IsAnswer l.command) 1 lines pieces l.refused l.kept.wanting
       × Adds (g.O.Sink.written l.fn.out) (g.O.Sink.written l.out) (concat pieces)
       × (length lines ≡ l.count);
   no_fall_in : g.I.Source.faults l.fn.input ≤ g.I.Source.faults l.input;

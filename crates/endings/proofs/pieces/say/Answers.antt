@@ -1,6 +1,6 @@
 use Rattle.std.proofs.Common.{refl, sym, subst, append-nil, [], ◌∷◌, false}
 use Rattle.lkb_io.specs.Outside.{Adds, AddsFront}
-use Rattle.endings.specs.Reports.{output}
+use Rattle.endings.specs.Reports.{NoReport, output}
 use Rattle.endings.proofs.Flushing.{said-front}
 use Rattle.endings.proofs.pieces.say.Goals as goal
 
@@ -20,4 +20,4 @@ returns-in-Err g c =
     let put = c.in-Err.ensures.put in
     let p = output g.O.Sink.written g.O.Sink.flushed g.O.Sink.faults c.args.out.now c.flush_at_stop.new.out in
     let front = subst (AddsFront (w c.args.out.now) (w c.put_text.new.out)) (sym (append-nil c.args.line.now)) put.0 in
-    said-front (c.args.line.now ∷ []) false p (w c.put_text.new.out) (g.O.Sink.faults c.put_text.new.out) front put.1 put.2 c.flush_at_stop.ensures.same c.flush_at_stop.ensures.no_fall
+    said-front (c.args.line.now ∷ []) false p (w c.put_text.new.out) (g.O.Sink.faults c.put_text.new.out) front put.1 put.2 c.flush_at_stop.ensures.same c.flush_at_stop.ensures.no_fall NoReport

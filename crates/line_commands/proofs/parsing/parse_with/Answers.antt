@@ -1,5 +1,5 @@
 use Rattle.std.proofs.Common.{◌≡◌, option_map, subst}
-use Rattle.endings.specs.Reports.{AreAnswers, Served, streams}
+use Rattle.endings.specs.Reports.{AreAnswers, OrNoMemory, Served, streams}
 use Rattle.grammar_load.specs.Views.{grammar_of}
 use Rattle.line_commands.specs.Answers.{IsAnswer}
 use Rattle.line_commands.specs.Views.{asked_with}
@@ -17,7 +17,7 @@ returns-in-Ok-Ok g c = λ h has.
     let untouched = (input ≡ c.args.input.now) × (out ≡ c.args.out.now) in
     let given = c.in-Ok-Ok.ensures.given in
     served-ended command.grammar.now (option_map (λ s. s.now) command.settings) asked h (grammar_of c.args.grammar.now) has o idle untouched given.0 given.1 c.in-Ok-Ok.refused
-    (subst (Served (AreAnswers (IsAnswer given.0 asked) 1) o) c.in-Ok-Ok.field-0-is given.2)
+    (subst (Served (AreAnswers (IsAnswer given.0 asked) 1) (AreAnswers (OrNoMemory (IsAnswer given.0 asked)) 1) o) c.in-Ok-Ok.field-0-is given.2)
 
 pub returns-in-Ok-Err : goal.returns-in-Ok-Err
 returns-in-Ok-Err g c = λ h has.
@@ -30,4 +30,4 @@ returns-in-Ok-Err g c = λ h has.
     let untouched = (input ≡ c.args.input.now) × (out ≡ c.args.out.now) in
     let given = c.in-Ok-Err.ensures.given in
     served-stopped command.grammar.now (option_map (λ s. s.now) command.settings) asked h (grammar_of c.args.grammar.now) has o idle untouched given.0 given.1 c.in-Ok-Err.stop
-    (subst (Served (AreAnswers (IsAnswer given.0 asked) 1) o) c.in-Ok-Err.field-0-is given.2)
+    (subst (Served (AreAnswers (IsAnswer given.0 asked) 1) (AreAnswers (OrNoMemory (IsAnswer given.0 asked)) 1) o) c.in-Ok-Err.field-0-is given.2)

@@ -7,6 +7,7 @@ use Rattle.command_grammars.specs.Grammars.{never}
 use Rattle.engine.proofs.Speeches.{book-whole}
 use Rattle.profile_batch.specs.Batches.{batch_meaning}
 use Rattle.profile_batch.proofs.NotCome.{at-fault, no-grammar, no-profile}
+use Rattle.profile_batch.proofs.ToldReports.{told-report}
 use Rattle.profile_batch.proofs.batching.report_of.Goals as goal
 
 pub returns-in_err-grammar : goal.returns-in_err-grammar
@@ -46,9 +47,9 @@ report_with-requires-clause-few g c κs within =
 pub returns-in-Ok : goal.returns-in-Ok
 returns-in-Ok g c = λ lines.
     let b = c.args.command.now in
+    let settings = option_map (λ s. s.now) b.settings in
+    let h : Shelves = shelves g.S.Shelf.files g.S.Shelf.faults g.S.Shelf.asked c.args.shelf.now c.load_text.new.shelf in
     let made = c.in-Ok.ensures in
-    let is = subst (λ (there : Files). IsText there b.profile.now c.in_ok-text.text.items) c.load_grammar.ensures.same c.in_ok-text.ensures.text in (
-      made.0,
-      (grammar_of c.in_ok-grammar.grammar, c.in_ok-grammar.ensures.grammar, made.1),
-      (c.deref.result.now, subst (IsText (g.S.Shelf.files c.args.shelf.now) b.profile.now) (sym c.deref.ensures.value) is, made.2),
-    )
+    let is = subst (λ (there : Files). IsText there b.profile.now c.in_ok-text.text.items) c.load_grammar.ensures.same c.in_ok-text.ensures.text in
+    told-report b.grammar.now settings b.profile.now (limits_in b.limits) b.limits.lexical h lines made.0 (grammar_of c.in_ok-grammar.grammar, c.in_ok-grammar.ensures.grammar, made.1)
+    c.deref.result.now (subst (IsText (g.S.Shelf.files c.args.shelf.now) b.profile.now) (sym c.deref.ensures.value) is) c.in-Ok.report made.2

@@ -1,4 +1,4 @@
-use Rattle.std.proofs.Common.{◌≡◌, ◌∙◌, not, map, ap}
+use Rattle.std.proofs.Common.{◌∙◌, not, map, ap}
 use Rattle.profile_reports.specs.Texts.{is_among, each_once}
 use Rattle.profile_reports.specs.Inner.{has}
 use Rattle.profile_reports.proofs.Counting.{count_agree}

@@ -1,7 +1,6 @@
-use Rattle.std.proofs.Common.{◌≡◌, ◌+◌, ◌<◌, ◌∙◌, ℕ, length, map, drop, refl, sym, ap, arith}
+use Rattle.std.proofs.Common.{◌+◌, ◌<◌, ◌∙◌, length, ap, arith}
 use Rattle.std.proofs.lemmas.List.{get_or_default}
-use Rattle.profile_items.specs.Views.{item_kept}
-use Rattle.profile_reports.specs.Lines.{item_lines, lines_from, counted, counts_of}
+use Rattle.profile_reports.specs.Lines.{lines_from, counted, counts_of}
 use Rattle.profile_reports.proofs.Reports.{at_first, counts_more, lines_more, room_more}
 use Rattle.profile_reports.proofs.report.report_on.Goals as goal
 

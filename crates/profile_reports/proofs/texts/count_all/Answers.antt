@@ -1,4 +1,4 @@
-use Rattle.std.proofs.Common.{◌≡◌, ◌≤◌, ◌∷◌, length, map, drop, sym, subst, arith}
+use Rattle.std.proofs.Common.{◌≤◌, ◌∷◌, length, map, drop, sym, subst, arith}
 use Rattle.profile_reports.specs.Inner.{has, IsCountOf}
 use Rattle.profile_reports.proofs.Counting.{texts_before}
 use Rattle.profile_reports.proofs.texts.count_all.Goals as goal

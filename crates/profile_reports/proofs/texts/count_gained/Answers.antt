@@ -1,4 +1,4 @@
-use Rattle.std.proofs.Common.{◌≡◌, ◌∙◌, ◌+◌, not, cond, ap, arith}
+use Rattle.std.proofs.Common.{◌≡◌, ◌∙◌, not, cond, ap, arith}
 use Rattle.profile_reports.specs.Inner.{has}
 use Rattle.profile_reports.proofs.Counting.{passes_more}
 use Rattle.profile_reports.proofs.texts.count_gained.Goals as goal

@@ -1,4 +1,4 @@
-use Rattle.std.proofs.Common.{◌≡◌, ◌||◌, ◌∙◌, map, drop, ap, sym, arith}
+use Rattle.std.proofs.Common.{◌||◌, ◌∙◌, map, drop, ap, sym, arith}
 use Rattle.std.specs.Str.{bytes_eq}
 use Rattle.profile_reports.specs.Texts.{is_among}
 use Rattle.profile_reports.proofs.Counting.{just_more, texts_before}

@@ -1,12 +1,12 @@
-use Rattle.std.proofs.Common.{◌≡◌, ◌∙◌, ◌∷◌, [], ap, length, map, None}
+use Rattle.std.proofs.Common.{◌∙◌, ap, subst, length, None}
 use Rattle.packed_items.specs.Answers.{limits_in}
-use Rattle.item_counts.specs.Summaries.{summary_line, is_some_refused}
 use Rattle.grammar_load.specs.Views.{grammar_of}
 use Rattle.command_grammars.specs.Grammars.{never}
-use Rattle.engine.proofs.Results.{if-both}
+use Rattle.engine.proofs.Results.{if-ok}
 use Rattle.engine.proofs.Speeches.{book-whole}
 use Rattle.engine.specs.Speeches.{Speech, IsSpeechOf}
-use Rattle.self_tests.specs.SelfTests.{workload_files, workload_name, IsSummed}
+use Rattle.self_tests.specs.SelfTests.{workload_files, workload_name}
+use Rattle.self_tests.specs.Inner.Counts.{IsToldOf, IsSummedSo}
 use Rattle.self_tests.proofs.Reported.{as-many, summed}
 use Rattle.self_tests.proofs.testing.report_with.Goals as goal
 
@@ -31,11 +31,6 @@ returns g c =
     let limits = limits_in test.limits in
     let most = test.limits.lexical in
     let counts = c.in_ok-counts.counts.items in
-    let of = c.deref.ensures.value in
-    if-both c.report_on.result
-    (λ r. map (λ l. l.items) r.lines.items ≡ summary_line test.number test.size c.deref.result.now ∷ [])
-    (λ r. r.refused ≡ is_some_refused c.deref.result.now)
-    (λ r. (speech : Speech) × IsSpeechOf tree speech × IsSummed speech limits most test.number test.size (map (λ l. l.items) r.lines.items) r.refused)
-    (λ r e f. summed tree limits most test.number test.size counts c.in_ok-counts.ensures (map (λ l. l.items) r.lines.items) r.refused
-    (e ∙ ap (λ cs. summary_line test.number test.size cs ∷ []) of) (f ∙ ap is_some_refused of))
-    c.report_on.ensures.line c.report_on.ensures.refused
+    if-ok c.report_on.result (IsToldOf test.number test.size c.deref.result.now)
+    (λ r. (speech : Speech) × IsSpeechOf tree speech × IsSummedSo speech limits most test.number test.size r)
+    (λ r told. summed tree limits most test.number test.size counts c.in_ok-counts.ensures r (subst (λ cs. IsToldOf test.number test.size cs r) c.deref.ensures.value told)) c.report_on.ensures

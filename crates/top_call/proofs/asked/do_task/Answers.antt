@@ -67,7 +67,7 @@ size_of-requires g c = c.requires.sized c.in-SelfTest.number c.in-SelfTest.size 
 pub returns-in-SelfTest-clause-ended : goal.returns-in-SelfTest-clause-ended
 returns-in-SelfTest-clause-ended g c =
     let run = λ (t : Task). Run t c.args.options in
-    let done = c.write_whole-in-SelfTest in
+    let done = c.write_items in
     let h : Shelves = shelves g.S.Shelf.files g.S.Shelf.faults g.S.Shelf.asked c.args.shelf.now done.new.shelf in
     let o : Streams = streams g.I.Source.left g.I.Source.faults g.O.Sink.written g.O.Sink.flushed g.O.Sink.faults c.args.input.now done.new.input c.args.out.now done.new.out in
     let idle = done.new.input ≡ c.args.input.now in
@@ -90,7 +90,7 @@ returns-in-Scope-clause-ended g c =
 pub returns-in-Batch-clause-ended : goal.returns-in-Batch-clause-ended
 returns-in-Batch-clause-ended g c =
     let run = λ (t : Task). Run t c.args.options in
-    let done = c.write_whole-in-Batch in
+    let done = c.write_items-in-Batch in
     let h : Shelves = shelves g.S.Shelf.files g.S.Shelf.faults g.S.Shelf.asked c.args.shelf.now done.new.shelf in
     let o : Streams = streams g.I.Source.left g.I.Source.faults g.O.Sink.written g.O.Sink.flushed g.O.Sink.faults c.args.input.now done.new.input c.args.out.now done.new.out in
     let idle = done.new.input ≡ c.args.input.now in

@@ -1,5 +1,5 @@
 use Rattle.std.proofs.Common.{◌∙◌, ℕ, sym, List}
-use Rattle.command_line.specs.Words.{Form, help, version, run, parse, generate, types, expand, check, self_test, scope, batch, transfer}
+use Rattle.command_line.specs.Words.{Form, help, help_on, version, run, parse, generate, types, expand, check, self_test, scope, batch, transfer}
 use Rattle.endings.specs.Meanings.{Lawful}
 use Rattle.endings.specs.PlainTexts.{plain_meaning}
 use Rattle.top_call.specs.Commands.{meaning_of, asked_of, bounds_of}
@@ -8,6 +8,8 @@ use Rattle.top_call.proofs.laws.built_lawful.Goals as goal
 plain : (text : List ℕ) → Lawful (plain_meaning text)
 plain text = record {
   loads = λ files lines pieces refused r. tt;
+  gaps_load = λ files lines pieces wanting r. tt;
+  no_gap = λ files lines pieces r. (r.1, r.2);
   one_first = λ files f g a b. absurd a;
   not_both = λ files f l a. a;
   one_report = λ files lines pieces others refused may p q. (p.0 ∙ sym q.0, p.1 ∙ sym q.1);
@@ -19,6 +21,7 @@ returns c = by_cases
   where
     by_cases : (form : Form) → Lawful (meaning_of form)
     by_cases help = plain _
+    by_cases (help_on command) = plain _
     by_cases version = plain _
     by_cases (run (parse grammar) options) = c.parse_lawful.ensures grammar options.settings (asked_of options)
     by_cases (run (generate grammar) options) = c.generate_lawful.ensures grammar options.settings (bounds_of options)

@@ -1,7 +1,7 @@
 use Rattle.std.proofs.Common.{◌≡◌, ◌∙◌, option_map, refl, sym, ap, subst, Err}
 use Rattle.std.proofs.lemmas.Result.{err_from_is_err_and}
 use Rattle.endings.specs.Meanings.{Shelves, shelves}
-use Rattle.endings.specs.Reports.{AreAnswers, Streams, streams}
+use Rattle.endings.specs.Reports.{AreAnswers, OrNoMemory, Streams, streams}
 use Rattle.endings.specs.Endings.{Ended}
 use Rattle.endings.proofs.Making.{lines-ended, lines-stopped, not-come}
 use Rattle.transfer_commands.specs.Answers.{IsAnswer}
@@ -29,7 +29,7 @@ returns-in_err-refused g c =
     let w = rewriter_of c.in_ok-transferrer.transferrer in
     let p = err_from_is_err_and c.from_residual-in_err-refused.result c.from_residual-in_err-refused.ensures.1 in
     subst (Ended m h o idle untouched) (sym (p.1 ∙ ap Err p.2))
-    (lines-stopped m h o idle untouched (AreAnswers (IsAnswer w) 1) refl (λ lines pieces refused r. (w, c.in_ok-transferrer.ensures.rewriter, r)) c.in_err-refused.field-0.0 c.in_err-refused.ensures)
+    (lines-stopped m h o idle untouched (AreAnswers (IsAnswer w) 1) (AreAnswers (OrNoMemory (IsAnswer w)) 1) refl (λ lines pieces refused r. (w, c.in_ok-transferrer.ensures.rewriter, r)) (λ lines pieces wanting r. (w, c.in_ok-transferrer.ensures.rewriter, r)) c.in_err-refused.field-0.0 c.in_err-refused.ensures)
 
 pub returns : goal.returns
 returns g c =
@@ -39,4 +39,4 @@ returns g c =
     let idle = c.serve.new.input ≡ c.args.input.now in
     let untouched = (c.serve.new.input ≡ c.args.input.now) × (c.serve.new.out ≡ c.args.out.now) in
     let w = rewriter_of c.in_ok-transferrer.transferrer in
-    lines-ended m h o idle untouched (AreAnswers (IsAnswer w) 1) refl (λ lines pieces refused r. (w, c.in_ok-transferrer.ensures.rewriter, r)) c.in_ok-refused.refused c.in_ok-refused.ensures
+    lines-ended m h o idle untouched (AreAnswers (IsAnswer w) 1) (AreAnswers (OrNoMemory (IsAnswer w)) 1) refl (λ lines pieces refused r. (w, c.in_ok-transferrer.ensures.rewriter, r)) (λ lines pieces wanting r. (w, c.in_ok-transferrer.ensures.rewriter, r)) c.in_ok-refused.refused c.in_ok-refused.ensures

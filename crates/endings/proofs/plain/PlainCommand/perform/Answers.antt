@@ -1,10 +1,10 @@
 use Rattle.std.proofs.Common.{◌≡◌, ◌∷◌, [], ◌∙◌, sym, ap, subst, refl, Err, false}
 use Rattle.std.proofs.lemmas.Result.{err_from_is_err_and}
 use Rattle.endings.specs.Meanings.{shelves}
-use Rattle.endings.specs.Reports.{Exactly, streams}
+use Rattle.endings.specs.Reports.{Exactly, NoReport, streams}
 use Rattle.endings.specs.Endings.{Ended}
 use Rattle.endings.specs.PlainTexts.{plain_meaning}
-use Rattle.endings.proofs.Making.{exactly, whole-stopped}
+use Rattle.endings.proofs.Making.{exactly, none-gapped, whole-stopped}
 use Rattle.endings.proofs.plain.PlainCommand.perform.Goals as goal
 
 pub returns-in_err-say-clause-ended : goal.returns-in_err-say-clause-ended
@@ -16,4 +16,4 @@ returns-in_err-say-clause-ended g c =
     let untouched = (c.args._input.now ≡ c.args._input.now) × (c.say.new.out ≡ c.args.out.now) in
     let p = err_from_is_err_and c.from_residual.result c.from_residual.ensures.1 in
     subst (Ended m h o idle untouched) (sym (p.1 ∙ ap Err p.2))
-    (whole-stopped m h o idle untouched (Exactly (c.args.self.now.text.now ∷ []) false) refl (exactly (m.report h.files) (c.args.self.now.text.now ∷ []) false (λ lines. (refl, refl))) refl c.in_err-say.field-0.0 c.in_err-say.ensures)
+    (whole-stopped m h o idle untouched (Exactly (c.args.self.now.text.now ∷ []) false) NoReport refl (exactly (m.report h.files) (c.args.self.now.text.now ∷ []) false (λ lines. (refl, refl))) (none-gapped (m.with_gaps h.files)) refl c.in_err-say.field-0.0 c.in_err-say.ensures)

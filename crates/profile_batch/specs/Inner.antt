@@ -1,0 +1,2 @@
+-- Words between one function and the next; no public clause cites them.
+pub mod Told
