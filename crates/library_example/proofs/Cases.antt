@@ -53,7 +53,7 @@ told-of old new fault text e d t = told [] fault text (subst (λ a. Tells a (Som
 -- What comes of lines, from the clauses of a run by the words of one form. `left` is what the source had, `w0` and `w1` what the report's sink
 -- tells before and after, `x0` and `x1` the other's.
 pub comes : (K : Form → Type 0) (mean : Form → Meaning) (f : Form) (one : (k : Form) → K k → k ≡ f) (has : K f)
-    (F : Files) (h : Shelves) (o : Streams) (left w0 w1 x0 x1 : Option (List ℕ)) (lines report fault : List ℕ) (through rest : Form → Type 0)
+    (F : Files) (h : Shelves) (o : Streams) (left w0 w1 x0 x1 : Option (List ℕ)) (lines report fault : List ℕ) (through : Form → Type 0)
     → left ≡ Some lines → w0 ≡ Some [] → w1 ≡ Some report → x0 ≡ Some [] → x1 ≡ Some fault
     → (s : Status)
     → ((bytes before after : List ℕ) → (s ≡ Done) ⊎ (s ≡ Items) → left ≡ Some bytes → w0 ≡ Some before → w1 ≡ Some after
@@ -63,24 +63,20 @@ pub comes : (K : Form → Type 0) (mean : Form → Meaning) (f : Form) (one : (k
     → (s ≡ Grammar → (form : Form) × (first : FileFault) × K form × (mean form).first F (λ name. false) first × Tells x0 x1 0 0 first.text × (w1 ≡ w0))
     → ((form : Form) → K form → ((mean form).loadable F → ⊥) → (s ≡ Grammar) ⊎ (s ≡ NoMemory))
     → (s ≡ WriteFault → ⊥)
-    → ((bytes before after : List ℕ) → s ≡ Gaps → left ≡ Some bytes → w0 ≡ Some before → w1 ≡ Some after
-    → (form : Form) × (pieces : List (List ℕ)) × K form × (mean form).with_gaps F (lines_of bytes) pieces true × (after ≡ before ++ concat pieces) × rest form)
     → ((form : Form) (bytes : List ℕ) → K form → left ≡ Some bytes → (mean form).loadable F → AreReadable (lines_of bytes) → IsWhole (mean form) h o bytes s)
     → Comes (mean f) F lines report fault s
-comes K mean f one has F h o left w0 w1 x0 x1 lines report fault through rest il iw jw ix jx Done whole silent usage grammar without write gaps complete =
+comes K mean f one has F h o left w0 w1 x0 x1 lines report fault through il iw jw ix jx Done whole silent usage grammar without write complete =
     let p = whole lines [] report (inl refl) il iw jw in
     ((p.1, subst (λ m. (mean m).report F (lines_of lines) p.1 false) (one p.0 p.2) p.3, p.4), some-same fault [] (sym jx ∙ silent (inl refl) ∙ ix))
-comes K mean f one has F h o left w0 w1 x0 x1 lines report fault through rest il iw jw ix jx Items whole silent usage grammar without write gaps complete =
+comes K mean f one has F h o left w0 w1 x0 x1 lines report fault through il iw jw ix jx Items whole silent usage grammar without write complete =
     let p = whole lines [] report (inr refl) il iw jw in
     ((p.1, subst (λ m. (mean m).report F (lines_of lines) p.1 true) (one p.0 p.2) p.3, p.4), some-same fault [] (sym jx ∙ silent (inr refl) ∙ ix))
-comes K mean f one has F h o left w0 w1 x0 x1 lines report fault through rest il iw jw ix jx Grammar whole silent usage grammar without write gaps complete =
+comes K mean f one has F h o left w0 w1 x0 x1 lines report fault through il iw jw ix jx Grammar whole silent usage grammar without write complete =
     let p = grammar refl in
     ((p.1, subst (λ m. (mean m).first F (λ name. false) p.1) (one p.0 p.2) p.3, told-of x0 x1 fault p.1.text ix jx p.4), some-same report [] (sym jw ∙ p.5 ∙ iw))
-comes K mean f one has F h o left w0 w1 x0 x1 lines report fault through rest il iw jw ix jx ReadFault whole silent usage grammar without write gaps complete =
+comes K mean f one has F h o left w0 w1 x0 x1 lines report fault through il iw jw ix jx ReadFault whole silent usage grammar without write complete =
     unreadable (mean f) h o lines ReadFault ((mean f).loadable F) (without f has) (λ load can. complete f lines has il load can) refl
-comes K mean f one has F h o left w0 w1 x0 x1 lines report fault through rest il iw jw ix jx Gaps whole silent usage grammar without write gaps complete =
-    let p = gaps lines [] report refl il iw jw in
-    (p.1, subst (λ m. (mean m).with_gaps F (lines_of lines) p.1 true) (one p.0 p.2) p.3, p.4)
-comes K mean f one has F h o left w0 w1 x0 x1 lines report fault through rest il iw jw ix jx NoMemory whole silent usage grammar without write gaps complete = tt
-comes K mean f one has F h o left w0 w1 x0 x1 lines report fault through rest il iw jw ix jx Usage whole silent usage grammar without write gaps complete = usage refl f has
-comes K mean f one has F h o left w0 w1 x0 x1 lines report fault through rest il iw jw ix jx WriteFault whole silent usage grammar without write gaps complete = write refl
+comes K mean f one has F h o left w0 w1 x0 x1 lines report fault through il iw jw ix jx Gaps whole silent usage grammar without write complete = tt
+comes K mean f one has F h o left w0 w1 x0 x1 lines report fault through il iw jw ix jx NoMemory whole silent usage grammar without write complete = tt
+comes K mean f one has F h o left w0 w1 x0 x1 lines report fault through il iw jw ix jx Usage whole silent usage grammar without write complete = usage refl f has
+comes K mean f one has F h o left w0 w1 x0 x1 lines report fault through il iw jw ix jx WriteFault whole silent usage grammar without write complete = write refl

@@ -23,8 +23,8 @@ returns g c report fault jw jx =
     (comes (IsForm said) meaning_of form_asked (λ k is. c.one_form.ensures said k form_asked is has) has
     (Some (file_or_empty c.in_ok-shelf.shelf)) h o
     (Some c.new-input.result) c.new-report.result.written new.out.written c.new-fault.result.written new.err.written
-    c.args.lines.items report fault (λ form. IsReadThrough (meaning_of form) (Some new.input)) (λ form. IsReadThrough (meaning_of form) (Some new.input) × (new.out.flushed ≡ new.out.written))
+    c.args.lines.items report fault (λ form. IsReadThrough (meaning_of form) (Some new.input))
     (ap Some c.new-input.ensures) (ap (λ a. a.written) c.new-report.ensures) jw (ap (λ a. a.written) c.new-fault.ensures) jx
     c.run-status.result r.report (λ done. ap (λ a. a.written) (r.silent done)) (λ e form is. (r.usage e).0 form is)
-    (λ e. let p = r.grammar e in (p.0, p.1, p.2, p.3.0, p.4, ap (λ a. a.written) p.6)) r.no_grammar (λ e. still (r.write_fault e).3) (λ bytes before after e l w v. r.gaps bytes before after e l w v)
+    (λ e. let p = r.grammar e in (p.0, p.1, p.2, p.3.0, p.4, ap (λ a. a.written) p.6)) r.no_grammar (λ e. still (r.write_fault e).3)
     (λ form bytes is left load can. r.complete form (file_or_empty c.in_ok-shelf.shelf) bytes is refl left load can (still, still, still)))
