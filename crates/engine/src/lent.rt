@@ -1,6 +1,6 @@
 //! A grammar that is ready for lines.
 
-ghost use Rattle.std.specs.Prelude.{◌≡◌, length, IfOk};
+ghost use Rattle.std.specs.Prelude.{◌≡◌, ◌<◌, ◌+◌, ◌^◌, length, IfOk};
 ghost use Rattle.chart_core.specs.Kept.{InRange};
 ghost use Rattle.morph_analysis.specs.Lattices.{IsValid};
 ghost use Rattle.morph_analysis.specs.LatticeViews.{lattice_of};
@@ -8,9 +8,14 @@ ghost use Rattle.lexical_items.specs.Seen.{lattice_seen};
 ghost use Rattle.parse_items.specs.Answers.{IsParseAnswer};
 ghost use Rattle.packed_items.specs.Answers.{limits_in};
 ghost use Rattle.grammar_load.specs.Views.{grammar_of};
+ghost use Rattle.book_signs.specs.Trees.{signs_of};
+ghost use Rattle.grammar_rules.specs.Lines.{HaveAll};
+ghost use Rattle.grammar_rules.specs.LineLeaves.{AreLineLeaves};
 ghost use Rattle.grammar_rules.specs.Views.{item_answer};
+ghost use Rattle.mrs_places.specs.Paths.{paths_of};
 ghost use Rattle.engine.specs.Named.{AreNamed, AreFull, IsFew};
 ghost use Rattle.engine.specs.Ready.{IsReady};
+ghost use Rattle.engine.specs.Semantic.{ArePathsOf};
 ghost use Rattle.engine.specs.Speeches.{IsSpeechOf};
 ghost use Rattle.engine.specs.Views.{speech_of};
 
@@ -20,7 +25,7 @@ use book_signs::SignBook;
 use chart_core::Limits;
 use chart_workers::BySize;
 use grammar_load::Grammar;
-use grammar_rules::{ItemAnswer, LineShapes, RunMemory, parse_words};
+use grammar_rules::{ItemAnswer, LineLeaves, LineShapes, RunMemory, line_leaves, parse_words};
 use morph_analysis::{Feeds, Lattice};
 use mrs_places::MrsPaths;
 use sieve::{Sieve, TypesMeet};
@@ -46,13 +51,48 @@ pub struct Engine<'g, 's, 'b, 'h, 'm, 'r, 'd, 'k, 'f, 'p> {
     pub paths: &'p MrsPaths,
 }
 
-impl Engine<'_, '_, '_, '_, '_, '_, '_, '_, '_, '_> {
-    /// What is known of the grammar of an engine that is ready: it speaks as the engine does. It does nothing.
+impl<'r> Engine<'_, '_, '_, '_, '_, 'r, '_, '_, '_, '_> {
+    /// What is known of an engine that is ready. Its grammar speaks as the engine does; lexicon and spelling have all entries and lexical
+    /// rules of its signs; each instance and each feature has a name; and MRSs are looked for at paths of its signs. It does nothing.
     pub fn laws(&self)
         requires { IsReady self.now }
-        ensures { IsSpeechOf (grammar_of self.now.grammar.now) (speech_of self.now) }
+        ensures speech { IsSpeechOf (grammar_of self.now.grammar.now) (speech_of self.now) }
+        ensures have { HaveAll self.now.signs.now self.now.grammar.now.lexicon self.now.grammar.now.spelling }
+        ensures names { length self.now.grammar.now.names.items ≡ length (signs_of self.now.signs.now).instances }
+        ensures feats { length self.now.grammar.now.book.feats.items ≡ length self.now.signs.now.book.system.introducers }
+        ensures paths { ArePathsOf self.now.signs.now (paths_of self.now.paths.now) }
     {
         self.signs.laws();
+    }
+
+    /// The leaves of the chart of a lattice: all its lexical trees of at most `most` rules, with their shapes; or that there is one with
+    /// exactly one rule more. `NoMemory` may come in place of any answer.
+    pub fn leaves(
+        &self,
+        alloc: Global,
+        desk: &mut Desk,
+        lattice: &Lattice,
+        most: u32,
+    ) -> Result<LineLeaves<'r>, NoMemory>
+        requires ready { IsReady self.now }
+        requires valid { IsValid (lattice_of lattice.now) }
+        requires most { most + 1 < 2 ^ 32 }
+        ensures { IfOk result (AreLineLeaves self.now.signs.now self.now.shapes.now (speech_of self.now).words (lattice_of lattice.now) most) }
+    {
+        self.laws();
+        let leaves = line_leaves(
+            alloc,
+            &mut desk.work,
+            self.signs,
+            self.shapes.shapes(),
+            self.shared,
+            self.feeds,
+            &self.grammar.lexicon,
+            &self.grammar.spelling,
+            lattice,
+            most,
+        )?;
+        Ok(leaves)
     }
 
     /// The answer to a lattice of words within these limits: the limit that it breaks, or the number of packed classes and all licensed

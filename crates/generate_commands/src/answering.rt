@@ -53,6 +53,7 @@ impl Generator<'_, '_, '_, '_> {
         requires valid { IsValid (meaning_of mrs.now) }
         ensures { IfOk result (λ r. IsReportOf self.now number (meaning_of mrs.now) (map (λ l. l.items) r.lines.items) r.refused) }
     {
+        self.engine.laws();
         // one sieve, the quick test of types at paths; and smaller hosts first
         let sieves = [Sieve::new(TypesMeet)];
         let mut desk = self.desks.take(rt, alloc, share);

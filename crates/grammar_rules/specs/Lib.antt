@@ -4,3 +4,4 @@ pub mod Views
 pub mod Lined
 pub mod Lines
 pub mod Remembered
+pub mod LineLeaves

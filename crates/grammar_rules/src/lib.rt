@@ -5,10 +5,12 @@
 
 ghost use Rattle.grammar_rules.specs.Laws.{LexemesAreLeaves, FullsFit, FoundIsAnswer, LinesAreAnswered};
 
+mod leaves;
 mod parsing;
 mod remembered;
 
 use derivation::Tree;
+pub use leaves::{LineLeaves, line_leaves};
 use packed_items::Found;
 pub use parsing::{LineWork, parse_words};
 pub use remembered::{LineShapes, RunMemory, run_shapes};

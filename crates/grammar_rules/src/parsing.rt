@@ -130,8 +130,8 @@ fn add_leaf<'s>(
     Ok(())
 }
 
-// The leaves of a chart over these lexical trees.
-fn leaves_of<'s>(
+/// The leaves of a chart over these lexical trees.
+pub(crate) fn leaves_of<'s>(
     alloc: Global,
     work: &mut Scratch,
     signs: &SignBook<'_>,
@@ -230,8 +230,8 @@ fn answer_trees<'a, R: Wait + Threads + Sync, F: Filter + Send + Sync, P: Rank +
     }
 }
 
-// What is found of the lexical trees of a lattice.
-fn lexical_of(
+/// What is found of the lexical trees of a lattice.
+pub(crate) fn lexical_of(
     alloc: Global,
     work: &mut Scratch,
     signs: &SignBook<'_>,

@@ -19,7 +19,7 @@ use chart_workers::{Crew, Rank, saturate};
 use cover::Shapes;
 use derivation::Tree;
 use forest_unpack::{Fulls, UnpackFault, unpack};
-pub use sieving::{answer_remembered, answer_sieved};
+pub use sieving::{answer_remembered, answer_sieved, leaves_over};
 use std::alloc::Global;
 use std::sync::Wait;
 use std::thread::Threads;

@@ -18,8 +18,8 @@ use std::sync::Wait;
 use std::thread::Threads;
 use worker_gate::Gate;
 
-// The same leaves, over other shapes of the same kind.
-fn leaves_over<S: Shapes, T: Shapes<Shape = S::Shape, Cover = S::Cover>>(
+/// The same leaves, over other shapes of the same kind. `NoMemory` comes for want of memory alone.
+pub fn leaves_over<S: Shapes, T: Shapes<Shape = S::Shape, Cover = S::Cover>>(
     alloc: Global,
     leaves: Vec<Leaf<S>>,
 ) -> Result<Vec<Leaf<T>>, NoMemory>

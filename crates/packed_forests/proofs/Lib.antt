@@ -1,0 +1,4 @@
+pub mod Laws
+pub mod Finding
+pub mod Making
+pub mod Telling

@@ -1,0 +1,3 @@
+pub mod Makers
+pub mod Rows
+pub mod Inner
