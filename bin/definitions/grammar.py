@@ -19,9 +19,11 @@ class Grammar:
         self.structures, self.numbers = [], {}
         self.kept, self.mothers = {}, 0
         self.place, self.instance, self.arity = {}, {}, {}
+        # (instances have places in the order in which they are read)
+        for key in case.get("order", [(status, name) for status in KINDS for name, _ in case[status]]):
+            self.place[key] = len(self.place)
         for status in KINDS:
             for name, body in case[status]:
-                self.place[status, name] = len(self.place)
                 self.instance[status, name] = self.close([((), facts_of(body, self.words_of_lists))])
 
     def constraint(self, name):

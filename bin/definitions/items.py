@@ -81,7 +81,12 @@ class Item:
 
     def class_answer(self):
         """The number of packed classes, or the limit that is broken at the least size."""
-        case, found, count = self.grammar.case, {}, 0
+        classes = self.classes()
+        return classes if isinstance(classes, str) else len(classes)
+
+    def classes(self):
+        """The packed classes, each a cover, a level and the number of a structure, or the limit that is broken at the least size."""
+        case, found, classes = self.grammar.case, {}, []
         most = case["unary"]
         for size in range(1, self.covers.greatest + 1):
             made = self.members(found, size, most)
@@ -90,13 +95,14 @@ class Item:
                 raise TooMuch
             if any(levels[most + 1] for levels in made.values()):
                 return "unary-chain"
-            count += sum(self.packed(row) for levels in made.values() for row in levels[: most + 1])
-            if count > case["edges"]:
+            classes += [(cover, k, s) for cover, levels in made.items() for k in range(most + 1) for s in self.packed(levels[k])]
+            if len(classes) > case["edges"]:
                 return "edges"
-        return count
+        return classes
 
     def packed(self, row):
-        return sum(not any(o != s and self.grammar.subsumes(o, s) for o in row) for s in row)
+        """The structures that no other one of the same cover and level subsumes."""
+        return [s for s in row if not any(o != s and self.grammar.subsumes(o, s) for o in row)]
 
     def members(self, found, size, most):
         """The members of the least set of this size: for each cover and level their structures."""
@@ -173,13 +179,19 @@ class Item:
                 raise TooMuch
 
 
-def parse_answer(grammar, number, lattice, nodes, mrs_lines=None):
-    """The report on a line, and whether it is refused. After each tree come the lines of its MRS, where they are asked for."""
-    steps, end = lattice
+def leaves_of(grammar, steps):
+    """The leaves of a lattice, or none where a lexical tree has a rule too many."""
     most = grammar.case["lexical-limit"]
     words = dict.fromkeys(word for _, _, word in steps)
     leaves = [(span, chain, span) for word in words for chain in grammar.chains_from(most + 1, word) for span in spans_of(steps, chain[2])]
-    if any(len(chain[1]) == most + 1 for _, chain, _ in leaves):
+    return None if any(len(chain[1]) == most + 1 for _, chain, _ in leaves) else leaves
+
+
+def parse_answer(grammar, number, lattice, nodes, mrs_lines=None):
+    """The report on a line, and whether it is refused. After each tree come the lines of its MRS, where they are asked for."""
+    steps, end = lattice
+    leaves = leaves_of(grammar, steps)
+    if leaves is None:
         return [f"item {number} refused lexical-depth"], True
     item = Item(grammar, Spans(end), leaves)
     classes = item.class_answer()

@@ -2,13 +2,15 @@
 names over it."""
 from .bodies import NAMES
 from .cases import case_of, files_of, lattice_of, line_of, options_of
+from .chart_cases import changed, lattice_line, lattice_of_text, limits_of, line_of as text_of_line, sample_of
+from .charts import chart_answer
 from .grammar import Grammar
 from .items import generate_answer, parse_answer
 from .mrs import Mrs, are_equal, contribution, mrs_line, mrs_of, DEFAULTS
 from .faults import draft_of
 from .mrs_texts import asked_texts
 from .profile_cases import profile_of
-from .profiles import items_of as items_of_profile, report_of
+from .profiles import items_of as items_of_profile, report_of, words_of
 from .rule_reader import rules_of as rules_of_text
 from .scope_cases import LIMITS, asked_lines
 from .scopes import lines_of_scopes
@@ -22,7 +24,7 @@ from .transfer_cases import (
 from .transfers import lines_of_transfer
 from .type_cases import types_asked
 
-MOST_MRSS, BROKEN, SCOPES, TRANSFERS, TEXTS, PROFILES, DEFAULT_READINGS = 12, 20, 30, 25, 6, 4, 10000
+MOST_MRSS, BROKEN, SCOPES, TRANSFERS, TEXTS, PROFILES, CHARTS, DEFAULT_READINGS = 12, 20, 30, 25, 6, 4, 25, 10000
 CHECK = ["check", "g", "--settings", "set"]
 
 
@@ -263,6 +265,49 @@ def batch_run(chance):
     return files_of(case), asked
 
 
+def chart_run(chance):
+    """Packed forests of lines and lattices under several limits, by a random grammar or one of `examples`."""
+    files, words, grammar, lines = sample_of(chance)
+    if None in grammar.instance.values() or any(grammar.constraint(name) is None for name in grammar.types.names):
+        raise TooMuch
+    return files, [charted(chance, [*words, *limits_of(chance, grammar)], grammar, lines) for _ in range(chance.choice((1, 2, 3)))]
+
+
+def charted(chance, words, grammar, lines):
+    is_lattice = chance.random() < 0.4
+    known = [word for of in grammar.case["words"].values() for word in of]
+    said, reports, refused, passed = [], [], False, 0
+    for _ in range(CHARTS if len(grammar.case["types"]) < 60 else 3):
+        line = changed(chance, chance.choice(lines) if lines else [], known)
+        text = lattice_line(chance, line, known) if is_lattice else text_of_line(chance, line)
+        try:
+            report, is_refused = chart_report(grammar, len(said) + 1, text, is_lattice)
+        except TooMuch:
+            passed += 1
+            continue
+        refused |= is_refused
+        said.append(text)
+        reports.append(report)
+    flags = [*(["--lattice"] if is_lattice else []), *(["--workers", str(chance.choice((2, 4)))] if chance.random() < 0.1 else []), *(["--mrs"] if chance.random() < 0.05 else [])]
+    return Asked([*words, *flags], reports, said, 4 if refused else 0, passed=passed)
+
+
+def chart_report(grammar, number, text, is_lattice):
+    """The report on a line, and whether it is refused or can't be read."""
+    if any("\udc80" <= c <= "\udcff" for c in text):
+        return [f"item {number} not-utf8"], True
+    if not is_lattice:
+        said = [word.casefold() for word in words_of(text)]
+        return chart_answer(grammar, number, lattice_of(None, said), False)
+    lattice = lattice_of_text(text)
+    if isinstance(lattice, int):
+        return [f"item {number} no-lattice {lattice}"], True
+    # (sizes are gone through one by one)
+    if lattice[1] > 50:
+        raise TooMuch
+    return chart_answer(grammar, number, lattice, True)
+
+
 def fits(answer, words):
     """Whether the definitions answer these words in time."""
     try:
@@ -287,5 +332,5 @@ def skips_of(chance):
 
 RUNS = {
     "syntax": syntax_run, "semantics": semantics_run, "spelling": spelling_run, "types": types_run, "broken": broken_run, "scope": scope_run,
-    "transfer": transfer_run, "batch": batch_run,
+    "transfer": transfer_run, "batch": batch_run, "chart": chart_run,
 }

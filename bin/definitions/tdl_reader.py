@@ -2,18 +2,18 @@
 the form is an error of this reader; which faults `lkb` tells is compared elsewhere."""
 import re
 
-TOKEN = re.compile(r';[^\n]*|"(?:[^"\\]|\\.)*"|%(?:letter-set|suffix|prefix)|:=|:begin|:end|:include|:status|:instance|:type|<!|!>|\.\.\.|#?[^\s()<>\[\]!,.&;"#:%]+|[\S]')
+TOKEN = re.compile(r';[^\n]*|"(?:[^"\\]|\\.)*"|%\(letter-set\s*\([^()]*\)\s*\)|%(?:suffix|prefix)(?:\s*\([^()]*\))+|:=|:begin|:end|:include|:status|:instance|:type|<!|!>|\.\.\.|#?[^\s()<>\[\]!,.&;"#:%]+|[\S]')
 KINDS = {"lex-entry": "entries", "lex-rule": "lexical", "rule": "rules", "root": "roots"}
 DEFAULTS = {"limit": 255, "restrictors": ["CONT", "C-CONT", "STEM"], "daughters": ["ARGS"], "edges": 5000, "readings": 10000, "unary": 8, "lexical-limit": 7, "empty": 4}
 
 
 def case_of_files(folder, top, irregular=None):
     """A grammar with its irregular forms, under the settings' defaults."""
-    case = {**DEFAULTS, "types": [], "entries": [], "lexical": [], "rules": [], "roots": [], "words": {}, "spelling": {}, "letters": {}, "irregular": []}
+    case = {**DEFAULTS, "types": [], "entries": [], "lexical": [], "rules": [], "roots": [], "words": {}, "spelling": {}, "letters": {}, "irregular": [], "order": []}
     Reader(folder, top, case).file()
     for line in (folder / irregular).read_text().split("\n") if irregular else ():
         if len(words := line.split()) == 3 and not line.startswith(";"):
-            case["irregular"].append(tuple(word.lower() for word in words))
+            case["irregular"].append(tuple(word.casefold() for word in words))
     case["irregular"] = [line for line in case["irregular"] if line[1] in case["spelling"]]
     return case
 
@@ -56,7 +56,7 @@ class Reader:
                 self.take(":instance", ":type")
                 self.take(".")
                 self.status = None
-            elif self.is_next("%letter-set") or self.is_next("%"):
+            elif self.peek().startswith("%("):
                 self.letters()
             else:
                 self.definition()
@@ -68,13 +68,10 @@ class Reader:
         self.take(".")
 
     def letters(self):
-        """`%(letter-set (!c abc)).`"""
-        for sign in ("(", "letter-set", "(", "!"):
-            self.take(sign)
-        name = self.take()
-        self.case["letters"][name[0]] = name[1:] or self.take()
-        for sign in ("))."):
-            self.take(sign)
+        """`%(letter-set (!c abc)).`, with its full stop or without."""
+        name, members = re.fullmatch(r"%\(letter-set\s*\(\s*!(\S)\s+(\S+)\s*\)\s*\)", self.take()).groups()
+        self.case["letters"][name] = members
+        self.is_next(".")
 
     def definition(self):
         name = self.take()
@@ -87,28 +84,20 @@ class Reader:
             self.case["types"].append((name, parents, [((), without(terms, "type"))]))
             return
         self.case[self.status].append((name, [((), terms)]))
+        self.case["order"].append((self.status, name))
         if self.status == "lexical":
             self.case["spelling"][name] = spelling
         elif self.status == "entries":
             words = [value for kind, body in terms if kind == "avm" for path, of in body if path == ("STEM",) for _, (items, _) in of for ((_, value),) in items]
-            self.case["words"][name] = tuple(word.lower() for text in words for word in text.split())
+            self.case["words"][name] = tuple(word.casefold() for text in words for word in text.split())
 
     def spelling(self):
-        if self.peek() not in ("%suffix", "%prefix"):
+        """Whether suffixes are spelled, and the groups, as `(!cy !cies)` or `(* s)`: `*` is nothing."""
+        if not self.peek().startswith(("%suffix", "%prefix")):
             return True, []
-        is_suffix, groups = self.take() == "%suffix", []
-        while self.is_next("("):
-            parts = [""]
-            while not self.is_next(")"):
-                parts.append(self.take())
-            groups.append(self.group(parts))
-        return is_suffix, groups
-
-    def group(self, parts):
-        """The two sides of `(!cy !cies)`, `(* s)`: a `!` belongs to what follows it, and `*` is nothing."""
-        sides = re.findall(r"\S+", re.sub(r"! ", "!", " ".join(parts)))
-        pattern, with_ = ("" if side == "*" else side for side in sides)
-        return pattern, with_
+        token = self.take()
+        groups = [tuple("" if side == "*" else side for side in group.split()) for group in re.findall(r"\(([^()]*)\)", token)]
+        return token.startswith("%suffix"), groups
 
     def conjunction(self):
         terms = [self.term()]

@@ -13,7 +13,7 @@ BATCH = re.compile(rf"(?:(new|same) {GOT}|(differs) (\?|{GOT[1:-1]}) {GOT}|(too-
 KEPT = re.compile(r"  trees kept (\d+) lost (\d+) gained (\d+)")
 SUMMARY = re.compile(r"batch items (\d+) same (\d+) differs (\d+) new (\d+) bad (\d+)")
 SCOPE = re.compile(r"  top=h(\d+)((?: h\d+=h\d+)*)")
-CLASS = re.compile(r"  (\d+) (\d+):(\d+) (\S+)( \*)?((?: \(.*)?)")
+CLASS = re.compile(r"  (\d+) (\d+):(\d+) (\S+)((?: \(.*)?)")
 UNKNOWN = re.compile(r"  unknown (\d+):(\d+) (\S+)")
 
 
@@ -171,10 +171,11 @@ def edge(item, lines):
     found, number = CLASS.fullmatch(lines.peek()), len(item.edges) + 1
     if found is None or int(found[1]) != number:
         raise lines.wrong(f"expected `  {number} FROM:TO TYPE MAKER ..`, got {shown(lines.peek())}")
-    kind, is_root = found[4], bool(found[5])
-    if not is_root and kind.endswith("*") and (kind.endswith("**") or not kind.startswith("*")):
-        kind, is_root = kind[:-1], True
-    makers = list(makers_of(found[6], item.count, lines))
+    # (a type's own name may have stars at both ends)
+    kind = found[4]
+    is_root = kind.endswith("*") and (kind.endswith("**") or not kind.startswith("*"))
+    kind = kind[:-1] if is_root else kind
+    makers = list(makers_of(found[5], item.count, lines))
     lines.take()
     return [int(found[2]), int(found[3]), kind, is_root, makers]
 

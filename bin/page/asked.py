@@ -17,7 +17,7 @@ CHART = """\
 item 1 classes 6
   1 0:1 any-determiner (the_d "the")
   2 0:2 specifier-head (det_noun 1 5) (other_rule 1 4)
-  3 0:3 specifier-head * (subj_head 2 6)
+  3 0:3 specifier-head* (subj_head 2 6)
   4 1:2 animal-noun (dog_n "dog")
   5 1:2 noun-word (sg_noun (dog_n "dog"))
   6 2:3 present-verb (3sg_verb (bark_v "barks"))

@@ -163,6 +163,7 @@ AreArguments places words names options = (items : List Item) × (words ≡ word
 -- What a command is to do, with its positional words.
 pub data Task : Type 0 where
   parse : (grammar : List ℕ) → Task
+  chart : (grammar : List ℕ) → Task
   generate : (grammar : List ℕ) → Task
   types : (grammar : List ℕ) → Task
   expand : (grammar entry : List ℕ) → Task
@@ -175,6 +176,7 @@ pub data Task : Type 0 where
 -- the command of a task
 abbrev pub command_in : Task → CommandName
 command_in (parse grammar) = named.Parse
+command_in (chart grammar) = named.Chart
 command_in (generate grammar) = named.Generate
 command_in (types grammar) = named.Types
 command_in (expand grammar entry) = named.Expand
@@ -187,6 +189,7 @@ command_in (transfer rules) = named.Transfer
 -- the word of a command
 abbrev pub name_word : CommandName → List ℕ
 name_word named.Parse = codes "parse"
+name_word named.Chart = codes "chart"
 name_word named.Generate = codes "generate"
 name_word named.Types = codes "types"
 name_word named.Expand = codes "expand"
@@ -211,6 +214,7 @@ places_of one = name ∷ []
 -- the command has these positional words, where a number is what its word writes
 abbrev pub HasNames : Task → List (List ℕ) → Type 0
 HasNames (parse grammar) names = names ≡ grammar ∷ []
+HasNames (chart grammar) names = names ≡ grammar ∷ []
 HasNames (generate grammar) names = names ≡ grammar ∷ []
 HasNames (types grammar) names = names ≡ grammar ∷ []
 HasNames (expand grammar entry) names = names ≡ grammar ∷ entry ∷ []

@@ -8,6 +8,8 @@ use crate::options::Options;
 pub enum CommandName {
     /// `parse`.
     Parse,
+    /// `chart`.
+    Chart,
     /// `generate`.
     Generate,
     /// `types`.
@@ -31,6 +33,8 @@ pub enum CommandName {
 pub enum Task<'a> {
     /// The parses of each line of the input, with the grammar of this name.
     Parse(&'a str),
+    /// The packed classes of each line of the input, with the grammar of this name.
+    Chart(&'a str),
     /// The sentences of each MRS of the input, with the grammar of this name.
     Generate(&'a str),
     /// The types of the grammar of this name.
@@ -59,6 +63,7 @@ impl Task<'_> {
     {
         match self {
             Task::Parse(_) => CommandName::Parse,
+            Task::Chart(_) => CommandName::Chart,
             Task::Generate(_) => CommandName::Generate,
             Task::Types(_) => CommandName::Types,
             Task::Expand(_, _) => CommandName::Expand,

@@ -63,6 +63,8 @@ fn command_named(word: &str) -> Option<CommandName>
 {
     if word == "parse" {
         Some(CommandName::Parse)
+    } else if word == "chart" {
+        Some(CommandName::Chart)
     } else if word == "generate" {
         Some(CommandName::Generate)
     } else if word == "types" {
@@ -101,6 +103,7 @@ impl CommandName {
             CommandName::SelfTest => Places::TwoNumbers,
             CommandName::Scope => Places::NoPlace,
             CommandName::Parse
+            | CommandName::Chart
             | CommandName::Generate
             | CommandName::Types
             | CommandName::Check
@@ -115,6 +118,7 @@ impl CommandName {
     {
         match self {
             CommandName::Parse => Task::Parse(arguments.first),
+            CommandName::Chart => Task::Chart(arguments.first),
             CommandName::Generate => Task::Generate(arguments.first),
             CommandName::Types => Task::Types(arguments.first),
             CommandName::Expand => Task::Expand(arguments.first, arguments.second),

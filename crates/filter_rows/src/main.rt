@@ -13,7 +13,6 @@ use std::thread::Threads;
 mod alike;
 mod answers;
 mod grammars;
-mod held;
 mod lent;
 mod steps;
 

@@ -1,5 +1,10 @@
-pub mod OneAnswer
+pub mod OneLine
+pub mod OneTrees
+pub mod OneForest
+pub mod LineLaws
 pub mod ParseLaws
+pub mod ChartLaws
 pub mod Answered
 pub mod Serving
 pub mod Lines
+pub mod Forests

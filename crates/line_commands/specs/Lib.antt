@@ -1,4 +1,6 @@
+pub mod Lines
 pub mod Answers
 pub mod Parsing
+pub mod Charting
 pub mod Views
 pub mod Inner

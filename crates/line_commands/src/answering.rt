@@ -1,10 +1,10 @@
-//! The answers to lines.
+//! The answers to lines by trees.
 
 ghost use Rattle.chart_core.specs.Kept.{InRange};
 
 use crate::NoMemory;
 use crate::lattices::lattice_of_line;
-use crate::reports::{report_of, report_of_no_lattice, report_of_no_text, report_with_mrs};
+use crate::reports::{report_of, report_of_no_lattice, report_with_mrs};
 use chart_core::Limits;
 use endings::lines::{Answers, Share};
 use endings::pieces::Report;
@@ -12,7 +12,7 @@ use engine::Engine;
 use engine::desks::Desks;
 use fs_unify::Scratch;
 use grammar_rules::ItemAnswer;
-use morph_analysis::{Lattice, LatticeFault};
+use morph_analysis::Lattice;
 use mrs_lines::TreeLines;
 use std::alloc::Global;
 use std::sync::Wait;
@@ -34,7 +34,7 @@ pub(crate) struct Parser<'e, 'r, 'k> {
 }
 
 impl Parser<'_, '_, '_> {
-    ghost use Rattle.std.specs.Prelude.{◌<◌, ◌^◌, length, map, IfOk, ◌≡◌};
+    ghost use Rattle.std.specs.Prelude.{length, map, IfOk, ◌≡◌};
     ghost use Rattle.std.specs.Thread.{IsSync};
     ghost use Rattle.morph_analysis.specs.Lattices.{IsValid};
     ghost use Rattle.morph_analysis.specs.LatticeViews.{lattice_of};
@@ -97,30 +97,7 @@ impl Parser<'_, '_, '_> {
         report
     }
 
-    // The report on a line that is text.
-    fn text_report<Rt: Threads + Wait + Sync>(
-        &self,
-        rt: &Rt,
-        alloc: Global,
-        number: u64,
-        line: &str,
-        share: Share,
-        gate: &dyn Gate,
-    ) -> Result<Report, NoMemory>
-        requires sync { IsSync Rt.row }
-        requires ready { IsReady self.now.engine }
-        requires few { length line.now < 2 ^ 32 }
-        ensures { IfOk result (λ r. IsAnswer (speech_of self.now.engine) (asked_of self.now) number line.now (map (λ l. l.items) r.lines.items) r.refused) }
-    {
-        match lattice_of_line(alloc, line, self.lattice) {
-            Ok(lattice) => self.parsed(rt, alloc, number, &lattice, share, gate),
-            Err(LatticeFault::At { at }) => report_of_no_lattice(alloc, number, at),
-            Err(LatticeFault::NoMemory) => Err(NoMemory),
-        }
-    }
-
-    /// The report on the line of this number. A line that is longer than a `u32` can say counts as want of memory; no line of the
-    /// program is.
+    /// The report on the line of this number.
     pub(crate) fn report<Rt: Threads + Wait + Sync>(
         &self,
         rt: &Rt,
@@ -134,12 +111,9 @@ impl Parser<'_, '_, '_> {
         requires ready { IsReady self.now.engine }
         ensures { IfOk result (λ r. IsAnswer (speech_of self.now.engine) (asked_of self.now) number line.now (map (λ l. l.items) r.lines.items) r.refused) }
     {
-        if line.len() > u32::MAX as usize {
-            return Err(NoMemory);
-        }
-        match str::from_utf8(line) {
-            Ok(text) => self.text_report(rt, alloc, number, text, share, gate),
-            Err(_) => report_of_no_text(alloc, number),
+        match lattice_of_line(alloc, line, self.lattice) {
+            Ok(lattice) => self.parsed(rt, alloc, number, &lattice, share, gate),
+            Err(why) => report_of_no_lattice(alloc, number, why),
         }
     }
 }

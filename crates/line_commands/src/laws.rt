@@ -1,12 +1,15 @@
-//! What holds of `parse`: told files have one grammar or one first fault, and never both, and lines have one report.
+//! What holds of `parse` and of `chart`: told files have one grammar or one first fault, and never both, and lines have one report.
 
-ghost use Rattle.std.specs.Prelude.{ℕ, List, Option};
+ghost use Rattle.std.specs.Prelude.{ℕ, List, Option, Bool};
+ghost use Rattle.item_model.specs.Items.{Limits};
 ghost use Rattle.endings.specs.Meanings.{Lawful};
 ghost use Rattle.line_commands.specs.Answers.{Asked};
 ghost use Rattle.line_commands.specs.Parsing.{parse_meaning};
+ghost use Rattle.line_commands.specs.Charting.{chart_meaning};
 
 use book_signs::laws::one_signs;
 use command_grammars::laws::grammar_laws;
+use line_charts::chart_laws;
 use morph_analysis::laws::one_line;
 use mrs_lines::mrs_line_laws;
 use parse_items::parse_laws;
@@ -22,4 +25,15 @@ pub fn parse_lawful()
     one_line();
     parse_laws();
     mrs_line_laws();
+}
+
+/// What holds of `chart`.
+pub fn chart_lawful()
+    ensures { (name : List ℕ) (settings : Option (List ℕ)) (limits : Limits) (lexical : ℕ) (lattice : Bool) → Lawful (chart_meaning name settings limits lexical lattice) }
+{
+    grammar_laws();
+    one_signs();
+    said_laws();
+    one_line();
+    chart_laws();
 }

@@ -1,15 +1,17 @@
-//! The report lines of an answer.
+//! The report lines of an answer, and of a line that has none.
 
-ghost use Rattle.std.specs.Prelude.{◌≡◌, ◌∷◌, [], true, length, map, IfOk, string_bytes};
+ghost use Rattle.std.specs.Prelude.{◌≡◌, length, map, IfOk, string_bytes};
 ghost use Rattle.grammar_rules.specs.Views.{item_answer};
-ghost use Rattle.item_reports.specs.Reports.{no_text_line, no_lattice_line, answer_lines, is_refused};
+ghost use Rattle.item_reports.specs.Reports.{answer_lines, is_refused};
 ghost use Rattle.book_signs.specs.Trees.{signs_of};
 ghost use Rattle.mrs_places.specs.Paths.{paths_of};
 ghost use Rattle.mrs_lines.specs.Lines.{AreAnswerLines};
 ghost use Rattle.engine.specs.Named.{AreNamed, AreFull};
 ghost use Rattle.engine.specs.Semantic.{ArePathsOf};
+ghost use Rattle.line_commands.specs.Inner.Lattices.{IsReportWithout};
 
 use crate::NoMemory;
+use crate::lattices::NoLattice;
 use endings::pieces::Report;
 use fs_unify::Scratch;
 use grammar_rules::ItemAnswer;
@@ -110,24 +112,23 @@ pub(crate) fn report_with_mrs(
     })
 }
 
-/// What is written of a line that isn't UTF-8.
-pub(crate) fn report_of_no_text(alloc: Global, number: u64) -> Result<Report, NoMemory>
-    ensures lines { IfOk result (λ r. map (λ l. l.items) r.lines.items ≡ no_text_line number ∷ []) }
-    ensures refused { IfOk result (λ r. r.refused ≡ true) }
+/// What is written of a line that has no lattice.
+pub(crate) fn report_of_no_lattice(
+    alloc: Global,
+    number: u64,
+    why: NoLattice,
+) -> Result<Report, NoMemory>
+    ensures { IfOk result (λ r. IsReportWithout number why (map (λ l. l.items) r.lines.items) r.refused) }
 {
-    Ok(Report {
-        lines: lines_of_no_text(alloc, number)?,
-        refused: true,
-    })
-}
-
-/// What is written of a line whose first item that writes no step begins at this byte.
-pub(crate) fn report_of_no_lattice(alloc: Global, number: u64, at: u32) -> Result<Report, NoMemory>
-    ensures lines { IfOk result (λ r. map (λ l. l.items) r.lines.items ≡ no_lattice_line number at ∷ []) }
-    ensures refused { IfOk result (λ r. r.refused ≡ true) }
-{
-    Ok(Report {
-        lines: lines_of_no_lattice(alloc, number, at)?,
-        refused: true,
-    })
+    match why {
+        NoLattice::NoText => Ok(Report {
+            lines: lines_of_no_text(alloc, number)?,
+            refused: true,
+        }),
+        NoLattice::At { at } => Ok(Report {
+            lines: lines_of_no_lattice(alloc, number, at)?,
+            refused: true,
+        }),
+        NoLattice::NoMemory => Err(NoMemory),
+    }
 }

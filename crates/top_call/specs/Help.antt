@@ -8,6 +8,7 @@ use Rattle.command_line.specs.declared.tasks.CommandName.TheVariants as named
 -- the line of a command
 abbrev pub command_line_of : CommandName → List ℕ
 command_line_of named.Parse = codes "  parse GRAMMAR          for each line of the input the number of its packed classes, and all its trees"
+command_line_of named.Chart = codes "  chart GRAMMAR          for each line of the input the words that no entry covers, and its packed classes"
 command_line_of named.Generate = codes "  generate GRAMMAR       for each MRS of the input the number of its packed classes, and all its sentences"
 command_line_of named.Types = codes "  types GRAMMAR          the completed types, each with its immediate supertypes"
 command_line_of named.Check = codes "  check GRAMMAR          one line that counts types, features, entries, rules and roots"
@@ -36,6 +37,7 @@ help_lines =
     ∷ []
     ∷ codes "Commands:"
     ∷ command_line_of named.Parse
+    ∷ command_line_of named.Chart
     ∷ command_line_of named.Generate
     ∷ command_line_of named.Types
     ∷ command_line_of named.Check
@@ -74,6 +76,7 @@ help_page = flat_map (λ line. line ++ 10 ∷ []) help_lines
 -- how a command is used
 abbrev pub usage_of : CommandName → List ℕ
 usage_of named.Parse = codes "usage: lkb parse GRAMMAR, with options"
+usage_of named.Chart = codes "usage: lkb chart GRAMMAR, with options"
 usage_of named.Generate = codes "usage: lkb generate GRAMMAR, with options"
 usage_of named.Types = codes "usage: lkb types GRAMMAR, with options"
 usage_of named.Check = codes "usage: lkb check GRAMMAR, with options"
@@ -86,6 +89,7 @@ usage_of named.Transfer = codes "usage: lkb transfer RULES, with options"
 -- the options that a command heeds
 abbrev pub heeded_by : CommandName → List OptionName
 heeded_by named.Parse = Settings ∷ Edges ∷ Readings ∷ Lexical ∷ Unary ∷ Workers ∷ Lattice ∷ Mrs ∷ []
+heeded_by named.Chart = Settings ∷ Edges ∷ Lexical ∷ Unary ∷ Workers ∷ Lattice ∷ []
 heeded_by named.Generate = Settings ∷ Edges ∷ Readings ∷ Lexical ∷ Unary ∷ Empty ∷ Workers ∷ []
 heeded_by named.Types = Settings ∷ []
 heeded_by named.Check = Settings ∷ []

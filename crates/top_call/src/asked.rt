@@ -25,7 +25,7 @@ use endings::plain::Plain;
 use endings::{Fault, Stop};
 use generate_commands::{Generate, generate_lines};
 use grammar_commands::{Check, Expand, Types};
-use line_commands::{Parse, parse_lines};
+use line_commands::{Chart, Parse, chart_lines, parse_lines};
 use lkb_io::{Shelf, Sink, Source};
 use profile_batch::Batch;
 use scope_commands::{Scoper, scope_lines};
@@ -159,6 +159,16 @@ fn do_task<S: Shelf, I: Source, O: Sink, Rt: Threads + Wait + Sync>(
                 mrs: options.mrs,
             };
             parse_lines(rt, alloc, &command, shelf, input, out, gate)
+        }
+        Task::Chart(grammar) => {
+            let command = Chart {
+                grammar,
+                settings,
+                limits: limits_of(&options),
+                workers: workers_of(&options),
+                lattice: options.lattice,
+            };
+            chart_lines(rt, alloc, &command, shelf, input, out, gate)
         }
         Task::Generate(grammar) => {
             let command = Generate {

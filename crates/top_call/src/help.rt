@@ -11,6 +11,7 @@ const HELP: &[u8] = b"\
     \n\
     Commands:\n\
     \x20 parse GRAMMAR          for each line of the input the number of its packed classes, and all its trees\n\
+    \x20 chart GRAMMAR          for each line of the input the words that no entry covers, and its packed classes\n\
     \x20 generate GRAMMAR       for each MRS of the input the number of its packed classes, and all its sentences\n\
     \x20 types GRAMMAR          the completed types, each with its immediate supertypes\n\
     \x20 check GRAMMAR          one line that counts types, features, entries, rules and roots\n\
@@ -61,6 +62,17 @@ const PARSE: &[u8] = b"\
     \x20 --workers N      how many workers fill a chart, or answer lines, 1 to 64 (1); no answer depends on it\n\
     \x20 --lattice        each line writes a lattice, FROM:TO:WORD for each step (a line is its words)\n\
     \x20 --mrs            each tree is followed by its MRS (trees alone)\n\
+";
+
+const CHART: &[u8] = b"\
+    usage: lkb chart GRAMMAR, with options\n\
+    \x20 chart GRAMMAR          for each line of the input the words that no entry covers, and its packed classes\n\
+    \x20 --settings NAME  a file of settings (each setting's default)\n\
+    \x20 --edges N        the most packed classes of a line, 1 to 20000 (5000)\n\
+    \x20 --lexical N      the most lexical rules over an entry, 0 to 15 (7)\n\
+    \x20 --unary N        the most unary rules one over another, 0 to 32 (8)\n\
+    \x20 --workers N      how many workers fill a chart, or answer lines, 1 to 64 (1); no answer depends on it\n\
+    \x20 --lattice        each line writes a lattice, FROM:TO:WORD for each step (a line is its words)\n\
 ";
 
 const GENERATE: &[u8] = b"\
@@ -135,6 +147,13 @@ fn on_parse() -> &'static [u8]
     PARSE
 }
 
+// Help on `chart`.
+fn on_chart() -> &'static [u8]
+    ensures { result.now ≡ page_on CommandName.Chart }
+{
+    CHART
+}
+
 // Help on `generate`.
 fn on_generate() -> &'static [u8]
     ensures { result.now ≡ page_on CommandName.Generate }
@@ -197,6 +216,7 @@ pub fn text_on(command: CommandName) -> &'static [u8]
 {
     match command {
         CommandName::Parse => on_parse(),
+        CommandName::Chart => on_chart(),
         CommandName::Generate => on_generate(),
         CommandName::Types => on_types(),
         CommandName::Check => on_check(),

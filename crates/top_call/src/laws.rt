@@ -5,7 +5,7 @@ ghost use Rattle.top_call.specs.Commands.{meaning_of};
 
 use generate_commands::laws::generate_lawful;
 use grammar_commands::laws::{check_lawful, expand_lawful, types_lawful};
-use line_commands::laws::parse_lawful;
+use line_commands::laws::{chart_lawful, parse_lawful};
 use profile_batch::laws::batch_lawful;
 use scope_commands::laws::scope_lawful;
 use self_tests::laws::self_test_lawful;
@@ -16,6 +16,7 @@ pub fn built_lawful()
     ensures { (form : Form) → Lawful (meaning_of form) }
 {
     parse_lawful();
+    chart_lawful();
     generate_lawful();
     types_lawful();
     expand_lawful();

@@ -108,6 +108,7 @@ pub fn wanted_at(command: CommandName, filled: usize) -> Option<Wanted>
             filled,
         ),
         CommandName::Parse
+        | CommandName::Chart
         | CommandName::Generate
         | CommandName::Types
         | CommandName::Check
@@ -125,8 +126,11 @@ pub fn name_at(command: CommandName, filled: usize) -> Option<&'static str>
         CommandName::Batch => of_two("GRAMMAR", "PROFILE", filled),
         CommandName::SelfTest => of_two("NUMBER", "SIZE", filled),
         CommandName::Transfer => of_one("RULES", filled),
-        CommandName::Parse | CommandName::Generate | CommandName::Types | CommandName::Check =>
-            of_one("GRAMMAR", filled),
+        CommandName::Parse
+        | CommandName::Chart
+        | CommandName::Generate
+        | CommandName::Types
+        | CommandName::Check => of_one("GRAMMAR", filled),
     }
 }
 

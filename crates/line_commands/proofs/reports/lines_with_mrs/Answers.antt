@@ -1,4 +1,4 @@
-use Rattle.std.proofs.Common.{◌≡◌, All, map, length, subst, sym}
+use Rattle.std.proofs.Common.{All, length, subst, sym}
 use Rattle.derivation.specs.Text.{IsNamed}
 use Rattle.derivation.specs.Views.{derivation_of}
 use Rattle.rule_model.specs.Structures.{Structure}

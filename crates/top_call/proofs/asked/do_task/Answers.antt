@@ -2,12 +2,13 @@ use Rattle.std.proofs.Common.{◌≡◌, ap, subst, option_map}
 use Rattle.command_line.specs.declared.tasks.Command.TheVariants.{Run}
 use Rattle.command_line.specs.Commands.{task}
 use Rattle.command_line.specs.declared.tasks.Task.{Task}
-use Rattle.command_line.specs.declared.tasks.Task.TheVariants.{Parse, Generate, Types, Expand, Check, SelfTest, Scope, Batch, Transfer}
+use Rattle.command_line.specs.declared.tasks.Task.TheVariants.{Parse, Chart, Generate, Types, Expand, Check, SelfTest, Scope, Batch, Transfer}
 use Rattle.endings.specs.Meanings.{Shelves, shelves}
 use Rattle.endings.specs.Reports.{Streams, streams}
 use Rattle.endings.specs.Endings.{Ended}
 use Rattle.packed_items.specs.Answers.{limits_in}
 use Rattle.line_commands.specs.Parsing.{parse_meaning}
+use Rattle.line_commands.specs.Charting.{chart_meaning}
 use Rattle.generate_commands.specs.Generating.{generate_meaning}
 use Rattle.scope_commands.specs.Scoping.{scope_meaning}
 use Rattle.self_tests.specs.SelfTests.{self_test_meaning}
@@ -25,6 +26,17 @@ returns-in-Parse-clause-ended g c =
     let untouched = (done.new.input ≡ c.args.input.now) × (done.new.out ≡ c.args.out.now) in
     let ended = subst (λ a. Ended (parse_meaning c.in-Parse.grammar.now (option_map (λ s. s.now) c.args.options.settings) a) h o idle untouched done.result) c.limits_of.ensures.asked done.ensures in
     as-asked (run c.args.task) (run (Parse c.in-Parse.grammar)) h o idle untouched done.result (ap run c.in-Parse.is) ended
+
+pub returns-in-Chart-clause-ended : goal.returns-in-Chart-clause-ended
+returns-in-Chart-clause-ended g c =
+    let run = λ (t : Task). Run t c.args.options in
+    let done = c.chart_lines in
+    let h : Shelves = shelves g.S.Shelf.files g.S.Shelf.faults g.S.Shelf.asked c.args.shelf.now done.new.shelf in
+    let o : Streams = streams g.I.Source.left g.I.Source.faults g.O.Sink.written g.O.Sink.flushed g.O.Sink.faults c.args.input.now done.new.input c.args.out.now done.new.out in
+    let idle = done.new.input ≡ c.args.input.now in
+    let untouched = (done.new.input ≡ c.args.input.now) × (done.new.out ≡ c.args.out.now) in
+    let ended = subst (λ a. Ended (chart_meaning c.in-Chart.grammar.now (option_map (λ s. s.now) c.args.options.settings) a.limits a.lexical c.args.options.lattice) h o idle untouched done.result) c.limits_of-in-Chart.ensures.asked done.ensures in
+    as-asked (run c.args.task) (run (Chart c.in-Chart.grammar)) h o idle untouched done.result (ap run c.in-Chart.is) ended
 
 pub returns-in-Generate-clause-ended : goal.returns-in-Generate-clause-ended
 returns-in-Generate-clause-ended g c =

@@ -1,18 +1,26 @@
-use Rattle.std.proofs.Common.{◌≡◌, ◌∷◌, [], map, true}
-use Rattle.item_reports.specs.Reports.{no_text_line}
-use Rattle.line_commands.specs.Answers.{IsAnswer}
+use Rattle.std.proofs.Common.{map}
+use Rattle.morph_analysis.specs.LatticeViews.{lattice_of}
 use Rattle.engine.specs.Views.{speech_of}
-use Rattle.line_commands.specs.Inner.Parsers.{asked_of}
-use Rattle.engine.proofs.Results.{if-both}
-use Rattle.line_commands.proofs.Answered.{no-text-with}
+use Rattle.engine.proofs.Results.{if-ok}
+use Rattle.line_commands.specs.Lines.{answered}
+use Rattle.line_commands.specs.Answers.{IsAnswer}
+use Rattle.line_commands.specs.Inner.Lattices.{IsReportWithout}
+use Rattle.line_commands.specs.Inner.Parsers.{asked_of, IsReportOf}
+use Rattle.line_commands.proofs.Answered.{answered-without}
 use Rattle.line_commands.proofs.answering.Parser.report.Goals as goal
+
+pub returns-in-Ok : goal.returns-in-Ok
+returns-in-Ok g c =
+    let p = c.args.self.now in
+    if-ok c.parsed.result
+    (λ r. IsReportOf p c.args.number (lattice_of c.in-Ok.lattice) (map (λ l. l.items) r.lines.items) r.refused)
+    (λ r. IsAnswer (speech_of p.engine) (asked_of p) c.args.number c.args.line.now (map (λ l. l.items) r.lines.items) r.refused)
+    (λ r is. answered (lattice_of c.in-Ok.lattice) (map (λ l. l.items) r.lines.items) r.refused c.in-Ok.ensures.text c.in-Ok.ensures.lattice is) c.parsed.ensures
 
 pub returns-in-Err : goal.returns-in-Err
 returns-in-Err g c =
     let p = c.args.self.now in
-    if-both c.report_of_no_text.result
-    (λ r. map (λ l. l.items) r.lines.items ≡ no_text_line c.args.number ∷ [])
-    (λ r. r.refused ≡ true)
+    if-ok c.report_of_no_lattice.result
+    (λ r. IsReportWithout c.args.number c.in-Err.why (map (λ l. l.items) r.lines.items) r.refused)
     (λ r. IsAnswer (speech_of p.engine) (asked_of p) c.args.number c.args.line.now (map (λ l. l.items) r.lines.items) r.refused)
-    (λ r e f. no-text-with (speech_of p.engine) (asked_of p) c.args.number c.args.line.now c.in-Err.ensures.cases.0 (map (λ l. l.items) r.lines.items) r.refused e f)
-    c.report_of_no_text.ensures.lines c.report_of_no_text.ensures.refused
+    (λ r is. answered-without p.lattice (IsReportOf p c.args.number) c.args.number c.args.line.now c.in-Err.why c.in-Err.ensures.fault (map (λ l. l.items) r.lines.items) r.refused is) c.report_of_no_lattice.ensures

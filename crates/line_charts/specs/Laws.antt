@@ -1,0 +1,29 @@
+-- What holds of the answers to lattices whose packed forests are asked for.
+use Rattle.std.specs.Prelude.{ℕ, ◌≡◌, List, length}
+use Rattle.type_hierarchy.specs.Table.{TypeTable}
+use Rattle.fs_model.specs.Claims.{IsOrder}
+use Rattle.item_model.specs.Signs.{Signs}
+use Rattle.item_model.specs.Lexical.{Words}
+use Rattle.item_model.specs.Items.{Limits, Answer}
+use Rattle.item_model.specs.Items as item
+use Rattle.parse_items.specs.Lattices.{Lattice}
+use Rattle.parse_items.specs.Answers.{IsParseAnswer}
+use Rattle.line_charts.specs.Answers.{ChartAnswer, LexicalDepth, ByUnaryChain, ByEdges, Forest, IsChartAnswer}
+
+-- A lattice has one answer.
+abbrev pub ChartAnswersAreOne : Type 0
+ChartAnswersAreOne = (g : Signs) (types : TypeTable) (feats : List (List ℕ)) (words : Words) (lattice : Lattice) (most : ℕ) (limits : Limits) → IsOrder g.system → (a b : ChartAnswer) →
+    IsChartAnswer g types feats words lattice most limits a → IsChartAnswer g types feats words lattice most limits b → a ≡ b
+
+-- An answer with trees has as many classes as the packed forest; a limit on lexical rules, chains or classes is one of both.
+abbrev pub Matches : ChartAnswer → Answer → Type 0
+Matches LexicalDepth (item.LexicalDepth) = Unit {0}
+Matches ByUnaryChain (item.ByUnaryChain) = Unit {0}
+Matches ByEdges (item.ByEdges) = Unit {0}
+Matches (Forest unknown classes) (item.Readings) = Unit {0}
+Matches (Forest unknown classes) (item.Trees n trees) = length classes ≡ n
+Matches a b = ⊥
+
+abbrev pub ChartsMatchParses : Type 0
+ChartsMatchParses = (g : Signs) (types : TypeTable) (feats : List (List ℕ)) (words : Words) (lattice : Lattice) (most : ℕ) (limits : Limits) → IsOrder g.system → (a : ChartAnswer) (b : Answer) →
+    IsChartAnswer g types feats words lattice most limits a → IsParseAnswer g words lattice most limits b → Matches a b

@@ -1,0 +1,9 @@
+pub mod Inner
+pub mod Keys
+pub mod Unknown
+pub mod Charts
+pub mod Answers
+pub mod Texts
+pub mod Laws
+pub mod Views
+pub mod Charted

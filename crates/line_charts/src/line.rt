@@ -1,0 +1,69 @@
+//! The packed forest of a line.
+
+ghost use Rattle.std.specs.Prelude.{◌≡◌, length, map, string_bytes, IfOk};
+ghost use Rattle.chart_core.specs.Kept.{InRange};
+ghost use Rattle.morph_analysis.specs.Lattices.{IsValid};
+ghost use Rattle.morph_analysis.specs.LatticeViews.{lattice_of, step_of};
+ghost use Rattle.item_model.specs.Lexical.{Words};
+ghost use Rattle.book_signs.specs.Trees.{signs_of};
+ghost use Rattle.packed_items.specs.Answers.{limits_in};
+ghost use Rattle.lexical_items.specs.Seen.{lattice_seen, step_seen};
+ghost use Rattle.grammar_rules.specs.Lines.{AreShapesOf};
+ghost use Rattle.grammar_rules.specs.LineLeaves.{AreLineLeaves};
+ghost use Rattle.line_charts.specs.Answers.{IsChartAnswer};
+ghost use Rattle.line_charts.specs.Charted.{answer_by};
+ghost use Rattle.line_charts.specs.Views.{chart_answer, IsChartNamed};
+
+use crate::forest::{Charted, chart_over};
+use crate::unknown::unknown_of;
+use crate::{ChartAnswer, NoMemory};
+use book_signs::SignBook;
+use chart_core::Limits;
+use fs_unify::Scratch;
+use grammar_rules::{LineLeaves, LineShapes, line_laws};
+use morph_analysis::{Lattice, Step};
+use std::alloc::Global;
+
+// What a chart gives, with the words that no lexical tree covers, as the answer.
+fn answered(unknown: Vec<Step>, found: Charted) -> ChartAnswer
+    ensures { chart_answer result ≡ answer_by (map (λ s. step_seen (step_of s)) unknown.items) found }
+{
+    match found {
+        Charted::UnaryChain => ChartAnswer::UnaryChain,
+        Charted::Edges => ChartAnswer::Edges,
+        Charted::Classes(classes) => ChartAnswer::Forest { unknown, classes },
+    }
+}
+
+/// The answer to a lattice of words, by the leaves of its chart: the limit that it breaks, or its unknown words and its packed classes. Nothing
+/// is unpacked, so that a line with more readings than can be listed is answered too.
+///
+/// `shapes` are those of the signs; what they remember enters into no answer. `feats` has the names of features by number, in which structures
+/// are written to be put in order. `NoMemory` may come in place of any answer.
+pub fn line_chart<'s>(
+    alloc: Global,
+    work: &mut Scratch,
+    signs: &SignBook<'_>,
+    shapes: &LineShapes<'_, 's>,
+    feats: &[String],
+    lattice: &Lattice,
+    leaves: LineLeaves<'s>,
+    limits: &Limits,
+) -> Result<ChartAnswer, NoMemory>
+    requires shapes { AreShapesOf signs.now shapes.now }
+    requires feats { length feats.now ≡ length signs.now.book.system.introducers }
+    requires valid { IsValid (lattice_of lattice.now) }
+    requires limits { InRange limits.now }
+    requires leaves { (words : Words) × AreLineLeaves signs.now shapes.now words (lattice_of lattice.now) limits.now.lexical leaves }
+    ensures answer { (words : Words) → AreLineLeaves signs.now shapes.now words (lattice_of lattice.now) limits.now.lexical leaves.entry
+        → IfOk result (λ a. IsChartAnswer (signs_of signs.now) signs.now.book.system.types (map string_bytes feats.now) words (lattice_seen (lattice_of lattice.now)) limits.now.lexical (limits_in limits.now) (chart_answer a)) }
+    ensures named { IfOk result (λ a. IsChartNamed signs.now.book.system.types (length (signs_of signs.now).instances) (chart_answer a)) }
+{
+    let LineLeaves::Leaves { trees, leaves } = leaves else {
+        return Ok(ChartAnswer::LexicalDepth);
+    };
+    line_laws();
+    let unknown = unknown_of(alloc, lattice, &trees)?;
+    let found = chart_over(alloc, work, signs, shapes, feats, &trees, leaves, limits)?;
+    Ok(answered(unknown, found))
+}

@@ -1,0 +1,158 @@
+//! The answers to lines by packed forests.
+
+ghost use Rattle.chart_core.specs.Kept.{InRange};
+
+use crate::NoMemory;
+use crate::lattices::lattice_of_line;
+use crate::reports::report_of_no_lattice;
+use chart_core::Limits;
+use endings::lines::{Answers, Share};
+use endings::pieces::Report;
+use engine::Engine;
+use engine::desks::{Desk, Desks};
+use line_charts::{ChartAnswer, is_refused, line_chart, lines_of_chart};
+use morph_analysis::Lattice;
+use std::alloc::Global;
+use std::sync::Wait;
+use std::thread::Threads;
+use worker_gate::Gate;
+
+/// What answers lines by the packed forests that a grammar has for them.
+#[derive(Drop)]
+pub(crate) struct Charter<'e, 'r, 'k> {
+    pub(crate) engine: Engine<'e, 'e, 'e, 'e, 'e, 'r, 'e, 'k, 'e, 'e>,
+    pub(crate) limits: Limits,
+    // whether a line writes a lattice
+    pub(crate) lattice: bool,
+    // what lines are worked out with
+    pub(crate) desks: Desks,
+    ghost in_range: { InRange limits },
+}
+
+impl Charter<'_, '_, '_> {
+    ghost use Rattle.std.specs.Prelude.{◌≡◌, length, map, IfOk};
+    ghost use Rattle.morph_analysis.specs.Lattices.{IsValid};
+    ghost use Rattle.morph_analysis.specs.LatticeViews.{lattice_of};
+    ghost use Rattle.line_charts.specs.Texts.{chart_lines, is_refused};
+    ghost use Rattle.line_charts.specs.Views.{chart_answer, IsChartNamed};
+    ghost use Rattle.engine.specs.Ready.{IsReady};
+    ghost use Rattle.engine.specs.Views.{speech_of};
+    ghost use Rattle.line_commands.specs.Inner.Charters.{types_in, IsForestOf, IsReportOf, IsLineOf};
+
+    // The answer to a lattice, by the leaves of its chart.
+    fn answer_to(
+        &self,
+        alloc: Global,
+        desk: &mut Desk,
+        lattice: &Lattice,
+    ) -> Result<ChartAnswer, NoMemory>
+        requires ready { IsReady self.now.engine }
+        requires valid { IsValid (lattice_of lattice.now) }
+        ensures answer { IfOk result (λ a. IsForestOf self.now (lattice_of lattice.now) (chart_answer a)) }
+        ensures named { IfOk result (λ a. IsChartNamed (types_in self.now.engine) (length self.now.engine.grammar.now.names.items) (chart_answer a)) }
+    {
+        self.engine.laws();
+        let leaves = self
+            .engine
+            .leaves(alloc, desk, lattice, self.limits.lexical)?;
+        match line_chart(
+            alloc,
+            &mut desk.work.chart,
+            self.engine.signs,
+            self.engine.shapes,
+            &self.engine.grammar.book.feats,
+            lattice,
+            leaves,
+            &self.limits,
+        ) {
+            Ok(answer) => Ok(answer),
+            Err(_) => Err(NoMemory),
+        }
+    }
+
+    // The report on an answer, whose types, trees and rules have names.
+    fn reported(&self, alloc: Global, number: u64, answer: &ChartAnswer) -> Result<Report, NoMemory>
+        requires { IsChartNamed (types_in self.now.engine) (length self.now.engine.grammar.now.names.items) (chart_answer answer.now) }
+        ensures lines { IfOk result (λ r. map (λ l. l.items) r.lines.items ≡ chart_lines (types_in self.now.engine) (speech_of self.now.engine).names self.now.lattice number (chart_answer answer.now)) }
+        ensures refused { IfOk result (λ r. r.refused ≡ is_refused (chart_answer answer.now)) }
+    {
+        let grammar = self.engine.grammar;
+        match lines_of_chart(
+            alloc,
+            number,
+            answer,
+            grammar.book.system.types(),
+            &grammar.names,
+            self.lattice,
+        ) {
+            Ok(lines) => Ok(Report {
+                lines,
+                refused: is_refused(answer),
+            }),
+            Err(_) => Err(NoMemory),
+        }
+    }
+
+    // The report on the lattice of the line of this number. One worker fills its chart, so that a desk of one is taken for every line.
+    fn charted<Rt: Wait>(
+        &self,
+        rt: &Rt,
+        alloc: Global,
+        number: u64,
+        lattice: &Lattice,
+    ) -> Result<Report, NoMemory>
+        requires ready { IsReady self.now.engine }
+        requires valid { IsValid (lattice_of lattice.now) }
+        ensures { IfOk result (λ r. IsReportOf self.now number (lattice_of lattice.now) (map (λ l. l.items) r.lines.items) r.refused) }
+    {
+        let mut desk = self.desks.take(rt, alloc, Share::Single);
+        let answer = self.answer_to(alloc, &mut desk, lattice)?;
+        self.desks.give_back(rt, Share::Single, desk);
+        self.reported(alloc, number, &answer)
+    }
+
+    /// The report on the line of this number.
+    pub(crate) fn report<Rt: Wait>(
+        &self,
+        rt: &Rt,
+        alloc: Global,
+        number: u64,
+        line: &[u8],
+    ) -> Result<Report, NoMemory>
+        requires ready { IsReady self.now.engine }
+        ensures { IfOk result (λ r. IsLineOf self.now number line.now (map (λ l. l.items) r.lines.items) r.refused) }
+    {
+        match lattice_of_line(alloc, line, self.lattice) {
+            Ok(lattice) => self.charted(rt, alloc, number, &lattice),
+            Err(why) => report_of_no_lattice(alloc, number, why),
+        }
+    }
+}
+
+impl Answers for Charter<'_, '_, '_> {
+    ghost use Rattle.engine.specs.Ready.{IsReady};
+    ghost use Rattle.line_commands.specs.Inner.Charters.{IsLineOf};
+
+    ghost ready = { λ c. IsReady c.engine };
+
+    ghost IsAnswer = { λ c. IsLineOf c };
+
+    fn workers(&self) -> u32 {
+        self.desks.workers()
+    }
+
+    fn answer<Rt: Threads + Wait + Sync>(
+        &self,
+        rt: &Rt,
+        alloc: Global,
+        number: u64,
+        line: &[u8],
+        _share: Share,
+        _gate: &dyn Gate,
+    ) -> Result<Report, endings::lines::NoMemory> {
+        match self.report(rt, alloc, number, line) {
+            Ok(report) => Ok(report),
+            Err(_) => Err(endings::lines::NoMemory),
+        }
+    }
+}
