@@ -1,9 +1,13 @@
 //! The program `lkb`: it gives `run` the system's files and streams, and the words of the command line.
 #![tactic(auto)]
 
+mod pipes;
+
 use endings::{Fault, Stop, conclude};
 use lkb_io::{FileShelf, StdSink, StdSource};
+use pipes::{Hushed, Watched};
 use std::alloc::Global;
+use std::cell::Cell;
 use std::io::{BufWriter, ErrorKind};
 use std::process::ExitCode;
 use std::{env, io};
@@ -38,8 +42,10 @@ fn fault_of_words(alloc: Global, error: io::Error) -> Fault {
 }
 
 fn main(rt: HostRuntime) -> ExitCode {
-    let mut err = StdSink::new(rt.stderr());
-    let buffer = BufWriter::with_capacity(rt.alloc(), BUFFER, rt.stdout());
+    let gone = Cell::new(false);
+    let mut err = StdSink::new(Hushed::new(rt.stderr(), &gone));
+    let report = Watched::new(rt.stdout(), &gone);
+    let buffer = BufWriter::with_capacity(rt.alloc(), BUFFER, report);
     let status = match (words_of(&rt), buffer) {
         (Ok(words), Ok(buffer)) => {
             let mut shelf = FileShelf::new(&rt);
