@@ -1,5 +1,5 @@
 -- What is given of items, one of them in place of another, or one more.
-use Rattle.std.proofs.Common.{suc, ◌≡◌, ℕ, ◌+◌, ◌<◌, ◌≤◌, ◌∙◌, sym, subst, List, [], ◌∷◌, ◌++◌, length, take, get_or, set, arith}
+use Rattle.std.proofs.Common.{suc, ◌≡◌, ℕ, ◌+◌, ◌<◌, ◌≤◌, ◌∙◌, subst, List, [], ◌∷◌, ◌++◌, length, take, get_or, set, arith}
 use Rattle.std.proofs.lemmas.List.{length-take-le, take_all}
 use Rattle.side_by_side.specs.Works.{AreGiven}
 use Rattle.endings.proofs.ToldLines.{given-set, given-more}

@@ -1,5 +1,5 @@
 -- What is counted of several lines.
-use Rattle.std.proofs.Common.{ℕ, suc, ◌≡◌, ◌∙◌, ◌||◌, List, [], ◌∷◌, ◌++◌, map, get_or, Bool, true, false, refl, sym, ap, subst, All, Some}
+use Rattle.std.proofs.Common.{ℕ, suc, ◌≡◌, ◌∙◌, ◌||◌, List, [], ◌∷◌, map, Bool, true, false, refl, sym, ap, subst, All, Some}
 use Rattle.std.specs.List.{slice_get}
 use Rattle.std.proofs.lemmas.Option.{slice_get_within, get_or_from_slice_get}
 use Rattle.item_model.specs.Items.{Limits, Answer}

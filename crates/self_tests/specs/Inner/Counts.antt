@@ -3,7 +3,6 @@ use Rattle.std.specs.Prelude.{ℕ, ◌≡◌, true, false, List, [], ◌∷◌, 
 use Rattle.item_model.specs.Items.{Limits, Answer}
 use Rattle.grammar_load.specs.Loaded.{GrammarTree}
 use Rattle.endings.specs.Meanings.{FileFault}
-use Rattle.endings.specs.declared.pieces.Report.{Report}
 use Rattle.endings.specs.declared.commands.ItemsReport.{ItemsReport}
 use Rattle.endings.specs.declared.commands.ItemsReport.TheVariants.{AllAnswered, WithGaps}
 use Rattle.endings.specs.declared.Fault.{Fault}
