@@ -34,7 +34,7 @@ one_more h old new x is_under before here marked others y l e = go (cases_lt y x
     go (inl k) = before y k (sym (others y (λ same. omega (arith, k, same))) ∙ e)
     go (inr k) = let same : x ≡ y = omega arith in subst (λ z. (p : ℕ) × IsUnder h z p) same (here (marked (subst (λ z. has_bit new z ≡ false) (sym same) e)))
 
-and_rest : (p q : Bool) → p ≡ true → (p && q) ≡ false → q ≡ false
+pub and_rest : (p q : Bool) → p ≡ true → (p && q) ≡ false → q ≡ false
 and_rest true q e f = f
 and_rest false q e f = absurd (differ false e refl)
 
@@ -42,7 +42,7 @@ tail_in : (n t : ℕ) (ts : List ℕ) → All (λ u. u < n) (t ∷ ts) → All (
 tail_in n t ts r k d l = r (suc k) d (omega arith)
 
 -- where what is right above x isn't in an intersection that has x, x is one of its types, and above all of it
-under_all : (h : TypeTable) (x p : ℕ) → IsUnder h x p → (ts : List ℕ) → All (λ t. t < h.written) ts → list_all (λ t. has_member (set_of h t) x) ts ≡ true → list_all (λ t. has_member (set_of h t) p) ts ≡ false →
+pub under_all : (h : TypeTable) (x p : ℕ) → IsUnder h x p → (ts : List ℕ) → All (λ t. t < h.written) ts → list_all (λ t. has_member (set_of h t) x) ts ≡ true → list_all (λ t. has_member (set_of h t) p) ts ≡ false →
     (y : ℕ) → list_all (λ t. has_member (set_of h t) y) ts ≡ true → has_member (set_of h x) y ≡ true
 under_all h x p u [] r a b y c = absurd (differ true refl b)
 under_all h x p u (t ∷ ts) r a b y c = go (bool_cases (has_member (set_of h t) p)) (bool_cases (t == x))

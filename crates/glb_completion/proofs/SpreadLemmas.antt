@@ -131,16 +131,13 @@ pub spreading_more : (h : TypeTable) (first keys above keys' above' : List (Vec 
 spreading_more h first keys above keys' above' at t in_at s g st m =
     spreading_same h first keys' above' at t (record { growing = g; more = starts_on first keys keys' s.more st; met = λ u l. met_on h keys' keys at u st (still_in keys first at s.more in_at) (s.met u l) }) m
 
-pub closed_met : (h : TypeTable) (laws : IsHierarchy h) (first keys above : List (Vec ℕ Global)) (at t : ℕ) (p : Bool) → at < length first → t < h.written → IsSpreading h first keys above at t →
+pub closed_met : (h : TypeTable) (laws : IsHierarchy h) (keys above : List (Vec ℕ Global)) (at t : ℕ) (p : Bool) → at < length keys → t < h.written → IsGrowing h keys above →
     p ≡ false → p ≡ (not (has_bit (row_items keys at) t) && not (has_bit (row_items above at) t)) → IsMet h keys at t
-closed_met h laws first keys above at t p in_at in_t s no_ is = go (bool_cases (has_bit (row_items keys at) t)) (bool_cases (has_bit (row_items above at) t))
+closed_met h laws keys above at t p in_at in_t g no_ is = go (bool_cases (has_bit (row_items keys at) t)) (bool_cases (has_bit (row_items above at) t))
   where
-    here : at < length keys
-    here = still_in keys first at s.more in_at
-
     go : (has_bit (row_items keys at) t ≡ true) ⊎ (has_bit (row_items keys at) t ≡ false) → (has_bit (row_items above at) t ≡ true) ⊎ (has_bit (row_items above at) t ≡ false) → IsMet h keys at t
-    go (inl a) _ = inner_met h laws keys above at t s.growing here in_t a
-    go (inr a) (inl b) = outer_met h laws keys above at t s.growing here in_t b
+    go (inl a) _ = inner_met h laws keys above at t g in_at in_t a
+    go (inr a) (inl b) = outer_met h laws keys above at t g in_at in_t b
     go (inr a) (inr b) = absurd (differ _ (is ∙ and_both (not (has_bit (row_items keys at) t)) (not (has_bit (row_items above at) t)) (ap not a) (ap not b)) no_)
 
 -- types that are met are passed over

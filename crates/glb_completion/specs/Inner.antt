@@ -1,3 +1,4 @@
 pub mod Growing
 pub mod Crossings
+pub mod Kinds
 pub mod RowHash

@@ -5,6 +5,7 @@ mod completion;
 mod crossing;
 mod family;
 mod fault;
+mod kinds;
 mod row_hash;
 mod spread;
 

@@ -6,10 +6,12 @@ ghost use Rattle.type_hierarchy.specs.Inner.Tables.{row_items};
 ghost use Rattle.type_hierarchy.specs.Laws.{IsHierarchy};
 ghost use Rattle.glb_completion.specs.Completion.{IsCompleteFault};
 ghost use Rattle.glb_completion.specs.Inner.Crossings.{HasCrossings};
+ghost use Rattle.glb_completion.specs.Inner.Kinds.{AreKinds};
 ghost use Rattle.glb_completion.specs.Inner.Growing.{IsUpRow, IsGrowing, HasNear, StartsWith, IsMet, IsSpread};
 
 use crate::family::Family;
 use crate::fault::CompleteFault;
+use crate::kinds::Kinds;
 use std::alloc::{AllocError, Global};
 use type_hierarchy::{Hierarchy, bits};
 
@@ -73,6 +75,36 @@ fn meet_with(
     family.add(common, more)
 }
 
+// Adds what the set at a place has in common with one written type, unless one of the same kind was met.
+fn meet_kind(
+    alloc: Global,
+    h: &Hierarchy,
+    family: &mut Family,
+    kinds: &mut Kinds,
+    at: usize,
+    t: u32,
+) -> Result<(), CompleteFault>
+    requires laws { IsHierarchy h.now }
+    requires growing { IsGrowing h.now family.old.sets.keys family.old.above.items }
+    requires at_in { at < length family.old.sets.keys }
+    requires t_in { t < h.now.written }
+    requires kinds { AreKinds h.now family.old.sets.keys at kinds.old.shared.items kinds.old.places.items kinds.old.keys.keys }
+    ensures growing { OnOk result (IsGrowing h.now family.new.sets.keys family.new.above.items) }
+    ensures more { OnOk result (StartsWith family.new.sets.keys family.old.sets.keys) }
+    ensures met { OnOk result (IsMet h.now family.new.sets.keys at t) }
+    ensures more_kinds { OnOk result (AreKinds h.now family.new.sets.keys at kinds.new.shared.items kinds.new.places.items kinds.new.keys.keys) }
+    ensures fault { IfErr result (IsCompleteFault h.now) }
+{
+    if !is_open(family, at, t) {
+        return Ok(());
+    }
+    if !kinds.is_new(alloc, h.row(t))? {
+        return Ok(());
+    }
+    meet_with(alloc, h, family, at, t)?;
+    Ok(())
+}
+
 // Adds what the set at a place has in common with each written type. Only types that share a member with it which
 // doesn't stand immediately below one type alone are looked at.
 fn spread_near(
@@ -93,12 +125,11 @@ fn spread_near(
 {
     let shared = bits::common(alloc, &family.sets.as_slice()[at], crossing)?;
     let near = near(alloc, h, &family.above, &shared)?;
+    let mut kinds = Kinds::of(alloc, shared)?;
     let count = h.count();
     let mut t = bits::next(&near, 0, count);
     while t < count {
-        if is_open(family, at, t) {
-            meet_with(alloc, h, family, at, t)?;
-        }
+        meet_kind(alloc, h, family, &mut kinds, at, t)?;
         t = bits::next(&near, t + 1, count);
     }
     Ok(())

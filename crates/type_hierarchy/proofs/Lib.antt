@@ -17,3 +17,4 @@ pub mod MarkLemmas
 pub mod PlaceLemmas
 pub mod CandidateLemmas
 pub mod SupertypeLemmas
+pub mod NearestLemmas

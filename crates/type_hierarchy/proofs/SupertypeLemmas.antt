@@ -8,6 +8,7 @@ use Rattle.type_hierarchy.specs.declared.types.Ty.{Ty}
 use Rattle.type_hierarchy.specs.Table.{TypeTable, count_of, completed_count, is_below, has_member}
 use Rattle.type_hierarchy.specs.Laws.{HasTypeLaws, IsRising}
 use Rattle.type_hierarchy.specs.Bits.{has_bit}
+use Rattle.type_hierarchy.specs.Inner.Nearest.{HasNearest}
 use Rattle.type_hierarchy.specs.Supertypes.{is_strictly_below, has_between, supertypes_of, numbers_of}
 use Rattle.type_hierarchy.proofs.BitLemmas.{filter_push, filter_skip}
 use Rattle.type_hierarchy.proofs.SetLemmas.{differ, bool_cases, same_bools, eq_true, eq_of, eq_false, and_left, and_right, and_both, or_cases, or_left, or_right, member_filter, member_range, rising_filter, rising_below, rising_same, filter_same, filter_twice}
@@ -75,15 +76,15 @@ member_append (z ∷ xs) ys x = ap (λ b. (z == x) || b) (member_append xs ys x)
     assoc true b c = refl
     assoc false b c = refl
 
--- of the types above t with numbers below n, those that no other one is below
-pub record IsLowest (types : TypeTable) (t n : ℕ) (kept : List ℕ) : Type 0 where
+-- of the types of a row above t with numbers below n, those that no other one is below
+pub record IsLowest (types : TypeTable) (t : ℕ) (row : List ℕ) (n : ℕ) (kept : List ℕ) : Type 0 where
   pub rising : IsRising n kept
   pub above : (x : ℕ) → has_member kept x ≡ true → is_strictly_below types t x ≡ true
-  pub covered : (u : ℕ) → u < n → is_strictly_below types t u ≡ true → (k : ℕ) × (has_member kept k ≡ true) × (is_below types k u ≡ true)
+  pub covered : (u : ℕ) → u < n → has_bit row u ≡ true → is_strictly_below types t u ≡ true → (k : ℕ) × (has_member kept k ≡ true) × (is_below types k u ≡ true)
   pub apart : (x y : ℕ) → has_member kept x ≡ true → has_member kept y ≡ true → is_below types x y ≡ true → x ≡ y
 
-pub lowest_none : (types : TypeTable) (t : ℕ) → IsLowest types t 0 []
-lowest_none types t = record {
+pub lowest_none : (types : TypeTable) (t : ℕ) (row : List ℕ) → IsLowest types t row 0 []
+lowest_none types t row = record {
   rising = refl;
   above = λ x m. cc;
   covered = λ u h. absurd (omega arith);
@@ -105,17 +106,17 @@ next n u h = go (cases_lt u n)
     go (inr k) = inr (omega arith)
 
 -- the next type isn't above t
-pub lowest_skip : (types : TypeTable) (t n : ℕ) (kept : List ℕ) → is_strictly_below types t n ≡ false → IsLowest types t n kept → IsLowest types t (n + 1) kept
-lowest_skip types t n kept e l = record {
+pub lowest_skip : (types : TypeTable) (t : ℕ) (row : List ℕ) (n : ℕ) (kept : List ℕ) → (has_bit row n ≡ true → is_strictly_below types t n ≡ true → ⊥) → IsLowest types t row n kept → IsLowest types t row (n + 1) kept
+lowest_skip types t row n kept e l = record {
   rising = rising_more n kept l.rising;
   above = l.above;
-  covered = λ u h s. go u s (next n u h);
+  covered = λ u h b s. go u b s (next n u h);
   apart = l.apart;
 }
   where
-    go : (u : ℕ) → is_strictly_below types t u ≡ true → (u < n) ⊎ (u ≡ n) → (k : ℕ) × (has_member kept k ≡ true) × (is_below types k u ≡ true)
-    go u s (inl h) = l.covered u h s
-    go u s (inr h) = absurd (differ _ s (ap (is_strictly_below types t) h ∙ e))
+    go : (u : ℕ) → has_bit row u ≡ true → is_strictly_below types t u ≡ true → (u < n) ⊎ (u ≡ n) → (k : ℕ) × (has_member kept k ≡ true) × (is_below types k u ≡ true)
+    go u b s (inl h) = l.covered u h b s
+    go u b s (inr h) = absurd (e (ap (has_bit row) (sym h) ∙ b) (ap (is_strictly_below types t) (sym h) ∙ s))
 
 pub not_strictly : (types : TypeTable) (a b : ℕ) → (a ≡ b) ⊎ (is_below types a b ≡ false) → is_strictly_below types a b ≡ false
 not_strictly types a b (inl e) = ap (λ p. p && is_below types a b) (not_false (a == b) (ap (λ z. a == z) (sym e) ∙ eq_true a))
@@ -125,47 +126,39 @@ not_strictly types a b (inr e) = ap (λ p. not (a == b) && p) e ∙ and_false (n
     and_false true = refl
     and_false false = refl
 
--- types that aren't above t are passed over
-pub lowest_passed : (types : TypeTable) (t from to : ℕ) (kept : List ℕ) → from ≤ to → ((u : ℕ) → from ≤ u → u < to → is_strictly_below types t u ≡ false) →
-    IsLowest types t from kept → IsLowest types t to kept
-lowest_passed types t from to kept h none l = subst (λ n. IsLowest types t n kept) (omega arith) (go from (to - from) (λ u low high. none u low (omega arith)) l)
+-- types that aren't in the row are passed over
+pub lowest_passed : (types : TypeTable) (t : ℕ) (row : List ℕ) (from to : ℕ) (kept : List ℕ) → from ≤ to → ((u : ℕ) → from ≤ u → u < to → has_bit row u ≡ false) →
+    IsLowest types t row from kept → IsLowest types t row to kept
+lowest_passed types t row from to kept h none l = subst (λ n. IsLowest types t row n kept) (omega arith) (go from (to - from) (λ u low high. none u low (omega arith)) l)
   where
-    go : (a n : ℕ) → ((u : ℕ) → a ≤ u → u < a + n → is_strictly_below types t u ≡ false) → IsLowest types t a kept → IsLowest types t (a + n) kept
-    go a zero f k = subst (λ m. IsLowest types t m kept) (omega arith) k
-    go a (suc n) f k = subst (λ m. IsLowest types t m kept) (shift a n) (go (a + 1) n (λ u low high. f u (omega arith) (omega arith)) (lowest_skip types t a kept (f a (omega arith) (omega arith)) k))
+    go : (a n : ℕ) → ((u : ℕ) → a ≤ u → u < a + n → has_bit row u ≡ false) → IsLowest types t row a kept → IsLowest types t row (a + n) kept
+    go a zero f k = subst (λ m. IsLowest types t row m kept) (omega arith) k
+    go a (suc n) f k = subst (λ m. IsLowest types t row m kept) (shift a n) (go (a + 1) n (λ u low high. f u (omega arith) (omega arith)) (lowest_skip types t row a kept (λ m _. differ _ m (f a (omega arith) (omega arith))) k))
       where
         shift : (a n : ℕ) → a + 1 + n ≡ a + suc n
         shift a n = omega arith
 
--- a type that isn't among those that may be above t
-pub not_above : (types : TypeTable) (t u : ℕ) (row : List ℕ) → (is_below types t u ≡ true → has_bit row u ≡ true) → has_bit row u ≡ false → is_strictly_below types t u ≡ false
-not_above types t u row has none = not_strictly types t u (inr (go (bool_cases (is_below types t u))))
-  where
-    go : (is_below types t u ≡ true) ⊎ (is_below types t u ≡ false) → is_below types t u ≡ false
-    go (inl e) = absurd (differ _ (has e) none)
-    go (inr e) = e
-
 -- one of the types is below the next one
-pub lowest_stays : (types : TypeTable) (t n : ℕ) (kept : List ℕ) → list_any (λ u. is_below types u n) kept ≡ true → IsLowest types t n kept → IsLowest types t (n + 1) kept
-lowest_stays types t n kept e l = record {
+pub lowest_stays : (types : TypeTable) (t : ℕ) (row : List ℕ) (n : ℕ) (kept : List ℕ) → list_any (λ u. is_below types u n) kept ≡ true → IsLowest types t row n kept → IsLowest types t row (n + 1) kept
+lowest_stays types t row n kept e l = record {
   rising = rising_more n kept l.rising;
   above = l.above;
-  covered = λ u h s. go u s (next n u h);
+  covered = λ u h b s. go u b s (next n u h);
   apart = l.apart;
 }
   where
-    go : (u : ℕ) → is_strictly_below types t u ≡ true → (u < n) ⊎ (u ≡ n) → (k : ℕ) × (has_member kept k ≡ true) × (is_below types k u ≡ true)
-    go u s (inl h) = l.covered u h s
-    go u s (inr h) = subst (λ v. (k : ℕ) × (has_member kept k ≡ true) × (is_below types k v ≡ true)) (sym h) (any_member (λ u. is_below types u n) kept e)
+    go : (u : ℕ) → has_bit row u ≡ true → is_strictly_below types t u ≡ true → (u < n) ⊎ (u ≡ n) → (k : ℕ) × (has_member kept k ≡ true) × (is_below types k u ≡ true)
+    go u b s (inl h) = l.covered u h b s
+    go u b s (inr h) = subst (λ v. (k : ℕ) × (has_member kept k ≡ true) × (is_below types k v ≡ true)) (sym h) (any_member (λ u. is_below types u n) kept e)
 
 -- the next type takes the place of those that it is below
-pub lowest_added : (types : TypeTable) (t n : ℕ) (kept : List ℕ) → HasTypeLaws types →
-    is_strictly_below types t n ≡ true → list_any (λ u. is_below types u n) kept ≡ false → IsLowest types t n kept →
-    IsLowest types t (n + 1) (filter (λ u. not (is_below types n u)) kept ++ n ∷ [])
-lowest_added types t n kept laws s none l = record {
+pub lowest_added : (types : TypeTable) (t : ℕ) (row : List ℕ) (n : ℕ) (kept : List ℕ) → HasTypeLaws types →
+    is_strictly_below types t n ≡ true → list_any (λ u. is_below types u n) kept ≡ false → IsLowest types t row n kept →
+    IsLowest types t row (n + 1) (filter (λ u. not (is_below types n u)) kept ++ n ∷ [])
+lowest_added types t row n kept laws s none l = record {
   rising = subst (IsRising (n + 1)) (sym is) (rising_filter p (n + 1));
   above = λ x m. above x (old x m);
-  covered = λ u h k. covered u k (next n u h);
+  covered = λ u h b k. covered u b k (next n u h);
   apart = λ x y m k e. apart x y e (old x m) (old y k);
 }
   where
@@ -210,10 +203,10 @@ lowest_added types t n kept laws s none l = record {
     above x (inl k) = l.above x k.0
     above x (inr k) = ap (is_strictly_below types t) k ∙ s
 
-    covered : (u : ℕ) → is_strictly_below types t u ≡ true → (u < n) ⊎ (u ≡ n) →
+    covered : (u : ℕ) → has_bit row u ≡ true → is_strictly_below types t u ≡ true → (u < n) ⊎ (u ≡ n) →
         (k : ℕ) × (has_member (filter (λ u. not (is_below types n u)) kept ++ n ∷ []) k ≡ true) × (is_below types k u ≡ true)
-    covered u e (inr h) = (n, n_new, ap (is_below types n) h ∙ laws.reflexive n)
-    covered u e (inl h) = go (l.covered u h e)
+    covered u b e (inr h) = (n, n_new, ap (is_below types n) h ∙ laws.reflexive n)
+    covered u b e (inl h) = go (l.covered u h b e)
       where
         go : (k : ℕ) × (has_member kept k ≡ true) × (is_below types k u ≡ true) →
             (k : ℕ) × (has_member (filter (λ u. not (is_below types n u)) kept ++ n ∷ []) k ≡ true) × (is_below types k u ≡ true)
@@ -231,16 +224,16 @@ lowest_added types t n kept laws s none l = record {
     apart x y e (inr a) (inl b) = absurd (differ _ (ap (λ z. is_below types z y) (sym a) ∙ e) b.1)
     apart x y e (inr a) (inr b) = a ∙ sym b
 
-pub lowest_next : (types : TypeTable) (t n : ℕ) (kept new : List ℕ) → HasTypeLaws types → is_strictly_below types t n ≡ true →
+pub lowest_next : (types : TypeTable) (t : ℕ) (row : List ℕ) (n : ℕ) (kept new : List ℕ) → HasTypeLaws types → is_strictly_below types t n ≡ true →
     (list_any (λ u. is_below types u n) kept ≡ true → new ≡ kept) →
     (list_any (λ u. is_below types u n) kept ≡ false → new ≡ filter (λ u. not (is_below types n u)) kept ++ n ∷ []) →
-    IsLowest types t n kept → IsLowest types t (n + 1) new
-lowest_next types t n kept new laws s stays changes l = go (bool_cases (list_any (λ u. is_below types u n) kept))
+    IsLowest types t row n kept → IsLowest types t row (n + 1) new
+lowest_next types t row n kept new laws s stays changes l = go (bool_cases (list_any (λ u. is_below types u n) kept))
   where
-    go : (list_any (λ u. is_below types u n) kept ≡ true) ⊎ (list_any (λ u. is_below types u n) kept ≡ false) → IsLowest types t (n + 1) new
-    go (inl e) = subst (IsLowest types t (n + 1)) (sym (stays e)) (lowest_stays types t n kept e l)
-    go (inr e) = subst (IsLowest types t (n + 1)) (sym (changes e))
-        (lowest_added types t n kept laws s e l)
+    go : (list_any (λ u. is_below types u n) kept ≡ true) ⊎ (list_any (λ u. is_below types u n) kept ≡ false) → IsLowest types t row (n + 1) new
+    go (inl e) = subst (IsLowest types t row (n + 1)) (sym (stays e)) (lowest_stays types t row n kept e l)
+    go (inr e) = subst (IsLowest types t row (n + 1)) (sym (changes e))
+        (lowest_added types t row n kept laws s e l)
 
 pub strictly : (types : TypeTable) (a b : ℕ) → (a ≡ b → ⊥) → is_below types a b ≡ true → is_strictly_below types a b ≡ true
 strictly types a b apart e = and_both _ _ (not_true _ (eq_false a b apart)) e
@@ -250,15 +243,22 @@ member_at [] k d h = absurd (omega arith)
 member_at (x ∷ xs) zero d h = or_left (x == x) _ (eq_true x)
 member_at (x ∷ xs) (suc k) d h = or_right (x == slice_index_or xs k d) _ (member_at xs k d (omega arith))
 
-pub kept_each_in : (types : TypeTable) (t n : ℕ) (kept : List ℕ) → n ≤ count_of types → IsLowest types t n kept → All (λ u. u < count_of types) kept
-kept_each_in types t n kept few l = λ k d h. let x_in : slice_index_or kept k d < n = rising_below n kept _ l.rising (member_at kept k d h) in omega arith
+pub kept_each_in : (types : TypeTable) (t : ℕ) (row : List ℕ) (n : ℕ) (kept : List ℕ) → n ≤ count_of types → IsLowest types t row n kept → All (λ u. u < count_of types) kept
+kept_each_in types t row n kept few l = λ k d h. let x_in : slice_index_or kept k d < n = rising_below n kept _ l.rising (member_at kept k d h) in omega arith
 
 -- the lowest of all types above t are the immediate supertypes
-pub lowest_are : (types : TypeTable) (t n : ℕ) (kept : List ℕ) → HasTypeLaws types → n ≡ completed_count types → IsLowest types t n kept → kept ≡ supertypes_of types t
-lowest_are types t n kept laws all l =
+pub lowest_are : (types : TypeTable) (t : ℕ) (row : List ℕ) (n : ℕ) (kept : List ℕ) → HasTypeLaws types → n ≡ completed_count types → HasNearest types t row → IsLowest types t row n kept → kept ≡ supertypes_of types t
+lowest_are types t row n kept laws all near l =
     rising_same n kept _ l.rising (subst (λ m. IsRising m (supertypes_of types t)) (sym all) (rising_filter (λ b. is_strictly_below types t b && not (has_between types t b)) (completed_count types)))
     (λ x h. same_bools _ _ (λ m. there x h m) (λ m. back x h m))
   where
+    -- what the row's nearest ones cover, the kept ones do
+    covers : (u : ℕ) → u < n → is_strictly_below types t u ≡ true → (k : ℕ) × (has_member kept k ≡ true) × (is_below types k u ≡ true)
+    covers u h s =
+        let a = near u (omega (arith, h, all)) s in
+        let k = l.covered a.nearest (omega (arith, a.within, all)) a.is_in a.above in
+        (k.0, k.1, laws.transitive k.0 a.nearest u k.2 a.below)
+
     below : (a b : ℕ) → is_strictly_below types a b ≡ true → is_below types a b ≡ true
     below a b e = and_right (not (a == b)) _ e
 
@@ -275,7 +275,7 @@ lowest_are types t n kept laws all l =
             let v_in : v.0 < n = omega (arith, v.1, all) in
             let up = and_left _ _ v.2 in
             let to_x = and_right (is_strictly_below types t v.0) _ v.2 in
-            let k = l.covered v.0 v_in up in
+            let k = covers v.0 v_in up in
             let k_in : k.0 < n = rising_below n kept k.0 l.rising k.1 in
             let k_is = l.apart k.0 x k.1 m (laws.transitive k.0 v.0 x k.2 (below v.0 x to_x)) in
             absurd (differs v.0 x to_x (laws.antisymmetric v.0 x (below v.0 x to_x) (ap (λ z. is_below types z v.0) (sym k_is) ∙ k.2)))
@@ -290,7 +290,7 @@ lowest_are types t n kept laws all l =
         let both = and_left _ _ (sym (member_filter (λ b. is_strictly_below types t b && not (has_between types t b)) (range_with_len 0 (completed_count types)) x) ∙ m) in
         let up = and_left (is_strictly_below types t x) _ both in
         let none = of_not _ (and_right (is_strictly_below types t x) _ both) in
-        let k = l.covered x h up in
+        let k = covers x h up in
         let k_in : k.0 < n = rising_below n kept k.0 l.rising k.1 in
         go k.0 k_in k.1 k.2 none (bool_cases (k.0 == x))
       where

@@ -5,3 +5,4 @@ pub mod Columns
 pub mod Marks
 pub mod Parents
 pub mod Tables
+pub mod Nearest

@@ -7,6 +7,7 @@ ghost use Rattle.type_hierarchy.specs.Table.{TypeTable, count_of, completed_coun
 ghost use Rattle.type_hierarchy.specs.Laws.{HasTypeLaws, IsRising};
 ghost use Rattle.type_hierarchy.specs.Bits.{IsRow, has_bit, bits_below};
 ghost use Rattle.type_hierarchy.specs.Named.{type_named};
+ghost use Rattle.type_hierarchy.specs.Inner.Nearest.{HasPassed};
 ghost use Rattle.type_hierarchy.specs.Inner.Marks.{AreMarks};
 ghost use Rattle.type_hierarchy.specs.Inner.Tables.{row_items, place_of_common, sets_of};
 ghost use Rattle.std.specs.List.{range_with_len};
@@ -176,6 +177,18 @@ impl Types {
         ensures has { (b : ℕ) → b < completed_count self.now → is_below self.now t b ≡ true → has_bit result.now b ≡ true }
     {
         &self.columns[self.written_below(t) as usize]
+    }
+
+    // Adds to a set types that are at or above a type: where it is a written one, all of them.
+    pub(crate) fn pass_above(&self, passed: &mut Vec<u64>, x: u32)
+        requires x_in { x < completed_count self.now }
+        requires row { IsRow (completed_count self.now) passed.old.items }
+        ensures row { IsRow (completed_count self.now) passed.new.items }
+        ensures passed { HasPassed self.now passed.old.items passed.new.items x }
+    {
+        if x < self.written {
+            bits::extend(passed, &self.columns[x as usize]);
+        }
     }
 
     // A written type that is at or below a type, or for a string the string type.

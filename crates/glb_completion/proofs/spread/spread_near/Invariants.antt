@@ -1,4 +1,5 @@
 use Rattle.std.proofs.Common.{◌≤◌, ◌-◌}
+use Rattle.glb_completion.specs.Inner.Kinds.{AreKinds}
 use Rattle.glb_completion.proofs.SpreadLemmas.{IsSpreading}
 use Rattle.glb_completion.proofs.spread.spread_near.Given as goal
 
@@ -7,6 +8,7 @@ invariant-loop-t l =
     record {
       spreading : IsSpreading l.h l.initial.family.sets.keys l.family.sets.keys l.family.above.items l.at l.t;
       within : l.t ≤ l.count;
+      kinds : AreKinds l.h l.family.sets.keys l.at l.kinds.shared.items l.kinds.places.items l.kinds.keys.keys;
     }
 
 abbrev pub decreases-loop-t : goal.decreases-loop-t
