@@ -7,7 +7,7 @@ use Rattle.std.proofs.lemmas.List.Folds.{find-append}
 use Rattle.fs_model.specs.Claims.{Has, here, there}
 use Rattle.fs_graph.specs.declared.graph.GraphArc.{GraphArc}
 use Rattle.fs_graph.specs.GraphMap.{arcs_at, arc_to, Rises}
-use Rattle.fs_closing.specs.declared.nodes.Cell.{Cell}
+use Rattle.fs_closing.specs.declared.cells.Cell.{Cell}
 use Rattle.fs_closing.specs.declared.parts.Based.{Based}
 use Rattle.fs_closing.specs.Cells.{find_arc, AreOnce}
 use Rattle.fs_closing.specs.Beside.{cells_from, holds, home, row_from, row_in, ArePlaced}

@@ -7,7 +7,7 @@ use Rattle.std.proofs.lemmas.List.{reverse-append, reverse-reverse, length-rever
 use Rattle.std.specs.Option.{option_map}
 use Rattle.fs_model.specs.Claims.{Has, here, there}
 use Rattle.fs_model.proofs.StepLemmas.{same_or_other}
-use Rattle.fs_closing.specs.declared.nodes.Cell.{Cell}
+use Rattle.fs_closing.specs.declared.cells.Cell.{Cell}
 use Rattle.fs_closing.proofs.HasLemmas.{Has-of_reverse, Has-at}
 use Rattle.fs_closing.specs.Cells.{chain_back, chain, find_arc, no_cell, PlacesFall, AreOnce}
 

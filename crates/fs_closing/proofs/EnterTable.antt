@@ -6,7 +6,7 @@ use Rattle.fs_model.specs.Claims.{Has}
 use Rattle.fs_graph.specs.declared.graph.GraphArc.{GraphArc}
 use Rattle.fs_graph.specs.GraphMap.{GraphMap, IsGraph, arcs_at, type_at}
 use Rattle.fs_closing.specs.declared.marks.Written.{Written}
-use Rattle.fs_closing.specs.declared.nodes.Cell.{Cell}
+use Rattle.fs_closing.specs.declared.cells.Cell.{Cell}
 use Rattle.fs_closing.specs.Cells.{find_arc, AreOnce}
 use Rattle.fs_closing.specs.Marked.{next_by, type_by, first_by}
 use Rattle.fs_closing.specs.declared.parts.Based.{Based}

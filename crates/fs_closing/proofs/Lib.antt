@@ -17,3 +17,4 @@ pub mod UniteLemmas
 pub mod OrderLemmas
 pub mod RuleRowLemmas
 pub mod OutlineLemmas
+pub mod IndexLemmas

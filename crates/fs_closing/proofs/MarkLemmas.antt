@@ -6,7 +6,7 @@ use Rattle.fs_model.specs.Steps.{Links}
 use Rattle.fs_model.proofs.StepLemmas.{same_or_other}
 use Rattle.std.specs.Prelude.{IfSome}
 use Rattle.fs_closing.specs.declared.marks.Written.{Written}
-use Rattle.fs_closing.specs.declared.nodes.Cell.{Cell}
+use Rattle.fs_closing.specs.declared.cells.Cell.{Cell}
 use Rattle.fs_closing.specs.Cells.{chain, find_arc, no_cell, AreOnce}
 use Rattle.fs_closing.specs.Marked.{next_by, type_by, first_by, chase}
 use Rattle.fs_closing.specs.NodeTable.{arcs_in, table_from, AreWhole, AreWithin}

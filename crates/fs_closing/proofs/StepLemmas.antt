@@ -14,7 +14,7 @@ use Rattle.fs_model.specs.Steps.{Grows, Links, Lowers}
 use Rattle.fs_model.proofs.StepLemmas.{Closes-drop}
 use Rattle.fs_model.proofs.Ends.{clash}
 use Rattle.type_hierarchy.specs.Table.{is_below}
-use Rattle.fs_closing.specs.declared.nodes.Cell.{Cell}
+use Rattle.fs_closing.specs.declared.cells.Cell.{Cell}
 use Rattle.fs_closing.specs.declared.tasks.Entry.{Entry}
 use Rattle.fs_closing.specs.Joined.{IsJoined}
 use Rattle.fs_closing.specs.NodeSteps.{KeepsArcs, Retypes, AddsDepth}

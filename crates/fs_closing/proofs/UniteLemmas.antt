@@ -3,7 +3,7 @@ use Rattle.std.proofs.Common.{ℕ, ◌≡◌, ◌⊎◌, inl, inr, true, Some, L
 use Rattle.fs_model.specs.Claims.{Claim, System, Has}
 use Rattle.fs_model.specs.Table.{Table, NodeClaim, is_same, from}
 use Rattle.fs_model.specs.Steps.{Joins}
-use Rattle.fs_closing.specs.declared.nodes.Cell.{Cell}
+use Rattle.fs_closing.specs.declared.cells.Cell.{Cell}
 use Rattle.fs_closing.specs.Cells.{find_arc, AreOnce}
 use Rattle.fs_closing.specs.NodeSteps.{Unites}
 use Rattle.fs_closing.specs.Keeps.{arc_claims, PushesFacts}

@@ -5,7 +5,7 @@ use Rattle.fs_model.specs.Claims.{Has}
 use Rattle.fs_model.specs.Table.{Table}
 use Rattle.fs_model.specs.Steps.{Links, Grows}
 use Rattle.fs_closing.specs.declared.marks.Written.{Written}
-use Rattle.fs_closing.specs.declared.nodes.Cell.{Cell}
+use Rattle.fs_closing.specs.declared.cells.Cell.{Cell}
 use Rattle.fs_closing.specs.Cells.{chain, find_arc, AreOnce}
 use Rattle.fs_closing.specs.Marked.{next_by, type_by, first_by, chase}
 use Rattle.fs_closing.specs.NodeTable.{arcs_in, table_from, AreWhole, AreWithin}

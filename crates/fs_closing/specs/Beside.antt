@@ -3,7 +3,7 @@ use Rattle.std.specs.Prelude.{ℕ, ◌≤◌, ◌+◌, ◌-◌, ◌&&◌, nat_lt
 use Rattle.fs_model.specs.Claims.{Has}
 use Rattle.fs_graph.specs.declared.graph.GraphArc.{GraphArc}
 use Rattle.fs_graph.specs.GraphMap.{IsGraph, type_at, arcs_at}
-use Rattle.fs_closing.specs.declared.nodes.Cell.{Cell}
+use Rattle.fs_closing.specs.declared.cells.Cell.{Cell}
 use Rattle.fs_closing.specs.declared.parts.Based.{Based}
 
 -- the arcs of a graph's node as cells, where the graph's nodes begin at a number

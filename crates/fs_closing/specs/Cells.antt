@@ -1,7 +1,7 @@
 -- Lists of arcs as they stand for nodes.
 use Rattle.std.specs.Prelude.{ℕ, ◌≡◌, ◌≤◌, ◌<◌, ◌+◌, ◌==◌, true, false, Option, None, List, [], ◌∷◌, length, slice_index_or, find, reverse}
 use Rattle.std.specs.Option.{option_map}
-use Rattle.fs_closing.specs.declared.nodes.Cell.{Cell}
+use Rattle.fs_closing.specs.declared.cells.Cell.{Cell}
 
 -- the cells from a place on, where the last cell comes first
 abbrev pub chain_back : List Cell → ℕ → List Cell

@@ -1,5 +1,6 @@
 -- What the code keeps.
 pub mod Generations
+pub mod Indexes
 pub mod Outlines
 pub mod RuleRows
 pub mod Told

@@ -6,7 +6,7 @@ use Rattle.fs_model.specs.Sources.{Source, Told}
 use Rattle.fs_model.specs.Table.{Table, NodeClaim, is_there, is_same, is_under, from}
 use Rattle.fs_model.specs.Steps.{Closes}
 use Rattle.type_hierarchy.specs.Table.{count_of, is_below}
-use Rattle.fs_closing.specs.declared.nodes.Cell.{Cell}
+use Rattle.fs_closing.specs.declared.cells.Cell.{Cell}
 use Rattle.fs_closing.specs.declared.nodes.Nodes.{Nodes}
 use Rattle.fs_closing.specs.declared.tasks.Tasks.{Tasks}
 use Rattle.fs_closing.specs.Rules.{Grammar, system_of}

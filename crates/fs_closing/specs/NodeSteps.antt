@@ -23,8 +23,8 @@ pub record KeepsArcs (nodes nodes' : Nodes) : Type 0 where
   pub size : nodes'.size ≡ nodes.size
   pub live : (k : ℕ) → (table_of nodes').live k ≡ (table_of nodes).live k
   pub own : (k : ℕ) → own_row nodes' k ≡ own_row nodes k
-  pub more : length nodes.cells.items ≤ length nodes'.cells.items
-  pub chains : (place : ℕ) → place ≤ length nodes.cells.items → chain nodes'.cells.items place ≡ chain nodes.cells.items place
+  pub more : length nodes.cells ≤ length nodes'.cells
+  pub chains : (place : ℕ) → place ≤ length nodes.cells → chain nodes'.cells place ≡ chain nodes.cells place
 
 -- nodes keep their depths too
 pub record KeepsDepths (nodes nodes' : Nodes) : Type 0 where

@@ -3,7 +3,7 @@ use Rattle.std.specs.Prelude.{ℕ, ◌≡◌, ◌<◌, ◌≤◌, ◌^◌, Optio
 use Rattle.fs_model.specs.Claims.{Has}
 use Rattle.fs_model.specs.Table.{Table}
 use Rattle.fs_closing.specs.declared.marks.Written.{Written}
-use Rattle.fs_closing.specs.declared.nodes.Cell.{Cell}
+use Rattle.fs_closing.specs.declared.cells.Cell.{Cell}
 use Rattle.fs_closing.specs.declared.nodes.Nodes.{Nodes}
 use Rattle.fs_closing.specs.Beside.{row_in, type_in, ArePlaced}
 use Rattle.fs_closing.specs.Cells.{chain, find_arc, PlacesFall, AreOnce}
@@ -40,10 +40,10 @@ abbrev pub depth_of : Nodes → ℕ → ℕ
 depth_of nodes n = depth_by (at_of nodes n)
 
 abbrev pub row_of : Nodes → ℕ → List Cell
-row_of nodes n = arcs_in (at_of nodes) (own_row nodes) nodes.cells.items n
+row_of nodes n = arcs_in (at_of nodes) (own_row nodes) nodes.cells n
 
 abbrev pub table_of : Nodes → Table
-table_of nodes = table_from (at_of nodes) (own_type nodes) (own_row nodes) nodes.cells.items nodes.merges nodes.size
+table_of nodes = table_from (at_of nodes) (own_type nodes) (own_row nodes) nodes.cells nodes.merges nodes.size
 
 -- What is kept: forwards that end, the root's at the root itself; places that fall; no feature of a node comes twice; and each
 -- arc leads to a node.
@@ -63,7 +63,7 @@ pub record AreWhole (at : ℕ → Option Written) (own : ℕ → List Cell) (cel
 
 -- the same of nodes, for each of which there is a place for what is written, and whose graphs have no others
 pub record IsWhole (nodes : Nodes) : Type 0 where
-  pub stands : AreWhole (at_of nodes) (own_row nodes) nodes.cells.items nodes.merges nodes.size
+  pub stands : AreWhole (at_of nodes) (own_row nodes) nodes.cells nodes.merges nodes.size
   pub enough : nodes.size ≤ length nodes.marks
   pub placed : ArePlaced nodes.parts.now nodes.size
 
@@ -75,7 +75,7 @@ pub record AreWithin (type_count feat_count : ℕ) (type_of : ℕ → ℕ) (own 
 
 abbrev pub IsWithin : ℕ → ℕ → Nodes → Type 0
 IsWithin type_count feat_count nodes =
-    AreWithin type_count feat_count (table_of nodes).type_of (own_row nodes) nodes.cells.items nodes.size
+    AreWithin type_count feat_count (table_of nodes).type_of (own_row nodes) nodes.cells nodes.size
 
 -- no path to a node needs a feature
 abbrev pub AreFlat : Nodes → Type 0

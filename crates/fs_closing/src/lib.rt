@@ -1,9 +1,11 @@
 //! The closing of tables of nodes, by the types of a grammar (Copestake 2002: well-formed typed feature structures).
 #![tactic(auto)]
 
+pub mod cells;
 pub mod closing;
 pub mod facts;
 pub mod fault;
+pub mod index;
 pub mod marks;
 pub mod nodes;
 pub mod outline;

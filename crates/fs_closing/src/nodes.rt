@@ -5,27 +5,19 @@ ghost use Rattle.fs_closing.specs.declared.parts.Based.{Based as BasedValue};
 ghost use Rattle.fs_model.specs.Steps.{Links, Grows};
 ghost use Rattle.fs_closing.specs.Marked.{written_at, next_by, stands_by};
 ghost use Rattle.fs_closing.specs.NodeSteps.{AddsNode, AddsDepth, KeepsArcs, KeepsDepths, Retypes, EntersTable, IsGraphIn, Unites};
-ghost use Rattle.fs_closing.specs.Cells.{find_arc, chain, PlacesFall};
 ghost use Rattle.fs_closing.specs.NodeTable.{table_of, at_of, own_type, own_row, first_of, depth_of, IsWhole, IsWithin};
 
+use crate::cells::{Cell, Cells};
 use crate::fault::NoMemory;
 use crate::marks::{Marks, Written};
 use crate::parts::{Based, own_type as type_from_graph};
-
-/// An arc, with the place of its node's next one: 0 for none, and k + 1 for cell k.
-#[derive(Clone, Copy, Debug)]
-pub struct Cell {
-    pub feat: u32,
-    pub to: u32,
-    pub next: u32,
-}
 
 /// The first `size` nodes by number. Those of a graph are read where they stand; other ones were made. `marks` has what was
 /// written at nodes, and `cells` the arcs that were added to them. So many nodes were merged into others as `merges` says.
 #[derive(Drop)]
 pub struct Nodes<'a> {
     pub marks: Marks,
-    pub cells: Vec<Cell>,
+    pub cells: Cells,
     pub parts: &'a [Based<'a>],
     pub merges: u32,
     pub size: u32,
@@ -136,23 +128,6 @@ fn stands(nodes: &Nodes<'_>, n: u32) -> Written
     }
 }
 
-/// Where an arc leads, of those from a place on.
-pub fn look_up(cells: &[Cell], first: u32, feat: u32) -> Option<u32>
-    requires place { first ≤ length cells.now }
-    requires falls { PlacesFall cells.now }
-    ensures { result ≡ find_arc (chain cells.now first) feat }
-{
-    let mut place = first;
-    while place != 0 {
-        let cell = cells[place as usize - 1];
-        if cell.feat == feat {
-            return Some(cell.to);
-        }
-        place = cell.next;
-    }
-    None
-}
-
 /// Gives a node a type.
 pub fn set_type(nodes: &mut Nodes<'_>, n: u32, ty: u32)
     requires whole { IsWhole nodes.old }
@@ -219,7 +194,7 @@ pub fn add_arc(nodes: &mut Nodes<'_>, n: u32, feat: u32, to: u32) -> Result<(), 
         to,
         next: old.first,
     };
-    nodes.cells.push(cell)?;
+    nodes.cells.push(n, cell)?;
     let new = Written {
         forward: old.forward,
         ty: old.ty,
@@ -258,7 +233,7 @@ pub fn unite(nodes: &mut Nodes<'_>, a: u32, b: u32, ty: u32)
     requires b_stays { (table_of nodes.old).live b ≡ b }
     ensures unites { Unites (table_of nodes.old) (table_of nodes.new) a b ty }
     ensures depths { (k : ℕ) → depth_of nodes.new k ≡ depth_of nodes.old k }
-    ensures cells { nodes.new.cells.items ≡ nodes.old.cells.items }
+    ensures cells { nodes.new.cells ≡ nodes.old.cells }
     ensures own { (k : ℕ) → own_row nodes.new k ≡ own_row nodes.old k }
     ensures whole { IsWhole nodes.new }
     ensures within { (types feats : ℕ) → ty < types → IsWithin types feats nodes.old → IsWithin types feats nodes.new }

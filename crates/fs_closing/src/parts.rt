@@ -3,11 +3,11 @@
 ghost use Rattle.std.specs.Prelude.{◌≡◌, ◌<◌, ◌^◌, length, option_map, slice_index_or};
 ghost use Rattle.fs_model.specs.Claims.{Has};
 ghost use Rattle.fs_graph.specs.GraphMap.{arc_to};
-ghost use Rattle.fs_closing.specs.declared.nodes.Cell.{Cell as CellValue};
+ghost use Rattle.fs_closing.specs.declared.cells.Cell.{Cell as CellValue};
 ghost use Rattle.fs_closing.specs.Cells.{find_arc};
 ghost use Rattle.fs_closing.specs.Beside.{cells_from, holds, home, row_in, type_in};
 
-use crate::nodes::Cell;
+use crate::cells::Cell;
 use fs_graph::{Graph, GraphArc, Node};
 
 /// A graph whose nodes have the numbers from `base` on.

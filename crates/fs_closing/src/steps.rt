@@ -14,9 +14,7 @@ ghost use Rattle.fs_closing.specs.Work.{work_of, entry_claims, AreReady};
 ghost use Rattle.fs_closing.specs.Keeps.{AreSound, Leads, Clashes, StepsTo, begin, arc_claims, IsHeld, PushesFacts};
 
 use crate::fault::NoMemory;
-use crate::nodes::{
-    Nodes, add_arc, depth_of, first_of, grow, live, look_up, set_type, ty_of, unite,
-};
+use crate::nodes::{Nodes, add_arc, depth_of, first_of, grow, live, set_type, ty_of, unite};
 use crate::parts::{own_arc, own_arcs, own_cell};
 use crate::system::TypeSystem;
 use crate::tasks::Tasks;
@@ -29,7 +27,7 @@ fn arc_of(nodes: &Nodes<'_>, n: u32, feat: u32) -> Option<u32>
     ensures value { result ≡ (table_of nodes.now).arc n feat }
     ensures within { IfSome result (λ m. m < nodes.now.size) }
 {
-    if let Some(to) = look_up(&nodes.cells, first_of(nodes, n), feat) {
+    if let Some(to) = nodes.cells.find(n, first_of(nodes, n), feat) {
         return Some(to);
     }
     own_arc(nodes.parts, n, feat)
@@ -214,14 +212,14 @@ pub fn attach_cells(
 ) -> Result<bool, NoMemory>
     requires sound { AreSound system.now nodes.old tasks.old }
     requires node { n < nodes.old.size }
-    requires first_in { first ≤ length nodes.old.cells.items }
+    requires first_in { first ≤ length nodes.old.cells }
     requires stays { (table_of nodes.old).live n ≡ n }
-    ensures steps { IfOk result (StepsTo system.now nodes.old (arc_claims n (chain nodes.old.cells.items first) ++ work_of system.now.rules tasks.old) nodes.new tasks.new) }
+    ensures steps { IfOk result (StepsTo system.now nodes.old (arc_claims n (chain nodes.old.cells first) ++ work_of system.now.rules tasks.old) nodes.new tasks.new) }
     ensures arcs { OnOk result (KeepsArcs nodes.old nodes.new) }
 {
     let mut place = first;
     while place != 0 {
-        let cell = nodes.cells[place as usize - 1];
+        let cell = nodes.cells.at(place);
         match attach(nodes, tasks, system, n, cell.feat, cell.to)? {
             true => place = cell.next,
             false => return Ok(false),
@@ -267,10 +265,10 @@ pub fn attach_all(
 ) -> Result<bool, NoMemory>
     requires sound { AreSound system.now nodes.old tasks.old }
     requires node { n < nodes.old.size }
-    requires first_in { first ≤ length nodes.old.cells.items }
+    requires first_in { first ≤ length nodes.old.cells }
     requires of_in { of < nodes.old.size }
     requires stays { (table_of nodes.old).live n ≡ n }
-    ensures { IfOk result (StepsTo system.now nodes.old (arc_claims n (chain nodes.old.cells.items first ++ own_row nodes.old of) ++ work_of system.now.rules tasks.old) nodes.new tasks.new) }
+    ensures { IfOk result (StepsTo system.now nodes.old (arc_claims n (chain nodes.old.cells first ++ own_row nodes.old of) ++ work_of system.now.rules tasks.old) nodes.new tasks.new) }
 {
     match attach_cells(nodes, tasks, system, n, first)? {
         true => {

@@ -5,7 +5,7 @@ use Rattle.fs_model.specs.Claims.{Has, here, there}
 use Rattle.fs_graph.specs.declared.graph.GraphArc.{GraphArc}
 use Rattle.fs_graph.specs.GraphMap.{arc_to, arcs_at, Rises}
 use Rattle.fs_graph.specs.Visits.{feats_of, targets_of}
-use Rattle.fs_closing.specs.declared.nodes.Cell.{Cell}
+use Rattle.fs_closing.specs.declared.cells.Cell.{Cell}
 use Rattle.fs_closing.specs.declared.nodes.Nodes.{Nodes}
 use Rattle.fs_closing.specs.declared.parts.Based.{Based}
 use Rattle.fs_closing.specs.Beside.{cells_from, home, row_from}
@@ -73,7 +73,7 @@ pub own_drawn : (nodes : Nodes) → IsWhole nodes → (n : ℕ) → Rises (ended
     ((k : ℕ) → k < length (ended_row (table_of nodes).live (own_row nodes n)) →
     slice_index (targets_of (ended_row (table_of nodes).live (own_row nodes n))) k < nodes.size)
 own_drawn nodes whole n =
-    let table = table_whole (at_of nodes) (own_type nodes) (own_row nodes) nodes.cells.items nodes.merges nodes.size whole.stands in (
+    let table = table_whole (at_of nodes) (own_type nodes) (own_row nodes) nodes.cells nodes.merges nodes.size whole.stands in (
       own_rises nodes whole (table_of nodes).live n,
       ended_in (table_of nodes).live nodes.size (own_row nodes n) (λ c h. table.live_in c.to (whole.stands.own_in n c h)),
     )
@@ -84,7 +84,7 @@ own_row_is nodes whole n none =
     let drawn = own_drawn nodes whole n in
     let live = (table_of nodes).live in
     let own = own_row nodes n in
-    let added : chain nodes.cells.items (first_of nodes n) ≡ [] = ap (chain nodes.cells.items) none ∙ chain-none nodes.cells.items in
+    let added : chain nodes.cells (first_of nodes n) ≡ [] = ap (chain nodes.cells) none ∙ chain-none nodes.cells in
     record {
       rises = drawn.0;
       here = λ f e. ended_here live own f ∙ ap (λ l. option_map live (find_arc (l ++ own) f)) (sym added);

@@ -48,6 +48,23 @@ past_place xs place f some past low k a h = go (cases_lt k place)
     go (inl b) = let e : place - 1 ≡ k = omega arith in subst (λ i. f ≤ slice_index (feats_of xs) i) e low
     go (inr b) = past k b h
 
+-- what one look in the middle tells of the arcs before it, or of those from it on
+pub below_upto : (xs : List GraphArc) (m f : ℕ) → Rises xs → m < length xs → slice_index (feats_of xs) m < f → (k : ℕ) → k < m + 1 →
+    slice_index (feats_of xs) k < f
+below_upto xs m f rises h low k a = go (cases_lt k m)
+  where
+    go : (k < m) ⊎ (m ≤ k) → slice_index (feats_of xs) k < f
+    go (inl b) = let r = rises k m b h in omega arith
+    go (inr b) = let e : m ≡ k = omega arith in subst (λ i. slice_index (feats_of xs) i < f) e low
+
+pub past_from : (xs : List GraphArc) (m f : ℕ) → Rises xs → f ≤ slice_index (feats_of xs) m → (k : ℕ) → m ≤ k → k < length xs →
+    f ≤ slice_index (feats_of xs) k
+past_from xs m f rises low k a h = go (cases_lt m k)
+  where
+    go : (m < k) ⊎ (k ≤ m) → f ≤ slice_index (feats_of xs) k
+    go (inl b) = let r = rises m k b h in omega arith
+    go (inr b) = let e : m ≡ k = omega arith in subst (λ i. f ≤ slice_index (feats_of xs) i) e low
+
 pub rises_none : (xs : List GraphArc) → xs ≡ [] → Rises xs
 rises_none xs is i j a b = absurd (let e = ap length is in omega arith)
 

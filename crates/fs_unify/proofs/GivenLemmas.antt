@@ -106,8 +106,8 @@ pictured g nodes tasks nodes' limit p false order is leads whole within filled n
     decides_none g nodes tasks nodes' order leads (subst (λ l. Answers (deep_of nodes') l None) is none)
 pictured g nodes tasks nodes' limit p true order is leads whole within filled some =
     let shown = subst (λ l. IsPictureIn (table_of nodes') l p) is some in
-    let root = root_lives (at_of nodes') (own_row nodes') nodes'.cells.items nodes'.merges nodes'.size whole.stands in
-    let ok = table_whole (at_of nodes') (own_type nodes') (own_row nodes') nodes'.cells.items nodes'.merges nodes'.size whole.stands in
+    let root = root_lives (at_of nodes') (own_row nodes') nodes'.cells nodes'.merges nodes'.size whole.stands in
+    let ok = table_whole (at_of nodes') (own_type nodes') (own_row nodes') nodes'.cells nodes'.merges nodes'.size whole.stands in
     let bounds = picture_bounds (table_of nodes') ok g.path_limit (graph_map p.types.items p.starts.items p.arcs.items) p.order.longest filled root shown.shows
     shown.order.longest shown.short in
     ((leads, whole, within, bounds, filled), shown)

@@ -11,7 +11,7 @@ use Rattle.fs_model.proofs.TableLemmas.{walk-append, walk-step, walk_ends}
 use Rattle.fs_graph.specs.declared.graph.GraphArc.{GraphArc}
 use Rattle.fs_graph.specs.GraphMap.{GraphMap, IsGraph, table_of as graph_table, type_at, arcs_at, reader_of}
 use Rattle.fs_closing.specs.declared.nodes.Nodes.{Nodes}
-use Rattle.fs_closing.specs.declared.nodes.Cell.{Cell}
+use Rattle.fs_closing.specs.declared.cells.Cell.{Cell}
 use Rattle.fs_closing.specs.Cells.{chain}
 use Rattle.fs_closing.proofs.HasLemmas.{Has-either}
 use Rattle.fs_closing.specs.NodeTable.{table_of, at_of, own_type, own_row, first_of, IsWhole, IsWithin}
@@ -30,10 +30,10 @@ module _ (nodes : Nodes) (whole : IsWhole nodes) (filled : 0 < nodes.size) (root
   t = table_of nodes
 
   ok : IsTable (table_of nodes)
-  ok = table_whole (at_of nodes) (own_type nodes) (own_row nodes) nodes.cells.items nodes.merges nodes.size whole.stands
+  ok = table_whole (at_of nodes) (own_type nodes) (own_row nodes) nodes.cells nodes.merges nodes.size whole.stands
 
-  feature_in : (c : Cell) (first n : ℕ) → Has c (chain nodes.cells.items first) ⊎ Has c (own_row nodes n) → c.feat < feats
-  feature_in c first n (inl h) = within.feat_in c (chain-has nodes.cells.items first c h)
+  feature_in : (c : Cell) (first n : ℕ) → Has c (chain nodes.cells first) ⊎ Has c (own_row nodes n) → c.feat < feats
+  feature_in c first n (inl h) = within.feat_in c (chain-has nodes.cells first c h)
   feature_in c first n (inr h) = within.own_feat n c h
 
   arc_feature : (n f m : ℕ) → walk (table_of nodes) n (f ∷ []) ≡ Some m → f < feats
@@ -46,8 +46,8 @@ module _ (nodes : Nodes) (whole : IsWhole nodes) (filled : 0 < nodes.size) (root
       go (Some i) is =
           let first = first_of nodes ((table_of nodes).live n) in
           let own = own_row nodes ((table_of nodes).live n) in
-          let r = find_arc-has (chain nodes.cells.items first ++ own) f i is in
-          let low = feature_in r.0 first ((table_of nodes).live n) (Has-either r.0 (chain nodes.cells.items first) own r.1) in
+          let r = find_arc-has (chain nodes.cells first ++ own) f i is in
+          let low = feature_in r.0 first ((table_of nodes).live n) (Has-either r.0 (chain nodes.cells first) own r.1) in
           omega (arith, low, r.2)
 
   pub graph_inside : (plan graph : GraphMap) → IsPicture (table_of nodes) plan → IsSameStructure (reader_of plan) (reader_of graph) → IsGraph graph → IsGraphIn types feats graph

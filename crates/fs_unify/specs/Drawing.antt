@@ -10,7 +10,7 @@ use Rattle.fs_graph.specs.Orders.{ArePlan, IsOrderOf}
 use Rattle.fs_unify.specs.declared.draw.Picture.{Picture}
 use Rattle.fs_graph.specs.Visits.{targets_of}
 use Rattle.fs_closing.specs.Keeps.{Deep, Stands, deep_of}
-use Rattle.fs_closing.specs.declared.nodes.Cell.{Cell}
+use Rattle.fs_closing.specs.declared.cells.Cell.{Cell}
 use Rattle.fs_closing.specs.declared.nodes.Nodes.{Nodes}
 use Rattle.fs_closing.specs.NodeTable.{table_of as nodes_table}
 

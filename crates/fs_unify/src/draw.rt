@@ -17,13 +17,39 @@ use fs_paths::Feat;
 use std::alloc::Global;
 use type_hierarchy::Ty;
 
-// The place of a feature among arcs by rising feature. It is sought from the end, where it mostly is.
+// So many arcs are few.
+const FEW: usize = 16;
+
+// The place of a feature among arcs by rising feature, by halves.
+fn place_by_halves(arcs: &[GraphArc], feat: Feat) -> usize
+    requires { Rises arcs.now }
+    ensures within { result ≤ length arcs.now }
+    ensures before { (k : ℕ) → k < result → slice_index (feats_of arcs.now) k < feat.0 }
+    ensures found { result < length arcs.now → feat.0 ≤ slice_index (feats_of arcs.now) result }
+{
+    let mut low = 0;
+    let mut high = arcs.len();
+    while low < high {
+        let middle = low + (high - low) / 2;
+        if arcs[middle].feat.0 < feat.0 {
+            low = middle + 1;
+        } else {
+            high = middle;
+        }
+    }
+    low
+}
+
+// The place of a feature among arcs by rising feature. Among few it is sought from the end, where it mostly is.
 fn place_of(arcs: &[GraphArc], feat: Feat) -> usize
     requires { Rises arcs.now }
     ensures within { result ≤ length arcs.now }
     ensures before { (k : ℕ) → k < result → slice_index (feats_of arcs.now) k < feat.0 }
     ensures found { result < length arcs.now → feat.0 ≤ slice_index (feats_of arcs.now) result }
 {
+    if arcs.len() > FEW {
+        return place_by_halves(arcs, feat);
+    }
     let mut place = arcs.len();
     while place > 0 {
         if arcs[place - 1].feat.0 < feat.0 {
@@ -76,7 +102,7 @@ fn draw_cells(row: &mut Vec<GraphArc>, nodes: &Nodes<'_>, n: u32) -> Result<(), 
 {
     let mut place = first_of(nodes, n);
     while place != 0 {
-        let cell = nodes.cells[place as usize - 1];
+        let cell = nodes.cells.at(place);
         let to = live(nodes, cell.to);
         put_arc(row, Feat(cell.feat), Node(to))?;
         place = cell.next;

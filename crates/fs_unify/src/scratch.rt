@@ -6,9 +6,10 @@ ghost use Rattle.fs_closing.specs.NodeTable.{IsWhole, IsWithin, AreFlat};
 ghost use Rattle.fs_unify.specs.Room.{room_of, LendsMarks};
 
 use crate::draw::Picture;
+use fs_closing::cells::Cells;
 use fs_closing::fault::NoMemory;
 use fs_closing::marks::Marks;
-use fs_closing::nodes::{Cell, Nodes};
+use fs_closing::nodes::Nodes;
 use fs_closing::parts::Based;
 use fs_closing::tasks::Tasks;
 use std::alloc::Global;
@@ -19,7 +20,7 @@ use std::mem;
 #[derive(Debug, Drop)]
 pub struct Scratch {
     pub(crate) written: Marks,
-    pub(crate) cells: Vec<Cell>,
+    pub(crate) cells: Cells,
     pub(crate) tasks: Tasks,
     pub(crate) offsets: Vec<u32>,
     pub(crate) picture: Picture,
@@ -42,7 +43,7 @@ impl Scratch {
     {
         Scratch {
             written: Marks::aged(alloc, generation),
-            cells: Vec::new(alloc),
+            cells: Cells::new(alloc),
             tasks: Tasks::new(alloc),
             offsets: Vec::new(alloc),
             picture: Picture::new(alloc),
@@ -82,7 +83,7 @@ impl Scratch {
     {
         let mut nodes = Nodes {
             marks: mem::replace(&mut self.written, Marks::aged(alloc, 1)),
-            cells: mem::replace(&mut self.cells, Vec::new(alloc)),
+            cells: mem::replace(&mut self.cells, Cells::new(alloc)),
             parts: graphs,
             merges: 0,
             size: 0,

@@ -23,10 +23,10 @@ returns-clause-enters c = λ d.
     let is = take_more parts c.args.place p c.requires.place
     ∙ ap (λ (x : Based). take c.args.place parts ++ x ∷ []) (sym c.index-parts-place.is) ∙ ap (λ l. l ++ p ∷ []) (sym c.requires.before) in
     let here : p ≡ slice_index_or parts c.args.place d = c.index-parts-place.is ∙ get_or_default parts c.args.place p d c.requires.place in
-    subst (λ (x : Based). EntersTable x.graph.now (table_of nodes) (table_from (written_at c.widen.new.self) (type_in (take (c.args.place + 1) parts)) (row_in (take (c.args.place + 1) parts)) nodes.cells.items nodes.merges (p.base + c.nodes-count.result))) here
-    (subst (λ l. EntersTable p.graph.now (table_of nodes) (table_from (written_at c.widen.new.self) (type_in l) (row_in l) nodes.cells.items nodes.merges (p.base + c.nodes-count.result))) (sym is)
-    (subst (λ k. EntersTable p.graph.now (table_of nodes) (table_from (written_at c.widen.new.self) (type_in (old ++ p ∷ [])) (row_in (old ++ p ∷ [])) nodes.cells.items nodes.merges k)) (sym size)
-    (table_entered (at_of nodes) (written_at c.widen.new.self) nodes.cells.items nodes.merges nodes.size old p c.nodes-count.ensures.graph c.requires.whole.placed
+    subst (λ (x : Based). EntersTable x.graph.now (table_of nodes) (table_from (written_at c.widen.new.self) (type_in (take (c.args.place + 1) parts)) (row_in (take (c.args.place + 1) parts)) nodes.cells nodes.merges (p.base + c.nodes-count.result))) here
+    (subst (λ l. EntersTable p.graph.now (table_of nodes) (table_from (written_at c.widen.new.self) (type_in l) (row_in l) nodes.cells nodes.merges (p.base + c.nodes-count.result))) (sym is)
+    (subst (λ k. EntersTable p.graph.now (table_of nodes) (table_from (written_at c.widen.new.self) (type_in (old ++ p ∷ [])) (row_in (old ++ p ∷ [])) nodes.cells nodes.merges k)) (sym size)
+    (table_entered (at_of nodes) (written_at c.widen.new.self) nodes.cells nodes.merges nodes.size old p c.nodes-count.ensures.graph c.requires.whole.placed
     c.requires.whole.stands base c.in_ok-widen.ensures.kept room)))
 
 pub returns-clause-whole : goal.returns-clause-whole
@@ -41,14 +41,14 @@ returns-clause-whole c =
     let is = take_more parts c.args.place p c.requires.place
     ∙ ap (λ (x : Based). take c.args.place parts ++ x ∷ []) (sym c.index-parts-place.is) ∙ ap (λ l. l ++ p ∷ []) (sym c.requires.before) in
     record {
-      stands = subst (λ l. AreWhole (written_at c.widen.new.self) (row_in l) nodes.cells.items nodes.merges (p.base + c.nodes-count.result)) (sym is)
-          (subst (λ k. AreWhole (written_at c.widen.new.self) (row_in (old ++ p ∷ [])) nodes.cells.items nodes.merges k) (sym size)
-          (whole_entered (at_of nodes) (written_at c.widen.new.self) nodes.cells.items nodes.merges nodes.size old p c.nodes-count.ensures.graph c.requires.whole.placed
+      stands = subst (λ l. AreWhole (written_at c.widen.new.self) (row_in l) nodes.cells nodes.merges (p.base + c.nodes-count.result)) (sym is)
+          (subst (λ k. AreWhole (written_at c.widen.new.self) (row_in (old ++ p ∷ [])) nodes.cells nodes.merges k) (sym size)
+          (whole_entered (at_of nodes) (written_at c.widen.new.self) nodes.cells nodes.merges nodes.size old p c.nodes-count.ensures.graph c.requires.whole.placed
           c.requires.whole.stands base c.in_ok-widen.ensures.kept room));
       enough = omega (arith, c.in_ok-widen.ensures.room);
       placed = subst (λ l. ArePlaced l (p.base + c.nodes-count.result)) (sym is)
           (subst (λ k. ArePlaced (old ++ p ∷ []) k) (sym size)
-          (placed_entered (at_of nodes) (written_at c.widen.new.self) nodes.cells.items nodes.merges nodes.size old p c.nodes-count.ensures.graph c.requires.whole.placed
+          (placed_entered (at_of nodes) (written_at c.widen.new.self) nodes.cells nodes.merges nodes.size old p c.nodes-count.ensures.graph c.requires.whole.placed
           c.requires.whole.stands base c.in_ok-widen.ensures.kept room));
     }
 
@@ -64,9 +64,9 @@ returns-clause-within c = λ a b d inside before.
     let is = take_more parts c.args.place p c.requires.place
     ∙ ap (λ (x : Based). take c.args.place parts ++ x ∷ []) (sym c.index-parts-place.is) ∙ ap (λ l. l ++ p ∷ []) (sym c.requires.before) in
     let here : p ≡ slice_index_or parts c.args.place d = c.index-parts-place.is ∙ get_or_default parts c.args.place p d c.requires.place in
-    subst (λ l. AreWithin a b (λ k. type_by (type_in l k) (written_at c.widen.new.self k)) (row_in l) nodes.cells.items (p.base + c.nodes-count.result)) (sym is)
-    (subst (λ k. AreWithin a b (λ m. type_by (type_in (old ++ p ∷ []) m) (written_at c.widen.new.self m)) (row_in (old ++ p ∷ [])) nodes.cells.items k) (sym size)
-    (within_entered (at_of nodes) (written_at c.widen.new.self) nodes.cells.items nodes.merges nodes.size old p c.nodes-count.ensures.graph c.requires.whole.placed
+    subst (λ l. AreWithin a b (λ k. type_by (type_in l k) (written_at c.widen.new.self k)) (row_in l) nodes.cells (p.base + c.nodes-count.result)) (sym is)
+    (subst (λ k. AreWithin a b (λ m. type_by (type_in (old ++ p ∷ []) m) (written_at c.widen.new.self m)) (row_in (old ++ p ∷ [])) nodes.cells k) (sym size)
+    (within_entered (at_of nodes) (written_at c.widen.new.self) nodes.cells nodes.merges nodes.size old p c.nodes-count.ensures.graph c.requires.whole.placed
     c.requires.whole.stands base c.in_ok-widen.ensures.kept room a b (subst (λ (x : Based). IsGraphIn a b x.graph.now) (sym here) inside) before))
 
 pub returns-clause-flat : goal.returns-clause-flat

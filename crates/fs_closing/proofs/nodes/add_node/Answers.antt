@@ -10,7 +10,7 @@ write-requires c = let more = c.in_ok-widen.ensures.room in omega (arith, more)
 pub returns-clause-adds : goal.returns-clause-adds
 returns-clause-adds c =
     let nodes = c.args.nodes.now in
-    table_added (at_of nodes) (written_at c.write.new.self) (own_type nodes) (own_type nodes) (own_row nodes) (own_row nodes) nodes.cells.items nodes.merges nodes.size
+    table_added (at_of nodes) (written_at c.write.new.self) (own_type nodes) (own_type nodes) (own_row nodes) (own_row nodes) nodes.cells nodes.merges nodes.size
     c.requires.stands _ c.write.ensures.here (λ k e. c.write.ensures.others k e ∙ c.in_ok-widen.ensures.kept k) (λ k. refl) (λ k. refl) refl refl
 
 pub returns-clause-whole : goal.returns-clause-whole
@@ -18,7 +18,7 @@ returns-clause-whole c =
     let nodes = c.args.nodes.now in
     let room : c.args.nodes.now.size + 1 < 2 ^ 32 = omega (arith, c.requires.stands.small, c.if-n.false) in
     record {
-      stands = whole_added (at_of nodes) (written_at c.write.new.self) (own_type nodes) (own_type nodes) (own_row nodes) (own_row nodes) nodes.cells.items nodes.merges nodes.size
+      stands = whole_added (at_of nodes) (written_at c.write.new.self) (own_type nodes) (own_type nodes) (own_row nodes) (own_row nodes) nodes.cells nodes.merges nodes.size
           c.requires.stands _ c.write.ensures.here (λ k e. c.write.ensures.others k e ∙ c.in_ok-widen.ensures.kept k) (λ k. refl) (λ k. refl) refl refl room;
       enough = omega (arith, c.in_ok-widen.ensures.room, c.write.ensures.size);
       placed = λ p h. let x = c.requires.placed p h in (x.0, omega (arith, x.1));
@@ -27,7 +27,7 @@ returns-clause-whole c =
 pub returns-clause-within : goal.returns-clause-within
 returns-clause-within c = λ types feats low old.
     let nodes = c.args.nodes.now in
-    within_added (at_of nodes) (written_at c.write.new.self) (own_type nodes) (own_type nodes) (own_row nodes) (own_row nodes) nodes.cells.items nodes.merges nodes.size
+    within_added (at_of nodes) (written_at c.write.new.self) (own_type nodes) (own_type nodes) (own_row nodes) (own_row nodes) nodes.cells nodes.merges nodes.size
     c.requires.stands _ c.write.ensures.here (λ k e. c.write.ensures.others k e ∙ c.in_ok-widen.ensures.kept k) (λ k. refl) (λ k. refl) refl refl types feats low old
 
 pub returns-clause-depths : goal.returns-clause-depths

@@ -25,7 +25,7 @@ returns-then-to-at-clause-stays c =
     let nodes = c.args.nodes.now in
     let is = sym (chase_stays (λ n. next_by n (at_of c.args.nodes.now n)) c.loop-left.left c.loop-left.at (sym c.next-to.ensures ∙ c.if-to-at.true))
     ∙ c.loop-left.invariant.same in
-    let table = table_whole (at_of nodes) (own_type nodes) (own_row nodes) nodes.cells.items nodes.merges nodes.size c.requires.whole.stands in
+    let table = table_whole (at_of nodes) (own_type nodes) (own_row nodes) nodes.cells nodes.merges nodes.size c.requires.whole.stands in
     ap (table_of nodes).live is ∙ table.live_twice c.args.n ∙ sym is
 
 pub returns-clause-value : goal.returns-clause-value
@@ -38,5 +38,5 @@ returns-clause-stays c =
     let nodes = c.args.nodes.now in
     let none : c.loop-left.left ≡ 0 = omega (arith, c.loop-left-test.false) in
     let is = sym (ap (λ k. chase (λ n. next_by n (at_of c.args.nodes.now n)) k c.loop-left.at) none) ∙ c.loop-left.invariant.same in
-    let table = table_whole (at_of nodes) (own_type nodes) (own_row nodes) nodes.cells.items nodes.merges nodes.size c.requires.whole.stands in
+    let table = table_whole (at_of nodes) (own_type nodes) (own_row nodes) nodes.cells nodes.merges nodes.size c.requires.whole.stands in
     ap (table_of nodes).live is ∙ table.live_twice c.args.n ∙ sym is

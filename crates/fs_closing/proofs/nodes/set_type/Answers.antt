@@ -8,7 +8,7 @@ pub returns-clause-retypes : goal.returns-clause-retypes
 returns-clause-retypes c =
     let nodes = c.args.nodes.now in
     let stood = c.stands-old.ensures in
-    table_retyped (at_of nodes) (written_at c.write.new.self) (own_type nodes) (own_row nodes) nodes.cells.items nodes.merges nodes.size c.requires.whole.stands
+    table_retyped (at_of nodes) (written_at c.write.new.self) (own_type nodes) (own_row nodes) nodes.cells nodes.merges nodes.size c.requires.whole.stands
     c.args.n _ c.requires.node c.write.ensures.here c.write.ensures.others (ap (λ w. w.forward) stood) (ap (λ w. w.first) stood)
 
 pub returns-clause-whole : goal.returns-clause-whole
@@ -16,7 +16,7 @@ returns-clause-whole c =
     let nodes = c.args.nodes.now in
     let stood = c.stands-old.ensures in
     record {
-      stands = whole_retyped (at_of nodes) (written_at c.write.new.self) (own_type nodes) (own_row nodes) nodes.cells.items nodes.merges nodes.size c.requires.whole.stands
+      stands = whole_retyped (at_of nodes) (written_at c.write.new.self) (own_type nodes) (own_row nodes) nodes.cells nodes.merges nodes.size c.requires.whole.stands
           c.args.n _ c.requires.node c.write.ensures.here c.write.ensures.others (ap (λ w. w.forward) stood) (ap (λ w. w.first) stood);
       enough = omega (arith, c.requires.whole.enough, c.write.ensures.size);
       placed = c.requires.whole.placed;
@@ -26,7 +26,7 @@ pub returns-clause-within : goal.returns-clause-within
 returns-clause-within c = λ types feats low old.
     let nodes = c.args.nodes.now in
     let stood = c.stands-old.ensures in
-    within_retyped (at_of nodes) (written_at c.write.new.self) (own_type nodes) (own_row nodes) nodes.cells.items nodes.merges nodes.size c.requires.whole.stands
+    within_retyped (at_of nodes) (written_at c.write.new.self) (own_type nodes) (own_row nodes) nodes.cells nodes.merges nodes.size c.requires.whole.stands
     c.args.n _ c.requires.node c.write.ensures.here c.write.ensures.others (ap (λ w. w.forward) stood) (ap (λ w. w.first) stood) types feats low old
 
 pub returns-clause-keeps : goal.returns-clause-keeps
@@ -36,7 +36,7 @@ returns-clause-keeps c =
     record {
       arcs = record {
         size = refl;
-        live = live_retyped (at_of nodes) (written_at c.write.new.self) (own_type nodes) (own_row nodes) nodes.cells.items nodes.merges nodes.size c.requires.whole.stands
+        live = live_retyped (at_of nodes) (written_at c.write.new.self) (own_type nodes) (own_row nodes) nodes.cells nodes.merges nodes.size c.requires.whole.stands
             c.args.n _ c.requires.node c.write.ensures.here c.write.ensures.others (ap (λ w. w.forward) stood) (ap (λ w. w.first) stood);
         own = λ k. refl;
         more = omega arith;

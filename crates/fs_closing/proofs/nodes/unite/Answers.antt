@@ -14,7 +14,7 @@ returns-clause-unites c =
     let b = c.stands-goes.ensures in
     let more : c.args.nodes.now.merges + 1 ≡ suc c.args.nodes.now.merges = omega arith in
     rw more
-    (table_united (at_of nodes) (written_at c.write.new.self) (written_at c.write-2.new.self) (own_type nodes) (own_row nodes) nodes.cells.items nodes.merges nodes.size
+    (table_united (at_of nodes) (written_at c.write.new.self) (written_at c.write-2.new.self) (own_type nodes) (own_row nodes) nodes.cells nodes.merges nodes.size
     c.requires.whole.stands c.args.a c.args.b _ _ c.requires.a_in c.requires.b_in c.requires.apart c.requires.no_root c.requires.a_stays c.requires.b_stays
     c.write.ensures.here c.write.ensures.others c.write-2.ensures.here c.write-2.ensures.others
     refl (ap (λ w. w.ty) b) (ap (λ w. w.first) b) (ap (λ w. w.forward) a) (ap (λ w. w.first) a))
@@ -27,7 +27,7 @@ returns-clause-whole c =
     let more : c.args.nodes.now.merges + 1 ≡ suc c.args.nodes.now.merges = omega arith in
     rw more
     (record {
-      stands = whole_united (at_of nodes) (written_at c.write.new.self) (written_at c.write-2.new.self) (own_type nodes) (own_row nodes) nodes.cells.items nodes.merges nodes.size
+      stands = whole_united (at_of nodes) (written_at c.write.new.self) (written_at c.write-2.new.self) (own_type nodes) (own_row nodes) nodes.cells nodes.merges nodes.size
           c.requires.whole.stands c.args.a c.args.b _ _ c.requires.a_in c.requires.b_in c.requires.apart c.requires.no_root c.requires.a_stays c.requires.b_stays
           c.write.ensures.here c.write.ensures.others c.write-2.ensures.here c.write-2.ensures.others
           refl (ap (λ w. w.ty) b) (ap (λ w. w.first) b) (ap (λ w. w.forward) a) (ap (λ w. w.first) a);
@@ -40,7 +40,7 @@ returns-clause-within c = λ types feats low old.
     let nodes = c.args.nodes.now in
     let a = c.stands-stays.ensures in
     let b = c.stands-goes.ensures in
-    within_united (at_of nodes) (written_at c.write.new.self) (written_at c.write-2.new.self) (own_type nodes) (own_row nodes) nodes.cells.items nodes.merges nodes.size
+    within_united (at_of nodes) (written_at c.write.new.self) (written_at c.write-2.new.self) (own_type nodes) (own_row nodes) nodes.cells nodes.merges nodes.size
     c.requires.whole.stands c.args.a c.args.b _ _ c.requires.a_in c.requires.b_in c.requires.apart c.requires.no_root c.requires.a_stays c.requires.b_stays
     c.write.ensures.here c.write.ensures.others c.write-2.ensures.here c.write-2.ensures.others
     refl (ap (λ w. w.ty) b) (ap (λ w. w.first) b) (ap (λ w. w.forward) a) (ap (λ w. w.first) a) types feats low old
@@ -50,7 +50,7 @@ returns-clause-depths c =
     let nodes = c.args.nodes.now in
     let a = c.stands-stays.ensures in
     let b = c.stands-goes.ensures in
-    same_after (at_of nodes) (written_at c.write.new.self) (written_at c.write-2.new.self) (own_type nodes) (own_row nodes) nodes.cells.items nodes.merges nodes.size
+    same_after (at_of nodes) (written_at c.write.new.self) (written_at c.write-2.new.self) (own_type nodes) (own_row nodes) nodes.cells nodes.merges nodes.size
     c.requires.whole.stands c.args.a c.args.b _ _ c.requires.a_in c.requires.b_in c.requires.apart c.requires.no_root c.requires.a_stays c.requires.b_stays
     c.write.ensures.here c.write.ensures.others c.write-2.ensures.here c.write-2.ensures.others
     refl (ap (λ w. w.ty) b) (ap (λ w. w.first) b) (ap (λ w. w.forward) a) (ap (λ w. w.first) a) (λ _. depth_by) (ap (λ w. w.depth) a) (ap (λ w. w.depth) b)

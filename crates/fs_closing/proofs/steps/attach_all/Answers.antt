@@ -19,7 +19,7 @@ pub attach_own-requires-clause-sound : goal.attach_own-requires-clause-sound
 attach_own-requires-clause-sound c =
     let g = c.args.system.now in
     let nodes = c.args.nodes.now in
-    let work = arc_claims c.args.n (chain nodes.cells.items c.args.first) ++ work_of g.rules c.args.tasks.now in
+    let work = arc_claims c.args.n (chain nodes.cells c.args.first) ++ work_of g.rules c.args.tasks.now in
     (subst (StepsTo g nodes work c.attach_cells.new.nodes c.attach_cells.new.tasks) c.in-true.is c.in_ok-attach_cells.ensures.steps).1
 
 pub returns-in_ok-ok-in-true : goal.returns-in_ok-ok-in-true
@@ -27,7 +27,7 @@ returns-in_ok-ok-in-true c =
     let g = c.args.system.now in
     let nodes = c.args.nodes.now in
     let n = c.args.n in
-    let added = chain nodes.cells.items c.args.first in
+    let added = chain nodes.cells c.args.first in
     let own = own_row nodes c.args.of in
     let work = work_of g.rules c.args.tasks.now in
     let one = (subst (StepsTo g nodes (arc_claims n added ++ work) c.attach_cells.new.nodes c.attach_cells.new.tasks) c.in-true.is c.in_ok-attach_cells.ensures.steps).0 in
@@ -43,7 +43,7 @@ returns-in-false c =
     let g = c.args.system.now in
     let nodes = c.args.nodes.now in
     let n = c.args.n in
-    let added = chain nodes.cells.items c.args.first in
+    let added = chain nodes.cells c.args.first in
     let own = own_row nodes c.args.of in
     let work = work_of g.rules c.args.tasks.now in
     let one = subst (StepsTo g nodes (arc_claims n added ++ work) c.attach_cells.new.nodes c.attach_cells.new.tasks) c.in-false.is c.in_ok-attach_cells.ensures.steps in

@@ -91,7 +91,7 @@ returns c = λ n m en em.
     let leads = Turns-joins s order x y n m c.in-Some.met work (arc_claims a row ++ pushed) apart joins
     c.unite.ensures.depths in
     let cells = ap (λ l. arc_claims a (chain l c.first_of-first.result ++ own_row c.unite.new.nodes b) ++ pushed) c.unite.ensures.cells
-    ∙ ap (λ l. arc_claims a (chain nodes.cells.items c.first_of-first.result ++ l) ++ pushed) (c.unite.ensures.own b)
-    ∙ ap (λ p. arc_claims a (chain nodes.cells.items p ++ own_row nodes b) ++ pushed) first in
+    ∙ ap (λ l. arc_claims a (chain nodes.cells c.first_of-first.result ++ l) ++ pushed) (c.unite.ensures.own b)
+    ∙ ap (λ p. arc_claims a (chain nodes.cells p ++ own_row nodes b) ++ pushed) first in
     steps_after g nodes c.unite.new.nodes c.attach_all.new.nodes (is_same n [] m [] ∷ work) (arc_claims a row ++ pushed) c.attach_all.new.tasks c.in_ok-ok.ok leads
     (subst (λ l. StepsTo g c.unite.new.nodes l c.attach_all.new.nodes c.attach_all.new.tasks c.in_ok-ok.ok) cells c.in_ok-ok.ensures)

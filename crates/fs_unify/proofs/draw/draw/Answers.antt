@@ -19,7 +19,7 @@ pub returns-then-picture-limit : goal.returns-then-picture-limit
 returns-then-picture-limit c =
     let nodes = c.args.nodes.now in
     let plan = graph_map c.deref.result.now c.deref-2.result.now c.deref-3.result.now in
-    let root = root_lives (at_of nodes) (own_row nodes) nodes.cells.items nodes.merges nodes.size c.requires.whole.stands in
+    let root = root_lives (at_of nodes) (own_row nodes) nodes.cells nodes.merges nodes.size c.requires.whole.stands in
     let drawn = draw_by nodes c.draw_types.new.types.items c.deref.result.now c.draw_rows.new.starts.items c.deref-2.result.now c.draw_rows.new.arcs.items c.deref-3.result.now
     c.deref.ensures.value c.deref-2.ensures.value c.deref-3.ensures.value
     (drawn_plan nodes c.draw_types.new.types.items c.draw_rows.new.starts.items c.draw_rows.new.arcs.items c.requires.whole c.requires.filled c.in_ok-draw_types.ensures
@@ -43,7 +43,7 @@ pub returns-in-Err-Cycle : goal.returns-in-Err-Cycle
 returns-in-Err-Cycle c =
     let nodes = c.args.nodes.now in
     let plan = graph_map c.deref.result.now c.deref-2.result.now c.deref-3.result.now in
-    let root = root_lives (at_of nodes) (own_row nodes) nodes.cells.items nodes.merges nodes.size c.requires.whole.stands in
+    let root = root_lives (at_of nodes) (own_row nodes) nodes.cells nodes.merges nodes.size c.requires.whole.stands in
     let drawn = draw_by nodes c.draw_types.new.types.items c.deref.result.now c.draw_rows.new.starts.items c.deref-2.result.now c.draw_rows.new.arcs.items c.deref-3.result.now
     c.deref.ensures.value c.deref-2.ensures.value c.deref-3.ensures.value
     (drawn_plan nodes c.draw_types.new.types.items c.draw_rows.new.starts.items c.draw_rows.new.arcs.items c.requires.whole c.requires.filled c.in_ok-draw_types.ensures

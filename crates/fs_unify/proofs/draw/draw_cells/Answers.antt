@@ -1,5 +1,4 @@
 use Rattle.std.proofs.Common.{ℕ, ◌≡◌, ◌-◌, Option, slice_index_or, sym, ◌∙◌, ap, subst, arith}
-use Rattle.std.proofs.lemmas.List.{get_or_default}
 use Rattle.fs_graph.specs.GraphMap.{arc_to}
 use Rattle.fs_closing.specs.Cells.{chain, no_cell, AreOnce}
 use Rattle.fs_closing.specs.NodeTable.{table_of, own_row, first_of, row_of}
@@ -14,10 +13,10 @@ loop-place-init c =
     let once = c.requires.whole.stands.once c.args.n c.requires.node in
     let own = own_row nodes c.args.n in
     record {
-      draws = subst (λ p. DrawsCells (table_of nodes).live (row_of nodes c.args.n) (chain nodes.cells.items p)
+      draws = subst (λ p. DrawsCells (table_of nodes).live (row_of nodes c.args.n) (chain nodes.cells p)
           (λ f. arc_to c.args.row.now.items f)) (sym first)
-          (draws_rest (table_of nodes).live (chain nodes.cells.items (first_of nodes c.args.n)) own (λ f. arc_to c.args.row.now.items f) once c.requires.own);
-      once = subst (λ p. AreOnce (chain nodes.cells.items p)) (sym first) (once_left (chain nodes.cells.items (first_of nodes c.args.n)) own once);
+          (draws_rest (table_of nodes).live (chain nodes.cells (first_of nodes c.args.n)) own (λ f. arc_to c.args.row.now.items f) once c.requires.own);
+      once = subst (λ p. AreOnce (chain nodes.cells p)) (sym first) (once_left (chain nodes.cells (first_of nodes c.args.n)) own once);
       rises = c.requires.rises;
       to_in = c.requires.to_in;
       place_in = omega (arith, first, c.requires.whole.stands.first_in c.args.n c.requires.node);
@@ -25,35 +24,35 @@ loop-place-init c =
 
 pub live-to-requires-clause-node : goal.live-to-requires-clause-node
 live-to-requires-clause-node c =
-    let cells = c.args.nodes.now.cells.items in
-    let is : c.index-cell.result.now ≡ slice_index_or c.args.nodes.now.cells.items (c.loop-place.place - 1) no_cell =
-    c.index-cell.ensures ∙ get_or_default cells (c.loop-place.place - 1) _ no_cell (omega arith) in
-    let at = chain_at cells c.loop-place.place c.index-cell.result.now c.loop-place-test.true c.loop-place.invariant.place_in c.requires.whole.stands.places is in
-    omega (arith, c.requires.whole.stands.to_in c.index-cell.result.now at.2)
+    let cells = c.args.nodes.now.cells in
+    let is : c.at-cell.result ≡ slice_index_or c.args.nodes.now.cells (c.loop-place.place - 1) no_cell =
+    c.at-cell.ensures in
+    let at = chain_at cells c.loop-place.place c.at-cell.result c.loop-place-test.true c.loop-place.invariant.place_in c.requires.whole.stands.places is in
+    omega (arith, c.requires.whole.stands.to_in c.at-cell.result at.2)
 
 pub put_arc-requires-clause-new : goal.put_arc-requires-clause-new
 put_arc-requires-clause-new c =
     let nodes = c.args.nodes.now in
-    let cells = nodes.cells.items in
-    let is : c.index-cell.result.now ≡ slice_index_or c.args.nodes.now.cells.items (c.loop-place.place - 1) no_cell =
-    c.index-cell.ensures ∙ get_or_default cells (c.loop-place.place - 1) _ no_cell (omega arith) in
-    let at = chain_at cells c.loop-place.place c.index-cell.result.now c.loop-place-test.true c.loop-place.invariant.place_in c.requires.whole.stands.places is in
+    let cells = nodes.cells in
+    let is : c.at-cell.result ≡ slice_index_or c.args.nodes.now.cells (c.loop-place.place - 1) no_cell =
+    c.at-cell.ensures in
+    let at = chain_at cells c.loop-place.place c.at-cell.result c.loop-place-test.true c.loop-place.invariant.place_in c.requires.whole.stands.places is in
     draws_free (table_of nodes).live (row_of nodes c.args.n) (chain cells c.loop-place.place)
-    (chain cells c.index-cell.result.now.next) c.index-cell.result.now (λ f. arc_to c.loop-place.row.items f) at.0 c.loop-place.invariant.draws
+    (chain cells c.at-cell.result.next) c.at-cell.result (λ f. arc_to c.loop-place.row.items f) at.0 c.loop-place.invariant.draws
 
 pub loop-place-preserved : goal.loop-place-preserved
 loop-place-preserved c =
     let nodes = c.args.nodes.now in
-    let cells = nodes.cells.items in
-    let is : c.index-cell.result.now ≡ slice_index_or c.args.nodes.now.cells.items (c.loop-place.place - 1) no_cell =
-    c.index-cell.ensures ∙ get_or_default cells (c.loop-place.place - 1) _ no_cell (omega arith) in
-    let at = chain_at cells c.loop-place.place c.index-cell.result.now c.loop-place-test.true c.loop-place.invariant.place_in c.requires.whole.stands.places is in
+    let cells = nodes.cells in
+    let is : c.at-cell.result ≡ slice_index_or c.args.nodes.now.cells (c.loop-place.place - 1) no_cell =
+    c.at-cell.ensures in
+    let at = chain_at cells c.loop-place.place c.at-cell.result c.loop-place-test.true c.loop-place.invariant.place_in c.requires.whole.stands.places is in
     let to = c.live-to.ensures.value in
     let within = c.live-to.ensures.within in
     let ok = c.in_ok-put_arc.ensures in
     record {
       draws = draws_step (table_of nodes).live (row_of nodes c.args.n) (chain cells c.loop-place.place)
-          (chain cells c.index-cell.result.now.next) c.index-cell.result.now c.live-to.result (λ f. arc_to c.loop-place.row.items f)
+          (chain cells c.at-cell.result.next) c.at-cell.result c.live-to.result (λ f. arc_to c.loop-place.row.items f)
           (λ f. arc_to c.put_arc.new.row.items f) at.0 c.loop-place.invariant.once to ok.here ok.others c.loop-place.invariant.draws;
       once = (subst AreOnce at.0 c.loop-place.invariant.once).1;
       rises = ok.rises;
@@ -63,10 +62,10 @@ loop-place-preserved c =
 
 pub loop-place-smaller : goal.loop-place-smaller
 loop-place-smaller c =
-    let cells = c.args.nodes.now.cells.items in
-    let is : c.index-cell.result.now ≡ slice_index_or c.args.nodes.now.cells.items (c.loop-place.place - 1) no_cell =
-    c.index-cell.ensures ∙ get_or_default cells (c.loop-place.place - 1) _ no_cell (omega arith) in
-    let at = chain_at cells c.loop-place.place c.index-cell.result.now c.loop-place-test.true c.loop-place.invariant.place_in c.requires.whole.stands.places is in
+    let cells = c.args.nodes.now.cells in
+    let is : c.at-cell.result ≡ slice_index_or c.args.nodes.now.cells (c.loop-place.place - 1) no_cell =
+    c.at-cell.ensures in
+    let at = chain_at cells c.loop-place.place c.at-cell.result c.loop-place-test.true c.loop-place.invariant.place_in c.requires.whole.stands.places is in
     at.1
 
 pub returns-clause-here : goal.returns-clause-here
@@ -76,4 +75,4 @@ returns-clause-here c =
     let all = row_of nodes c.args.n in
     let arc : ℕ → Option ℕ = λ f. arc_to c.loop-place.row.items f in
     draws_end (table_of nodes).live all arc (subst (λ l. DrawsCells (table_of nodes).live all l arc)
-    (ap (chain nodes.cells.items) none ∙ chain-none nodes.cells.items) c.loop-place.invariant.draws)
+    (ap (chain nodes.cells) none ∙ chain-none nodes.cells) c.loop-place.invariant.draws)

@@ -16,7 +16,7 @@ pub returns-in-Ok-clause-answers : goal.returns-in-Ok-clause-answers
 returns-in-Ok-clause-answers c =
     let nodes = c.args.nodes.now in
     let p = c.args.picture.now in
-    let root = root_lives (at_of nodes) (own_row nodes) nodes.cells.items nodes.merges nodes.size c.requires.whole.stands in
+    let root = root_lives (at_of nodes) (own_row nodes) nodes.cells nodes.merges nodes.size c.requires.whole.stands in
     answer_graph (deep_of nodes) c.args.limit (graph_map p.types.items p.starts.items p.arcs.items) c.in-Ok.graph p.order.longest c.requires.filled root
     c.requires.picture.shows c.requires.picture.order.longest c.requires.picture.short
     (rw (c.deref.ensures.value, c.deref-2.ensures.value, c.deref-3.ensures.value) at c.in-Ok.ensures)
@@ -25,7 +25,7 @@ pub returns-in-Ok-clause-inside : goal.returns-in-Ok-clause-inside
 returns-in-Ok-clause-inside c = λ types feats within.
     let nodes = c.args.nodes.now in
     let p = c.args.picture.now in
-    let root = root_lives (at_of nodes) (own_row nodes) nodes.cells.items nodes.merges nodes.size c.requires.whole.stands in
+    let root = root_lives (at_of nodes) (own_row nodes) nodes.cells nodes.merges nodes.size c.requires.whole.stands in
     let ordering = rw (c.deref.ensures.value, c.deref-2.ensures.value, c.deref-3.ensures.value) at c.in-Ok.ensures in
     graph_inside nodes c.requires.whole c.requires.filled root types feats within (graph_map p.types.items p.starts.items p.arcs.items) c.in-Ok.graph
     c.requires.picture.shows ordering.same c.laws.ensures

@@ -11,7 +11,7 @@ pub returns-clause-whole : goal.returns-clause-whole
 returns-clause-whole c =
     let nodes = c.args.self.now in
     record {
-      stands = subst (λ l. AreWhole (written_at c.clear.new.self) (row_in nodes.parts.now) l 0 0) (sym c.clear-2.ensures.items)
+      stands = subst (λ l. AreWhole (written_at c.clear.new.self) (row_in nodes.parts.now) l 0 0) (sym c.clear-2.ensures)
           (whole_empty (written_at c.clear.new.self) (row_in nodes.parts.now) c.clear.ensures.none (λ n. ap (λ l. row_in l n) c.requires));
       enough = omega arith;
       placed = λ (p : Based) h. elim (subst (Has p) c.requires h) [ ];
@@ -23,5 +23,5 @@ returns-clause-flat c = λ n. ap depth_by (c.clear.ensures.none n)
 pub returns-clause-within : goal.returns-clause-within
 returns-clause-within c = λ types feats.
     let nodes = c.args.self.now in
-    subst (λ l. AreWithin types feats (λ n. type_by (type_in nodes.parts.now n) (written_at c.clear.new.self n)) (row_in nodes.parts.now) l 0) (sym c.clear-2.ensures.items)
+    subst (λ l. AreWithin types feats (λ n. type_by (type_in nodes.parts.now n) (written_at c.clear.new.self n)) (row_in nodes.parts.now) l 0) (sym c.clear-2.ensures)
     (within_empty types feats _ (row_in nodes.parts.now) (λ n. ap (λ l. row_in l n) c.requires))

@@ -1,6 +1,6 @@
 use Rattle.std.proofs.Common.{refl, sym, ◌∙◌, arith}
 use Rattle.fs_closing.proofs.ChainLemmas.{look_here, look_past, look_none}
-use Rattle.fs_closing.proofs.nodes.look_up.Goals as goal
+use Rattle.fs_closing.proofs.cells.look_through.Goals as goal
 
 pub returns-then-cell-feat : goal.returns-then-cell-feat
 returns-then-cell-feat c =

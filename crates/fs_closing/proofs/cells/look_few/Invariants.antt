@@ -1,10 +1,10 @@
 use Rattle.std.proofs.Common.{◌≡◌, ◌≤◌, length}
 use Rattle.fs_closing.specs.Cells.{chain, find_arc}
-use Rattle.fs_closing.proofs.nodes.look_up.Given as goal
+use Rattle.fs_closing.proofs.cells.look_few.Given as goal
 
-abbrev pub invariant-loop-place : goal.invariant-loop-place
-invariant-loop-place l =
+abbrev pub invariant-loop-left : goal.invariant-loop-left
+invariant-loop-left l =
     record { same : find_arc (chain l.cells l.place) l.feat ≡ find_arc (chain l.fn.cells l.fn.first) l.fn.feat; within : l.place ≤ length l.cells }
 
-abbrev pub decreases-loop-place : goal.decreases-loop-place
-decreases-loop-place l = l.place
+abbrev pub decreases-loop-left : goal.decreases-loop-left
+decreases-loop-left l = l.left
