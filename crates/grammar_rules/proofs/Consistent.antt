@@ -1,8 +1,7 @@
 -- The full structure of a lexical tree is consistent, as a graph.
 use Rattle.std.specs.Prelude.{ℕ, List}
-use Rattle.fs_model.specs.Claims.{Claim}
 use Rattle.fs_model.specs.Sources.{Reader, Told}
-use Rattle.fs_model.specs.Closure.{Closure, AreConsistent, IsConsistent}
+use Rattle.fs_model.specs.Closure.{AreConsistent, IsConsistent}
 use Rattle.rule_model.specs.Structures.{Structure}
 use Rattle.rule_model.specs.Mothers.{Meant}
 use Rattle.rule_model.specs.Views.{view, IsInside, source_alone}

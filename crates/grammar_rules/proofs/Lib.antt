@@ -5,3 +5,4 @@ pub mod Wholes
 pub mod Lined
 pub mod Calls
 pub mod Kept
+pub mod Answered

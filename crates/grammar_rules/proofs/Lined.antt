@@ -4,7 +4,6 @@ use Rattle.std.proofs.Common.{refl, sym, ◌∙◌, ap, subst, suc, arith}
 use Rattle.fs_model.specs.Claims.{IsOrder}
 use Rattle.cover.specs.Calculus.{Along, along_none, along_more}
 use Rattle.cover.specs.declared.span.Span.{Span}
-use Rattle.chart_model.specs.At.{At, at_below}
 use Rattle.chart_model.specs.Chart as chart
 use Rattle.chart_core.specs.declared.Leaf.{Leaf}
 use Rattle.chart_core.specs.declared.Limits.{Limits}
@@ -16,7 +15,6 @@ use Rattle.item_model.specs.Signs.{Signs, rule_system}
 use Rattle.item_model.specs.Lexical.{Words}
 use Rattle.item_model.specs.Items.{LeafTree, leaves_from}
 use Rattle.parse_items.specs.Lattices.{Lattice}
-use Rattle.parse_items.specs.Licensed.{parse_item}
 use Rattle.parse_items.specs.Answers.{IsParseAnswer}
 use Rattle.packed_items.specs.Packed.{Fit, IsFound}
 use Rattle.packed_items.specs.Answers.{limits_in, answer_of}

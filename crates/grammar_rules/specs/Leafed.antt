@@ -1,5 +1,5 @@
 -- Lexical trees with the abstractions of their full structures, as the leaves of a line.
-use Rattle.std.specs.Prelude.{ℕ, List, [], ◌∷◌}
+use Rattle.std.specs.Prelude.{List, [], ◌∷◌}
 use Rattle.cover.specs.Calculus.{Along}
 use Rattle.cover.specs.declared.span.Span.{Span}
 use Rattle.rule_model.specs.Structures.{Structure}

@@ -5,14 +5,18 @@
 
 ghost use Rattle.grammar_rules.specs.Laws.{LexemesAreLeaves, FullsFit, FoundIsAnswer, LinesAreAnswered};
 
+mod desk;
+mod grammar;
 mod leaves;
 mod parsing;
 mod remembered;
 
 use derivation::Tree;
+pub use desk::{Desk, LineWork};
+pub use grammar::LineGrammar;
 pub use leaves::{LineLeaves, line_leaves};
 use packed_items::Found;
-pub use parsing::{LineWork, parse_words};
+pub use parsing::{Search, parse_alone, parse_words};
 pub use remembered::{LineShapes, RunMemory, run_shapes};
 use std::alloc::{AllocError, AllocFailed};
 

@@ -14,7 +14,7 @@ use Rattle.fs_model.specs.Claims.{IsOrder}
 use Rattle.rule_model.specs.Structures.{Structure}
 use Rattle.rule_model.specs.Mothers.{RuleSystem, Agrees}
 use Rattle.rule_model.specs.Laws.{rules_full}
-use Rattle.item_model.specs.Signs.{Signs, rule_system}
+use Rattle.item_model.specs.Signs.{rule_system}
 use Rattle.item_model.specs.Lexical.{Words}
 use Rattle.packed_items.specs.Packed.{Fit, IsFound}
 use Rattle.packed_items.specs.declared.Found.{Found}
@@ -32,7 +32,6 @@ use Rattle.counted_shapes.specs.Counted.{count_calculus, own_at}
 use Rattle.counted_shapes.specs.Views.{shapes_in, bound_in, own_in}
 use Rattle.generate_model.specs.Contributions.{Input}
 use Rattle.generate_model.specs.Pruning.{pruned}
-use Rattle.generate_model.specs.Sentences.{GenAnswer}
 use Rattle.generated_leaves.specs.Leaves.{WordLeaf}
 use Rattle.realized_trees.specs.Laws.{bare, WhollyAccepted}
 use Rattle.realized_trees.specs.Wholes.{wholes_of, IsLeafAt}

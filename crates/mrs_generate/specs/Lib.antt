@@ -3,3 +3,4 @@ pub mod Views
 pub mod Contributors
 pub mod Laws
 pub mod Inner
+pub mod Grammars

@@ -1,35 +1,25 @@
 //! Sentences for an MRS.
 
-ghost use Rattle.std.specs.Prelude.{◌≡◌, length, map, IfOk};
+ghost use Rattle.std.specs.Prelude.{IfOk};
 ghost use Rattle.chart_core.specs.Kept.{InRange};
 ghost use Rattle.mrs_model.specs.Valid.{IsValid};
 ghost use Rattle.mrs_model.specs.Views.{meaning_of};
-ghost use Rattle.mrs_places.specs.Paths.{feature_of, paths_of};
-ghost use Rattle.mrs_extract.specs.Asked.{ArePaths};
-ghost use Rattle.grammar_rules.specs.Lines.{AreShapesOf};
-ghost use Rattle.mrs_generate.specs.Answers.{IsAnswerTo};
-ghost use Rattle.mrs_generate.specs.Contributors.{AreContributors};
+ghost use Rattle.mrs_generate.specs.Grammars.{IsGenGrammar, IsMrsAnswer};
 ghost use Rattle.mrs_generate.specs.Views.{answer_seen};
 
-use crate::answering::answer_over;
+use crate::answering::{Leafed, answer_alone, answer_over};
 use crate::asking::{bag_of, bound_of};
-use crate::contributors::Contributors;
+use crate::grammar::GenGrammar;
 use crate::{GenAnswer, NoMemory};
-use book_signs::SignBook;
 use chart_core::Limits;
-use chart_workers::{Crew, Rank};
-use fs_unify::Scratch;
+use chart_workers::Rank;
 use generated_leaves::{GenLeaves, leaves_of};
-use grammar_rules::LineWork;
-use grammar_shapes::GrammarShapes;
+use grammar_rules::{Desk, LineWork, Search};
 use lexical_items::LexicalFulls;
-use lexicon::Lexicon;
 use mrs_model::Mrs;
-use mrs_places::{MrsFeat, MrsPaths};
 use rule_contributions::rule_laws;
 use rule_trees::SignFulls;
 use sieve::{Filter, Sieve};
-use spelling_rules::Spelling;
 use std::alloc::Global;
 use std::sync::Wait;
 use std::thread::Threads;
@@ -42,69 +32,87 @@ use worker_gate::Gate;
 /// A tree realizes the MRS whose own MRS equals it up to renamed variables, and whose words and rules together contribute exactly its
 /// predicates, with at most `limits.empty` words that contribute none.
 ///
-/// `shapes` and `contributors` are made of the signs, once for a grammar; `contributors` by this lexicon, spelling and `c_cont`, which are
-/// named here so that it can be said what they are.
-///
-/// `sieves` are asked before anything is unified; with none, types are compared at the paths of `shapes`. The workers of `crew` make
-/// the edges, in the order of `priority`. No sieve, no priority, the number of workers nor the gate changes an answer: none of them
+/// The sieves are asked before anything is unified; with none, types are compared at the paths of the shapes. The workers of the desk make
+/// the edges, in the order of the priority. No sieve, no priority, the number of workers nor the gate changes an answer: none of them
 /// occurs in what is answered. An MRS with more predicates than a `u32` can number counts as want of memory.
 /// `NoMemory` may come in place of any answer.
-pub fn generate<'a, R: Wait + Threads + Sync, F: Filter + Send + Sync, P: Rank + Sync>(
+pub fn generate<R: Wait + Threads + Sync, F: Filter + Send + Sync, P: Rank + Sync>(
     rt: &R,
     alloc: Global,
-    work: &mut LineWork,
-    crew: &mut Crew<Scratch>,
-    signs: &'a SignBook<'a>,
-    shapes: &GrammarShapes<'_>,
-    lexicon: &Lexicon,
-    spelling: &Spelling,
-    contributors: &Contributors,
-    paths: &'a MrsPaths,
-    c_cont: &[MrsFeat],
-    mrs: &'a Mrs,
-    limits: &Limits,
-    sieves: &[Sieve<F>],
-    priority: &P,
+    desk: &mut Desk,
+    grammar: &GenGrammar<'_, '_>,
+    mrs: &Mrs,
+    search: &Search<'_, F, P>,
     gate: &dyn Gate,
 ) -> Result<GenAnswer, NoMemory>
-    requires shapes { AreShapesOf signs.now shapes.now }
-    requires contributors { AreContributors signs.now lexicon.now spelling.now (paths_of paths.now) (map feature_of c_cont.now) limits.now.lexical contributors.now }
-    requires paths { ArePaths signs.now.book.system.types (paths_of paths.now) }
-    requires feats { length (paths_of paths.now).feats ≡ length signs.now.book.system.introducers }
+    requires grammar { IsGenGrammar search.now.limits.now.lexical grammar.now }
     requires valid { IsValid (meaning_of mrs.now) }
-    requires limits { InRange limits.now }
-    ensures { IfOk result (λ a. IsAnswerTo signs.now lexicon.now spelling.now (paths_of paths.now) (map feature_of c_cont.now) (meaning_of mrs.now) limits.now (answer_seen a)) }
+    requires limits { InRange search.now.limits.now }
+    ensures { IfOk result (λ a. IsMrsAnswer grammar.now (meaning_of mrs.now) search.now.limits.now (answer_seen a)) }
 {
     rule_laws();
-    let lexical = SignFulls { signs };
+    let lexical = SignFulls {
+        signs: grammar.signs,
+    };
+    lexical.laws();
+    let bag = bag_of(alloc, mrs)?;
+    let bound = bound_of(alloc, mrs, &bag, search.limits.empty)?;
+    let contributors = grammar.contributors;
+    match leaves_of(
+        alloc,
+        &contributors.told,
+        &bag,
+        &bound,
+        search.limits.lexical,
+    )? {
+        GenLeaves::TooDeep => Ok(GenAnswer::LexicalDepth),
+        GenLeaves::Leaves(leaves) => {
+            let own = contributors.rules.own(alloc, &bag)?;
+            let leafed = Leafed {
+                mrs,
+                leaves: &leaves,
+                bound: &bound,
+                own,
+            };
+            answer_over(rt, alloc, desk, grammar, leafed, search, gate)
+        }
+    }
+}
+
+/// What `generate` answers, by one worker, who makes smaller edges first. Nobody is waited for and no thread is started, so that this call
+/// returns.
+pub fn generate_alone<F: Filter>(
+    alloc: Global,
+    work: &mut LineWork,
+    grammar: &GenGrammar<'_, '_>,
+    mrs: &Mrs,
+    limits: &Limits,
+    sieves: &[Sieve<F>],
+) -> Result<GenAnswer, NoMemory>
+    requires grammar { IsGenGrammar limits.now.lexical grammar.now }
+    requires valid { IsValid (meaning_of mrs.now) }
+    requires limits { InRange limits.now }
+    ensures { IfOk result (λ a. IsMrsAnswer grammar.now (meaning_of mrs.now) limits.now (answer_seen a)) }
+{
+    rule_laws();
+    let lexical = SignFulls {
+        signs: grammar.signs,
+    };
     lexical.laws();
     let bag = bag_of(alloc, mrs)?;
     let bound = bound_of(alloc, mrs, &bag, limits.empty)?;
+    let contributors = grammar.contributors;
     match leaves_of(alloc, &contributors.told, &bag, &bound, limits.lexical)? {
         GenLeaves::TooDeep => Ok(GenAnswer::LexicalDepth),
         GenLeaves::Leaves(leaves) => {
             let own = contributors.rules.own(alloc, &bag)?;
-            answer_over(
-                rt,
-                alloc,
-                work,
-                crew,
-                signs,
-                shapes,
-                lexicon,
-                spelling,
-                paths,
-                &contributors.list,
-                c_cont,
+            let leafed = Leafed {
                 mrs,
-                &leaves,
-                &bound,
+                leaves: &leaves,
+                bound: &bound,
                 own,
-                limits,
-                sieves,
-                priority,
-                gate,
-            )
+            };
+            answer_alone(alloc, work, grammar, leafed, limits, sieves)
         }
     }
 }

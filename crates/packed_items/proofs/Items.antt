@@ -9,14 +9,14 @@ use Rattle.chart_core.specs.Kept.{limits_seen}
 use Rattle.forest_model.specs.Forest.{Agree, AreApart, IsLexical}
 use Rattle.derivation.specs.Views.{derivation_of}
 use Rattle.rule_model.specs.Structures.{Structure}
-use Rattle.rule_model.specs.Mothers.{Rule, IsFull, IsFullAt, Agrees, arity_at}
+use Rattle.rule_model.specs.Mothers.{Rule, IsFullAt, Agrees, arity_at}
 use Rattle.rule_model.specs.Laws.{rules_full}
 use Rattle.rule_model.proofs.Closures.{closure_ends, kept_ends}
 use Rattle.rule_model.proofs.AllLaws.{leaves_agree}
 use Rattle.item_model.specs.Signs.{Signs, Instance, is_phrase_rule, phrase_rules, placed_rules, place_at, rule_system}
 use Rattle.item_model.specs.Items.{Item, IsItem, LeafTree, AreLeaves, calculus, leaves_from}
 use Rattle.item_model.specs.Forests as item
-use Rattle.item_model.proofs.Places.{leaf_from, map_got, get_found}
+use Rattle.item_model.proofs.Places.{leaf_from, get_found}
 use Rattle.item_model.proofs.Once.{one_structure}
 use Rattle.packed_items.specs.Packed.{Fit, IsPackedWithin, IsFound}
 use Rattle.packed_items.specs.Answers.{limits_in, answer_of}

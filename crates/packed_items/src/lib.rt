@@ -3,17 +3,19 @@
 //! A packed chart and its unpacking: Oepen and Carroll 2000.
 #![tactic(auto)]
 
+mod alone;
 mod sieving;
 
-ghost use Rattle.std.specs.Prelude.{◌≡◌, All, IfOk, MatchResult, map};
+ghost use Rattle.std.specs.Prelude.{◌≡◌, All, IfOk, map};
 ghost use Rattle.chart_model.specs.Limits.{IsLimitAnswer, Within};
 ghost use Rattle.chart_core.specs.CoreView.{leaves_of, limits_of};
 ghost use Rattle.chart_core.specs.Grammar.{grammar_of};
 ghost use Rattle.chart_core.specs.Kept.{InRange, core_of, limits_seen, pending_of};
 ghost use Rattle.chart_core.specs.Leaves.{LeafBelongs, leaf_seen};
-ghost use Rattle.chart_core.specs.Passed.{IsPassed, IsPassFault};
+ghost use Rattle.chart_core.specs.Passed.{IsPassed};
 ghost use Rattle.packed_items.specs.Packed.{Fit, IsFound};
 
+pub use alone::{Work, answer_remembered_alone, answer_sieved_alone};
 use chart_core::{ChartFault, Finished, Leaf, Limits, ordered_pass};
 use chart_workers::{Crew, Rank, saturate};
 use cover::Shapes;
@@ -42,36 +44,28 @@ pub enum Found {
 #[derive(Debug, Drop, Clone, Copy, PartialEq, Eq)]
 pub struct NoMemory;
 
-// Finishes the chart over these leaves. Where smaller hosts are to come first, the ordered pass does so on the caller's thread,
-// however many workers there are: a turn at a shared chart costs more than most of its tasks, and this pass stops at the least size by
-// which a limit is broken. In any other order all workers do so together, one of them on the caller's thread.
-fn finish_chart<R: Wait + Threads + Sync, S: Shapes + Send + Sync, P: Rank + Sync>(
-    rt: &R,
+/// Finishes the chart over these leaves, smaller hosts first, and unpacks it: what `answer_leaves` finds, on the caller's thread. It stops
+/// at the least size by which a limit is broken.
+pub(crate) fn answer_in_order<S: Shapes, F: Fulls<Cover = S::Cover>>(
     alloc: Global,
-    leaves: Vec<Leaf<S>>,
     shapes: &S,
     work: &mut S::Work,
-    crew: &mut Crew<S::Work>,
-    priority: &P,
+    trees: &mut F::Work,
+    leaves: Vec<Leaf<S>>,
+    fulls: &F,
     limits: &Limits,
-    gate: &dyn Gate,
-) -> Result<Finished<S>, ChartFault>
-where
-    S::Shape: Send + Sync,
-    S::Cover: Send + Sync,
-    S::Work: Send + Sync,
+) -> Result<Found, NoMemory>
     requires limits { InRange limits.now }
     requires leaves { All (LeafBelongs (S.calculus shapes.now) (S.belongs shapes.now)) leaves.items }
-    ensures { MatchResult result
-        (IsPassed (grammar_of S.Shapes S.Cover.Cover.own shapes.now) (S.full shapes.now) (S.agrees shapes.now) (limits_seen limits.now) (map (leaf_seen (S.meaning shapes.now)) leaves.items))
-        (IsPassFault (S.calculus shapes.now) (limits_seen limits.now) (map (leaf_seen (S.meaning shapes.now)) leaves.items)) }
+    requires fit { Fit (S.calculus shapes.now) (S.full shapes.now) (S.agrees shapes.now) (F.wholes fulls.now) (F.named fulls.now) (F.ruled fulls.now) (map (leaf_seen (S.meaning shapes.now)) leaves.items) }
+    ensures { IfOk result (IsFound (S.calculus shapes.now) (S.full shapes.now) (S.agrees shapes.now) (F.wholes fulls.now) limits.now (map (leaf_seen (S.meaning shapes.now)) leaves.items)) }
 {
-    if priority.is_by_size() {
-        return ordered_pass(alloc, leaves, shapes, work, limits);
+    match ordered_pass(alloc, leaves, shapes, work, limits) {
+        Ok(finished) => answer_chart(alloc, shapes, trees, &finished, fulls, limits),
+        Err(ChartFault::UnaryChain { .. }) => Ok(Found::UnaryChain),
+        Err(ChartFault::Edges { .. }) => Ok(Found::Edges),
+        Err(ChartFault::NoMemory) => Err(NoMemory),
     }
-    saturate(
-        rt, alloc, leaves, shapes, work, crew, priority, limits, gate,
-    )
 }
 
 /// Finishes the chart over these leaves, by the workers of `crew`, and unpacks it.
@@ -81,6 +75,9 @@ where
 /// trees that `fulls` asks for, or that there are more than `limits.readings` of them. Workers, the order of their tasks and
 /// the gate change no answer. `work` is the scratch of shapes and chart, and `trees` that of full structures. `NoMemory` may come
 /// in place of any answer.
+///
+/// Where smaller hosts are to come first, the caller's thread finishes the chart, however many workers there are: a turn at a shared
+/// chart costs more than most of its tasks.
 pub fn answer_leaves<
     R: Wait + Threads + Sync,
     S: Shapes + Send + Sync,
@@ -108,7 +105,10 @@ where
     requires fit { Fit (S.calculus shapes.now) (S.full shapes.now) (S.agrees shapes.now) (F.wholes fulls.now) (F.named fulls.now) (F.ruled fulls.now) (map (leaf_seen (S.meaning shapes.now)) leaves.items) }
     ensures { IfOk result (IsFound (S.calculus shapes.now) (S.full shapes.now) (S.agrees shapes.now) (F.wholes fulls.now) limits.now (map (leaf_seen (S.meaning shapes.now)) leaves.items)) }
 {
-    match finish_chart(
+    if priority.is_by_size() {
+        return answer_in_order(alloc, shapes, work, trees, leaves, fulls, limits);
+    }
+    match saturate(
         rt, alloc, leaves, shapes, work, crew, priority, limits, gate,
     ) {
         Ok(finished) => answer_chart(alloc, shapes, trees, &finished, fulls, limits),

@@ -1,7 +1,7 @@
 use Rattle.std.proofs.Common.{sym, subst}
 use Rattle.rule_trees.specs.Mothers.{view_in}
 use Rattle.grammar_rules.specs.Remembered.{MemoryTree, IsFullShape}
-use Rattle.grammar_rules.proofs.parsing.leaf_shape.Goals as goal
+use Rattle.grammar_rules.proofs.leaves.leaf_shape.Goals as goal
 
 pub keep-requires : goal.keep-requires
 keep-requires c =

@@ -6,7 +6,7 @@ use Rattle.grammar_shapes.specs.Spanned.{span_calculus}
 use Rattle.rule_trees.specs.Mothers.{view_in}
 use Rattle.lexical_items.specs.Views.{lexeme_seen}
 use Rattle.grammar_rules.proofs.Calls.{leaf_lined, all_more}
-use Rattle.grammar_rules.proofs.parsing.add_leaf.Goals as goal
+use Rattle.grammar_rules.proofs.leaves.add_leaf.Goals as goal
 
 pub returns-clause-lined : goal.returns-clause-lined
 returns-clause-lined c = λ xs h.

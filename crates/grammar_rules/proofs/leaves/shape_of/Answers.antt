@@ -8,7 +8,7 @@ use Rattle.rule_model.specs.Views.{view, source_alone}
 use Rattle.grammar_shapes.specs.Ruled.{paths_in}
 use Rattle.grammar_shapes.specs.Systems.{grammar_of, rules_of, meaning_of}
 use Rattle.grammar_rules.proofs.Calls.{shape_sound, shape_is}
-use Rattle.grammar_rules.proofs.parsing.shape_of.Goals as goal
+use Rattle.grammar_rules.proofs.leaves.shape_of.Goals as goal
 
 pub shape-requires-clause-consistent : goal.shape-requires-clause-consistent
 shape-requires-clause-consistent c =

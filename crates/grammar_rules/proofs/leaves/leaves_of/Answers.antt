@@ -11,7 +11,7 @@ use Rattle.lexical_items.specs.Views.{lexeme_seen}
 use Rattle.grammar_rules.specs.Lined.{AreLined}
 use Rattle.grammar_rules.proofs.Lined.{lined_none}
 use Rattle.grammar_rules.proofs.Calls.{all_at, next_seen, all_seen}
-use Rattle.grammar_rules.proofs.parsing.leaves_of.Goals as goal
+use Rattle.grammar_rules.proofs.leaves.leaves_of.Goals as goal
 
 pub loop-tree-init : goal.loop-tree-init
 loop-tree-init c = record {

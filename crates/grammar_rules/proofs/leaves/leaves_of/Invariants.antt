@@ -6,7 +6,7 @@ use Rattle.grammar_shapes.specs.Spanned.{span_calculus}
 use Rattle.rule_trees.specs.Mothers.{view_in}
 use Rattle.lexical_items.specs.Views.{lexeme_seen}
 use Rattle.grammar_rules.specs.Lined.{AreLined}
-use Rattle.grammar_rules.proofs.parsing.leaves_of.Given as goal
+use Rattle.grammar_rules.proofs.leaves.leaves_of.Given as goal
 
 abbrev pub invariant-loop-tree : goal.invariant-loop-tree
 invariant-loop-tree l =

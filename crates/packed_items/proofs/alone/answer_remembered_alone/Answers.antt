@@ -1,0 +1,18 @@
+use Rattle.std.proofs.Common.{All, IfOk, map, sym, subst}
+use Rattle.chart_core.specs.Leaves.{leaf_seen, LeafBelongs}
+use Rattle.packed_items.specs.Packed.{Fit, IsFound}
+use Rattle.packed_items.proofs.alone.answer_remembered_alone.Goals as goal
+
+pub answer_sieved_alone-requires-clause-leaves : goal.answer_sieved_alone-requires-clause-leaves
+answer_sieved_alone-requires-clause-leaves g c =
+    subst (λ s. All (LeafBelongs (g.S.Shapes.calculus s) (g.S.Shapes.belongs s)) c.args.leaves.items) (sym c.shapes-plain.ensures) c.requires.leaves
+
+pub answer_sieved_alone-requires-clause-fit : goal.answer_sieved_alone-requires-clause-fit
+answer_sieved_alone-requires-clause-fit g c =
+    let f = c.args.fulls.now in
+    subst (λ s. Fit (g.S.Shapes.calculus s) (g.S.Shapes.full s) (g.S.Shapes.agrees s) (g.G.Fulls.wholes f) (g.G.Fulls.named f) (g.G.Fulls.ruled f) (map (leaf_seen (g.S.Shapes.meaning s)) c.args.leaves.items)) (sym c.shapes-plain.ensures) c.requires.fit
+
+pub returns-then-is_full : goal.returns-then-is_full
+returns-then-is_full g c =
+    subst (λ s. IfOk c.answer_sieved_alone.result (IsFound (g.S.Shapes.calculus s) (g.S.Shapes.full s) (g.S.Shapes.agrees s) (g.G.Fulls.wholes c.args.fulls.now) c.args.limits.now (map (leaf_seen (g.S.Shapes.meaning s)) c.args.leaves.items)))
+    c.shapes-plain.ensures c.answer_sieved_alone.ensures

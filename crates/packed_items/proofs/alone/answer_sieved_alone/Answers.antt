@@ -1,0 +1,9 @@
+use Rattle.std.proofs.Common.{IfOk, map, subst}
+use Rattle.chart_core.specs.Leaves.{leaf_seen}
+use Rattle.packed_items.specs.Packed.{IsFound}
+use Rattle.packed_items.proofs.alone.answer_sieved_alone.Goals as goal
+
+pub returns : goal.returns
+returns g c =
+    subst (λ s. IfOk c.over_alone.result (IsFound (g.S.Shapes.calculus s) (g.S.Shapes.full s) (g.S.Shapes.agrees s) (g.G.Fulls.wholes c.args.fulls.now) c.args.limits.now (map (leaf_seen (g.S.Shapes.meaning s)) c.args.leaves.items)))
+    c.in-Ok.ensures c.over_alone.ensures
