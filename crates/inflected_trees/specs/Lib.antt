@@ -1,3 +1,4 @@
 pub mod Inflected
+pub mod Forms
 pub mod Views
 pub mod Inner

@@ -4,7 +4,8 @@ ghost use Rattle.std.specs.Prelude.{◌≡◌, ◌<◌, map, length, IfOk, OnOk,
 ghost use Rattle.spelling_rules.specs.Forms.{HasForm};
 ghost use Rattle.spelling_rules.specs.Trees.{AreBound};
 ghost use Rattle.word_lists.specs.Words.{Has};
-ghost use Rattle.inflected_trees.specs.Inner.Routes.{Puts, AreFormsOf};
+ghost use Rattle.inflected_trees.specs.Forms.{AreFormsOf};
+ghost use Rattle.inflected_trees.specs.Inner.Routes.{Puts};
 
 use crate::NoMemory;
 use spelling_rules::Spelling;
@@ -42,7 +43,7 @@ fn put_forms(
 }
 
 /// The forms of some words under a rule, each once, in byte order. No rule takes an empty word.
-pub(crate) fn forms_of(
+pub fn forms_of(
     alloc: Global,
     spelling: &Spelling,
     rule: u32,

@@ -17,6 +17,7 @@ mod routes;
 mod tree;
 mod trees;
 
+pub use forms::forms_of;
 use lexical_items::LexicalFulls;
 use lexicon::Lexicon;
 use morph_analysis::Feeds;

@@ -10,7 +10,7 @@ use Rattle.fs_unify.specs.Rules.{Grammar, system_of}
 use Rattle.fs_unify.specs.Owing.{OwedFacts, OwedRules, IsWellFormedBut, ListsOwed, owes_nothing, owes_rules}
 use Rattle.fs_unify.specs.Placing.{PlacedGraph, IsPlacedIn, part_of, source_of}
 use Rattle.fs_trim.specs.Cutting.{IsShort}
-use Rattle.rule_model.specs.Mothers.{Rule, IsFullAt, IsFull, daughters_cut}
+use Rattle.rule_model.specs.Mothers.{Rule, IsFull, IsFullAt, Applies, AppliesAt, daughters_cut}
 use Rattle.rule_model.specs.Views.{view, IsInside, AllInside, inside_none, inside_more, IsTrimmed, parts_at, source_alone, source_of as source_at}
 use Rattle.rule_model.proofs.PathLemmas.{has_path_below}
 use Rattle.rule_model.specs.Said.{rule_said}
@@ -86,12 +86,12 @@ made t owed place structure places ds parts o facts at own short are trimmed kno
     source = ap source_of are ∙ same_source owed structure places ds
 
     by_answer : (o : Option GraphMap) → IsTrimmed (system_of t.book.system) (source_of parts) [] (daughters_cut (rule_system (signs_of t))) (option_map reader_of o) → IfSome o (IsShort t.book.system) → IsMotherOf t place ds o
-    by_answer None clash known = λ f is.
-        let z : IsFullAt (rule_system (signs_of t)) (Some (rule_by t structure places)) (map (view_in t) ds) f = subst (λ r. IsFullAt (rule_system (signs_of t)) r (map (view_in t) ds) f) rule is in
-        let y : IsFull (rule_system (signs_of t)) (rule_by t structure places) (map (view (signs_of t).paths) (map reader_of ds)) f = subst (λ fs. IsFull (rule_system (signs_of t)) (rule_by t structure places) fs f) (sym (fused t ds)) z in
+    by_answer None clash known = λ may.
+        let z : AppliesAt (rule_system (signs_of t)) (Some (rule_by t structure places)) (map (view_in t) ds) = subst (λ r. AppliesAt (rule_system (signs_of t)) r (map (view_in t) ds)) rule may in
+        let y : Applies (rule_system (signs_of t)) (rule_by t structure places) (map (view (signs_of t).paths) (map reader_of ds)) = subst (λ fs. Applies (rule_system (signs_of t)) (rule_by t structure places) fs) (sym (fused t ds)) z in
         let refused = subst (λ src. IsConsistent (system_of t.book.system) (Told src) → ⊥) source clash in
         none_applies (rule_system (signs_of t)) (rule_by t structure places) (map reader_of ds) (all_inside t ds short)
-        (λ ok. refused ((said_is_consistent (system_of t.book.system) (signs_of t).paths (reader_of structure) places (map reader_of ds) (inside t structure own)).1 ok)) y.0
+        (λ ok. refused ((said_is_consistent (system_of t.book.system) (signs_of t).paths (reader_of structure) places (map reader_of ds) (inside t structure own)).1 ok)) y
     by_answer (Some graph) is known =
         let by_graph = subst (λ src. IsTrimmed (system_of t.book.system) src [] (daughters_cut (rule_system (signs_of t))) (Some (reader_of graph))) source is in
         let z = trimmed_full (rule_system (signs_of t)) (rule_by t structure places) (map reader_of ds) (reader_of graph) (all_inside t ds short) (inside t graph known)

@@ -7,8 +7,10 @@ use Rattle.constraint_expand.specs.declared.books.Book.{Book}
 use Rattle.type_hierarchy.specs.Table.{count_of}
 use Rattle.fs_graph.specs.GraphMap.{GraphMap}
 use Rattle.rule_model.specs.Structures.{Structure}
-use Rattle.book_signs.specs.Trees.{SignTree, signs_of}
-use Rattle.rule_trees.specs.Mothers.{IsShortIn, IsMother, IsMotherOf, view_in}
+use Rattle.book_signs.specs.Trees.{SignTree, signs_of, rule_at}
+use Rattle.rule_model.specs.Mothers.{Rule, IsFullAt, AppliesAt}
+use Rattle.item_model.specs.Signs.{Signs, rule_system}
+use Rattle.rule_trees.specs.Mothers.{IsShortIn, IsMother, IsMotherOf, AppliesTo, view_in}
 use Rattle.rule_trees.specs.Bounded.{IsWithin}
 
 pub within_of : (t : SignTree) (types feats limit : ℕ) (x : GraphMap) → types ≡ count_of t.book.system.types → feats ≡ length t.book.system.introducers → limit ≡ t.book.system.path_limit → IsShortIn t x → IsWithin types feats limit x
@@ -36,8 +38,15 @@ all_none P xs is = subst (All P) (sym is) (λ k d l. absurd (omega (arith, l)))
 pub mother_told : (t : SignTree) (place : ℕ) (ds : List GraphMap) (o : Option GraphMap) (x : GraphMap) → o ≡ Some x → IsMotherOf t place ds o → IsMother (signs_of t) place (map (view_in t) ds) (view_in t x)
 mother_told t place ds o x e m = (subst (IsMotherOf t place ds) e m).0
 
+pub never_applies : (t : SignTree) (place : ℕ) (ds : List GraphMap) (o : Option GraphMap) → o ≡ None → IsMotherOf t place ds o → AppliesTo (signs_of t) place (map (view_in t) ds) → ⊥
+never_applies t place ds o e m = subst (IsMotherOf t place ds) e m
+
+full_applies : (g : Signs) (o : Option Rule) (fs : List Structure) (f : Structure) → IsFullAt (rule_system g) o fs f → AppliesAt (rule_system g) o fs
+full_applies g None fs f h = h
+full_applies g (Some rule) fs f h = h.0
+
 pub no_mother : (t : SignTree) (place : ℕ) (ds : List GraphMap) (o : Option GraphMap) → o ≡ None → IsMotherOf t place ds o → (f : Structure) → IsMother (signs_of t) place (map (view_in t) ds) f → ⊥
-no_mother t place ds o e m = subst (IsMotherOf t place ds) e m
+no_mother t place ds o e m f h = never_applies t place ds o e m (full_applies (signs_of t) (rule_at (signs_of t) place) (map (view_in t) ds) f h)
 
 -- the views of daughters, by their graphs
 pub views_of : {T : Type 0} (t : SignTree) (graph : T → GraphMap) (ds : List GraphMap) (fulls : List T) → ds ≡ map graph fulls → map (view_in t) ds ≡ map (λ f. view_in t (graph f)) fulls

@@ -3,7 +3,7 @@ use Rattle.std.specs.Prelude.{ℕ, ◌≡◌, Option, Some, None, List, map, len
 use Rattle.fs_graph.specs.GraphMap.{GraphMap, reader_of}
 use Rattle.fs_trim.specs.Cutting.{IsShort}
 use Rattle.rule_model.specs.Structures.{Structure}
-use Rattle.rule_model.specs.Mothers.{Rule, IsFull, IsFullAt}
+use Rattle.rule_model.specs.Mothers.{Rule, IsFull, IsFullAt, AppliesAt}
 use Rattle.rule_model.specs.Views.{view}
 use Rattle.item_model.specs.Signs.{Instance, Signs, rule_system}
 use Rattle.item_model.specs.Lexical.{IsEntry}
@@ -17,6 +17,10 @@ view_in t graph = view (signs_of t).paths (reader_of graph)
 abbrev pub IsMother : Signs → ℕ → List Structure → Structure → Type 0
 IsMother g place fs f = IsFullAt (rule_system g) (rule_at g place) fs f
 
+-- the rule at a place applies to its daughters' full structures
+abbrev pub AppliesTo : Signs → ℕ → List Structure → Type 0
+AppliesTo g place fs = AppliesAt (rule_system g) (rule_at g place) fs
+
 -- a full structure is an entry's, or what a rule makes of some
 pub data IsMade (g : Signs) (f : Structure) : Type 0 where
   made_entry : (entry : ℕ) → IsEntry g entry f → IsMade g f
@@ -26,9 +30,9 @@ pub data IsMade (g : Signs) (f : Structure) : Type 0 where
 abbrev pub IsShortIn : SignTree → GraphMap → Type 0
 IsShortIn t graph = IsShort t.book.system graph
 
--- the full structure that the rule at a place makes of its daughters', or that there is none
+-- the full structure that the rule at a place makes of its daughters', or that it doesn't apply to them
 abbrev pub IsMotherOf : SignTree → ℕ → List GraphMap → Option GraphMap → Type 0
-IsMotherOf t place daughters None = (f : Structure) → IsMother (signs_of t) place (map (view_in t) daughters) f → ⊥
+IsMotherOf t place daughters None = AppliesTo (signs_of t) place (map (view_in t) daughters) → ⊥
 IsMotherOf t place daughters (Some graph) = IsMother (signs_of t) place (map (view_in t) daughters) (view_in t graph) × IsShortIn t graph
 
 -- at a place stands an instance with so many daughters

@@ -1,10 +1,10 @@
 //! Mothers over daughters' full structures.
 
-ghost use Rattle.std.specs.Prelude.{◌≡◌, ◌++◌, map, All, IfOk, OnOk, MatchOption};
+ghost use Rattle.std.specs.Prelude.{◌≡◌, ◌++◌, map, All, IfOk, OnOk, MatchOption, None};
 ghost use Rattle.rule_model.specs.Structures.{Structure};
 ghost use Rattle.forest_unpack.specs.Parts.{AreParts, parts_of};
 ghost use Rattle.book_signs.specs.Trees.{signs_of};
-ghost use Rattle.rule_trees.specs.Mothers.{IsShortIn, IsMade, IsMother, view_in, HasDaughters};
+ghost use Rattle.rule_trees.specs.Mothers.{IsShortIn, IsMade, IsMother, AppliesTo, view_in, HasDaughters};
 ghost use Rattle.rule_trees.specs.Inner.Placed.{full_in};
 
 use crate::NoMemory;
@@ -53,7 +53,7 @@ fn in_order<'x>(
 }
 
 /// The full structure under the rule at a place, lexical or phrase, over its daughters' full structures, by the part of it that isn't a
-/// daughter's; none exactly where there is none (Copestake 2002: a mother loses her daughters). There is a structure for each of the
+/// daughter's; none exactly where the rule doesn't apply to these (Copestake 2002: a mother loses her daughters). There is a structure for each of the
 /// rule's daughters, each an entry's or made by a rule. Whatever the scratch holds, the answer is the same.
 pub fn mother_of(
     alloc: Global,
@@ -65,9 +65,10 @@ pub fn mother_of(
     requires parts { AreParts parts.now }
     requires made { All (λ f. IsMade (signs_of signs.now) (view_in signs.now f.graph)) (parts_of parts.now) }
     requires rule { HasDaughters (signs_of signs.now) place parts.now.count }
-    ensures { IfOk result (λ o. MatchOption o
+    ensures full { IfOk result (λ o. MatchOption o
         ((v : Structure) → IsMother (signs_of signs.now) place (map (λ f. view_in signs.now f.graph) (parts_of parts.now)) v → ⊥)
         (λ full. IsMother (signs_of signs.now) place (map (λ f. view_in signs.now f.graph) (parts_of parts.now)) (view_in signs.now full.graph))) }
+    ensures never { IfOk result (λ o. o ≡ None → AppliesTo (signs_of signs.now) place (map (λ f. view_in signs.now f.graph) (parts_of parts.now)) → ⊥) }
 {
     let daughters = in_order(alloc, signs, parts)?;
     match made(alloc, work, signs, place, &daughters)? {

@@ -4,7 +4,6 @@ use Rattle.std.specs.Arc.{arc_value}
 use Rattle.word_lists.specs.Words.{Word, Has, Rises}
 use Rattle.lexicon.specs.Entries.{EntryTree}
 use Rattle.spelling_rules.specs.Trees.{SpellingTree}
-use Rattle.spelling_rules.specs.Forms.{HasForm}
 use Rattle.derivation.specs.Trees.{lexical}
 use Rattle.rule_model.specs.Structures.{Structure}
 use Rattle.item_model.specs.Signs.{Signs}
@@ -12,6 +11,7 @@ use Rattle.item_model.specs.Lexical.{FullLexical}
 use Rattle.morph_analysis.specs.Chains.{Leads, Spells}
 use Rattle.lexical_items.specs.Places.{place_in}
 use Rattle.inflected_trees.specs.Inflected.{WordTree}
+pub use Rattle.inflected_trees.specs.Forms.{OfWords, AreFormsOf}
 use Rattle.inflected_trees.specs.Inner.Keyed.{AreOf}
 use Rattle.inflected_trees.specs.declared.route.Route.{Route}
 
@@ -51,16 +51,6 @@ pub record Puts (P : Word → Type 0) (old new : List Word) : Type 0 where
   pub kept : (x : Word) → Has x old → Has x new
   pub added : (x : Word) → P x → Has x new
   pub only : (x : Word) → Has x new → Has x old ⊎ P x
-
--- a rule makes this form of one of some words
-abbrev pub OfWords : SpellingTree → ℕ → List Word → Word → Type 0
-OfWords s rule words x = (w : Word) × Has w words × (0 < length w) × HasForm s rule w x
-
--- the forms of some words under a rule, rising
-pub record AreFormsOf (s : SpellingTree) (rule : ℕ) (words forms : List Word) : Type 0 where
-  pub rises : Rises forms
-  pub all : (x : Word) → OfWords s rule words x → Has x forms
-  pub have : (x : Word) → Has x forms → OfWords s rule words x
 
 module _ (lexicon : List EntryTree) (s : SpellingTree) where
   -- rules lead the last word of an entry to this word

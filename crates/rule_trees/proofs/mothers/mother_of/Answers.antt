@@ -1,17 +1,24 @@
 use Rattle.std.proofs.Common.{◌∙◌, All, Some, map, ap, sym, subst}
 use Rattle.book_signs.specs.Trees.{signs_of}
 use Rattle.forest_unpack.specs.Parts.{parts_of}
-use Rattle.rule_trees.specs.Mothers.{IsMother, IsMotherOf, IsShortIn, view_in}
-use Rattle.rule_trees.proofs.WithinLemmas.{no_mother, views_of}
+use Rattle.rule_trees.specs.Mothers.{IsMother, IsMotherOf, AppliesTo, IsShortIn, view_in}
+use Rattle.rule_trees.proofs.WithinLemmas.{never_applies, no_mother, views_of}
 use Rattle.rule_trees.proofs.OweLemmas.{all_owe}
 use Rattle.rule_trees.proofs.mothers.mother_of.Goals as goal
 
-pub returns : goal.returns
-returns c v m =
+pub returns-clause-full : goal.returns-clause-full
+returns-clause-full c v m =
     let t = c.args.signs.now in
     let ds = map (λ d. d.now) c.deref.result.now in
     no_mother t c.args.place ds c.in_ok-graph.field-0 c.in-None.is c.in_ok-graph.ensures v
     (subst (λ fs. IsMother (signs_of t) c.args.place fs v) (sym (views_of t (λ f. f.graph) ds (parts_of c.args.parts.now) (ap (map (λ d. d.now)) c.deref.ensures.value ∙ c.in_ok-daughters.ensures.all))) m)
+
+pub returns-clause-never : goal.returns-clause-never
+returns-clause-never c e h =
+    let t = c.args.signs.now in
+    let ds = map (λ d. d.now) c.deref.result.now in
+    never_applies t c.args.place ds c.in_ok-graph.field-0 c.in-None.is c.in_ok-graph.ensures
+    (subst (AppliesTo (signs_of t) c.args.place) (sym (views_of t (λ f. f.graph) ds (parts_of c.args.parts.now) (ap (map (λ d. d.now)) c.deref.ensures.value ∙ c.in_ok-daughters.ensures.all))) h)
 
 pub made-requires-clause-short : goal.made-requires-clause-short
 made-requires-clause-short c = subst (λ xs. All (IsShortIn c.args.signs.now) (map (λ d. d.now) xs)) (sym c.deref.ensures.value) c.in_ok-daughters.ensures.short
@@ -21,8 +28,8 @@ made-requires-clause-owes c =
     all_owe c.args.signs.now (λ f. f.graph) (map (λ d. d.now) c.deref.result.now) (parts_of c.args.parts.now) (ap (map (λ d. d.now)) c.deref.ensures.value ∙ c.in_ok-daughters.ensures.all)
     (subst (λ xs. All (IsShortIn c.args.signs.now) (map (λ d. d.now) xs)) (sym c.deref.ensures.value) c.in_ok-daughters.ensures.short) c.requires.made
 
-pub returns-in-Some : goal.returns-in-Some
-returns-in-Some c =
+pub returns-in-Some-clause-full : goal.returns-in-Some-clause-full
+returns-in-Some-clause-full c =
     let t = c.args.signs.now in
     let ds = map (λ d. d.now) c.deref.result.now in
     let made : IsMotherOf t c.args.place ds (Some c.in-Some.graph) = subst (IsMotherOf t c.args.place ds) c.in-Some.is c.in_ok-graph.ensures in

@@ -61,7 +61,7 @@ returns-in_default-2-clause-number c = λ fs are f m.
     let viewer = λ (full : FullTree). view_in t full.graph in
     let same : map viewer (parts_of c.in_parts.result) ≡ map (view_of t) fulls = ap (map viewer) c.in_parts.ensures.are ∙ map-map viewer arc_value fulls in
     let one : fs ≡ map (view_of t) fulls = at_one (kept t c.args.memo.now.known.items) (numbers_of c.args.over) fs (map (view_of t) fulls) are c.in_ok-fulls.ensures in
-    let never = rw c.in_default-2.is at c.in_ok-full.ensures in
+    let never = rw c.in_default-2.is at c.in_ok-full.ensures.full in
     never f (subst (λ hs. IsMother (signs_of t) c.args.place hs f) (one ∙ sym same) m)
 
 pub returns-clause-stays : goal.returns-clause-stays
@@ -70,7 +70,7 @@ returns-clause-stays c =
     let fulls = c.in_ok-fulls.fulls.items in
     let viewer = λ (full : FullTree). view_in t full.graph in
     let same : map viewer (parts_of c.in_parts.result) ≡ map (view_of t) fulls = ap (map viewer) c.in_parts.ensures.are ∙ map-map viewer arc_value fulls in
-    let mother : IsMother (signs_of t) c.args.place (map viewer (parts_of c.in_parts.result)) (viewer c.in-Some-2.full) = rw c.in-Some-2.is at c.in_ok-full.ensures in
+    let mother : IsMother (signs_of t) c.args.place (map viewer (parts_of c.in_parts.result)) (viewer c.in-Some-2.full) = rw c.in-Some-2.is at c.in_ok-full.ensures.full in
     kept_stays t c.args.memo.now c.keep.new.self (Mother c.args.place c.args.over) c.in-Some-2.full c.requires.right c.in_ok-number.ensures.known
     (map (view_of t) fulls, c.in_ok-fulls.ensures, subst (λ hs. IsMother (signs_of t) c.args.place hs (viewer c.in-Some-2.full)) same mother)
 
@@ -81,6 +81,6 @@ returns-clause-number c = λ fs are.
     let viewer = λ (full : FullTree). view_in t full.graph in
     let same : map viewer (parts_of c.in_parts.result) ≡ map (view_of t) fulls = ap (map viewer) c.in_parts.ensures.are ∙ map-map viewer arc_value fulls in
     let one : fs ≡ map (view_of t) fulls = at_one (kept t c.args.memo.now.known.items) (numbers_of c.args.over) fs (map (view_of t) fulls) are c.in_ok-fulls.ensures in
-    let mother : IsMother (signs_of t) c.args.place (map viewer (parts_of c.in_parts.result)) (viewer c.in-Some-2.full) = rw c.in-Some-2.is at c.in_ok-full.ensures in
+    let mother : IsMother (signs_of t) c.args.place (map viewer (parts_of c.in_parts.result)) (viewer c.in-Some-2.full) = rw c.in-Some-2.is at c.in_ok-full.ensures.full in
     kept_numbered t c.args.memo.now c.keep.new.self (Mother c.args.place c.args.over) c.in-Some-2.full c.requires.right c.in_ok-number.ensures.known (IsMother (signs_of t) c.args.place fs) c.in_ok-number.number c.in_ok-number.ensures.number
     (subst (λ hs. IsMother (signs_of t) c.args.place hs (viewer c.in-Some-2.full)) (same ∙ sym one) mother)

@@ -26,4 +26,4 @@ returns-in-Ok c =
     match_both c.in-Ok.full
     (λ no v h. no v (full_placed g rules c.args.rule 0 fs v c.phrase_rules.ensures c.requires.rule.0 h))
     (λ full h. full_numbered g rules c.args.rule 0 fs (view_in c.args.self.now.signs.now full.graph) c.phrase_rules.ensures c.requires.rule.0 h)
-    c.in-Ok.ensures
+    c.in-Ok.ensures.full
