@@ -7,3 +7,4 @@ pub mod RuleLemmas
 pub mod Semantics
 pub mod Results
 pub mod GrammarLaws
+pub mod LineAnswers

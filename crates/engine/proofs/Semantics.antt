@@ -7,7 +7,7 @@ use Rattle.type_hierarchy.specs.Table.{TypeTable}
 use Rattle.constraint_expand.specs.declared.books.Book.{Book}
 use Rattle.book_signs.specs.Trees.{SignTree}
 use Rattle.grammar_load.specs.Loaded.{GrammarTree}
-use Rattle.grammar_names.specs.Fitting.{mrs_paths_of, HasMrsPaths}
+use Rattle.grammar_names.specs.Fitting.{mrs_paths_of, IsWellNamed}
 use Rattle.mrs_places.specs.Paths.{Paths}
 use Rattle.mrs_paths.specs.Settled.{paths_said}
 use Rattle.mrs_extract.specs.Asked.{ArePaths}
@@ -19,7 +19,7 @@ pub said-here : (g : GrammarTree) (types : TypeTable) (feats : List (String Glob
 said-here g types feats p e t f = e ∙ (λ i. paths_said (t i) (texts (f i)) g.settings)
 
 module _ (t : SignTree) (g : GrammarTree) (p : Paths) (book : t.book ≡ g.book) (said : p ≡ mrs_paths_of g) where
-  pub paths-fit : HasMrsPaths g → ArePathsOf t p
+  pub paths-fit : IsWellNamed g → ArePathsOf t p
   paths-fit h = record {
     are = subst (λ (b : Book). ArePaths b.system.types p) (sym book) (subst (ArePaths g.book.system.types) (sym said) h.are);
     feats = subst (λ (b : Book). length p.feats ≡ length b.system.introducers) (sym book) (subst (λ (q : Paths). length q.feats ≡ length g.book.system.introducers) (sym said) h.feats);

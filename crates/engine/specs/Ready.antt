@@ -2,7 +2,7 @@
 use Rattle.std.specs.Prelude.{◌≡◌}
 use Rattle.grammar_load.specs.Conditions.{IsLoaded}
 use Rattle.grammar_load.specs.Views.{grammar_of}
-use Rattle.grammar_names.specs.Fitting.{mrs_paths_of, HasMrsPaths}
+use Rattle.grammar_names.specs.Fitting.{mrs_paths_of, IsWellNamed}
 use Rattle.grammar_rules.specs.Lines.{AreShapesOf, AreFeedsOf}
 use Rattle.grammar_rules.specs.Remembered.{IsMemoryOf}
 use Rattle.mrs_places.specs.Paths.{paths_of}
@@ -17,4 +17,4 @@ pub record IsReady (e : Engine) : Type 0 where
   pub shared : IsMemoryOf e.signs.now e.shapes.now e.shared.now
   pub feeds : AreFeedsOf e.signs.now e.feeds.now
   pub paths : paths_of e.paths.now ≡ mrs_paths_of (grammar_of e.grammar.now)
-  pub fits : HasMrsPaths (grammar_of e.grammar.now)
+  pub fits : IsWellNamed (grammar_of e.grammar.now)

@@ -5,16 +5,10 @@ ghost use Rattle.chart_workers.specs.Crews.{IsCrewSize};
 use chart_workers::Crew;
 use endings::lines::Share;
 use fs_unify::Scratch;
+pub use grammar_rules::Desk;
 use grammar_rules::LineWork;
 use std::alloc::Global;
 use std::sync::{Mutex, Wait};
-
-/// What one line is worked out with, and the workers that share its chart.
-#[derive(Drop)]
-pub struct Desk {
-    pub work: LineWork,
-    pub crew: Crew<Scratch>,
-}
 
 /// The desks that are free. A lock is held only while a desk is taken or given back.
 #[derive(Drop)]

@@ -9,7 +9,7 @@ ghost use Rattle.parse_items.specs.Answers.{IsParseAnswer};
 ghost use Rattle.packed_items.specs.Answers.{limits_in};
 ghost use Rattle.grammar_load.specs.Views.{grammar_of};
 ghost use Rattle.book_signs.specs.Trees.{signs_of};
-ghost use Rattle.grammar_rules.specs.Lines.{HaveAll};
+ghost use Rattle.grammar_rules.specs.Lines.{HaveAll, IsLineGrammar, words_by};
 ghost use Rattle.grammar_rules.specs.LineLeaves.{AreLineLeaves};
 ghost use Rattle.grammar_rules.specs.Views.{item_answer};
 ghost use Rattle.mrs_places.specs.Paths.{paths_of};
@@ -25,7 +25,10 @@ use book_signs::SignBook;
 use chart_core::Limits;
 use chart_workers::BySize;
 use grammar_load::Grammar;
-use grammar_rules::{ItemAnswer, LineLeaves, LineShapes, RunMemory, line_leaves, parse_words};
+use grammar_rules::{
+    ItemAnswer, LineGrammar, LineLeaves, LineShapes, LineWork, RunMemory, Search, line_leaves,
+    parse_alone, parse_words,
+};
 use morph_analysis::{Feeds, Lattice};
 use mrs_places::MrsPaths;
 use sieve::{Sieve, TypesMeet};
@@ -51,7 +54,7 @@ pub struct Engine<'g, 's, 'b, 'h, 'm, 'r, 'd, 'k, 'f, 'p> {
     pub paths: &'p MrsPaths,
 }
 
-impl<'r> Engine<'_, '_, '_, '_, '_, 'r, '_, '_, '_, '_> {
+impl<'r, 'k> Engine<'_, '_, '_, '_, '_, 'r, '_, 'k, '_, '_> {
     /// What is known of an engine that is ready. Its grammar speaks as the engine does; lexicon and spelling have all entries and lexical
     /// rules of its signs; each instance and each feature has a name; and MRSs are looked for at paths of its signs. It does nothing.
     pub fn laws(&self)
@@ -63,6 +66,25 @@ impl<'r> Engine<'_, '_, '_, '_, '_, 'r, '_, '_, '_, '_> {
         ensures paths { ArePathsOf self.now.signs.now (paths_of self.now.paths.now) }
     {
         self.signs.laws();
+    }
+
+    /// What its lines are answered by.
+    pub fn lines(&self) -> LineGrammar<'_, 'r, 'k>
+        requires { IsReady self.now }
+        ensures grammar { IsLineGrammar result }
+        ensures signs { result.signs.now ≡ self.now.signs.now }
+        ensures shapes { result.shapes.now ≡ self.now.shapes.now }
+        ensures words { words_by result ≡ (speech_of self.now).words }
+    {
+        self.laws();
+        LineGrammar {
+            signs: self.signs,
+            shapes: self.shapes,
+            shared: self.shared,
+            feeds: self.feeds,
+            lexicon: &self.grammar.lexicon,
+            spelling: &self.grammar.spelling,
+        }
     }
 
     /// The leaves of the chart of a lattice: all its lexical trees of at most `most` rules, with their shapes; or that there is one with
@@ -79,26 +101,38 @@ impl<'r> Engine<'_, '_, '_, '_, '_, 'r, '_, '_, '_, '_> {
         requires most { most + 1 < 2 ^ 32 }
         ensures { IfOk result (AreLineLeaves self.now.signs.now self.now.shapes.now (speech_of self.now).words (lattice_of lattice.now) most) }
     {
-        self.laws();
-        let leaves = line_leaves(
-            alloc,
-            &mut desk.work,
-            self.signs,
-            self.shapes.shapes(),
-            self.shared,
-            self.feeds,
-            &self.grammar.lexicon,
-            &self.grammar.spelling,
-            lattice,
-            most,
-        )?;
+        let grammar = self.lines();
+        let leaves = line_leaves(alloc, &mut desk.work, &grammar, lattice, most)?;
         Ok(leaves)
     }
 
     /// The answer to a lattice of words within these limits: the limit that it breaks, or the number of packed classes and all licensed
-    /// trees, each once, in the order of trees (Oepen and Carroll 2000). The workers of the desk find it. One sieve is asked, the quick
-    /// test of types at paths, and smaller edges come first; neither changes an answer, nor does anything that is remembered.
-    /// `NoMemory` may come in place of any answer.
+    /// trees, each once, in the order of trees (Oepen and Carroll 2000). One worker finds it, who waits for nobody, so that this call
+    /// returns. One sieve is asked, the quick test of types at paths, and smaller edges come first; neither changes an answer, nor does
+    /// anything that is remembered. `NoMemory` may come in place of any answer.
+    pub fn parse_alone(
+        &self,
+        alloc: Global,
+        work: &mut LineWork,
+        lattice: &Lattice,
+        limits: &Limits,
+    ) -> Result<ItemAnswer, NoMemory>
+        requires ready { IsReady self.now }
+        requires valid { IsValid (lattice_of lattice.now) }
+        requires limits { InRange limits.now }
+        ensures answer { IfOk result (λ a. IsParseAnswer (speech_of self.now).signs (speech_of self.now).words (lattice_seen (lattice_of lattice.now)) limits.now.lexical (limits_in limits.now) (item_answer a)) }
+        ensures named { IfOk result (λ a. AreNamed (length self.now.grammar.now.names.items) (item_answer a)) }
+        ensures full { IfOk result (λ a. AreFull (speech_of self.now).signs (item_answer a)) }
+        ensures few { IfOk result (λ a. IsFew (item_answer a)) }
+    {
+        self.laws();
+        let grammar = self.lines();
+        let sieves = [Sieve::new(TypesMeet)];
+        let answer = parse_alone(alloc, work, &grammar, lattice, limits, &sieves)?;
+        Ok(answer)
+    }
+
+    /// What `parse_alone` answers, by the workers of the desk; where that has one, in the way of `parse_alone`.
     pub fn parse<Rt: Threads + Wait + Sync>(
         &self,
         rt: &Rt,
@@ -116,25 +150,18 @@ impl<'r> Engine<'_, '_, '_, '_, '_, 'r, '_, '_, '_, '_> {
         ensures full { IfOk result (λ a. AreFull (speech_of self.now).signs (item_answer a)) }
         ensures few { IfOk result (λ a. IsFew (item_answer a)) }
     {
-        self.signs.laws();
+        if desk.crew.is_alone() {
+            return self.parse_alone(alloc, &mut desk.work, lattice, limits);
+        }
+        self.laws();
+        let grammar = self.lines();
         let sieves = [Sieve::new(TypesMeet)];
-        let answer = parse_words(
-            rt,
-            alloc,
-            &mut desk.work,
-            &mut desk.crew,
-            self.signs,
-            self.shapes,
-            self.shared,
-            self.feeds,
-            &self.grammar.lexicon,
-            &self.grammar.spelling,
-            lattice,
+        let search = Search {
             limits,
-            &sieves,
-            &BySize,
-            gate,
-        )?;
+            sieves: &sieves,
+            priority: &BySize,
+        };
+        let answer = parse_words(rt, alloc, desk, &grammar, lattice, &search, gate)?;
         Ok(answer)
     }
 }

@@ -6,7 +6,7 @@ ghost use Rattle.book_signs.specs.Conditions.{IsWhole};
 ghost use Rattle.grammar_load.specs.Conditions.{IsLoaded};
 ghost use Rattle.grammar_load.specs.Loaded.{GrammarTree};
 ghost use Rattle.grammar_load.specs.Views.{grammar_of};
-ghost use Rattle.grammar_names.specs.Fitting.{mrs_paths_of, HasMrsPaths};
+ghost use Rattle.grammar_names.specs.Fitting.{mrs_paths_of, IsWellNamed};
 ghost use Rattle.grammar_rules.specs.Lines.{AreShapesOf, AreFeedsOf};
 ghost use Rattle.mrs_places.specs.Paths.{paths_of};
 ghost use Rattle.engine.specs.Ready.{IsReady};
@@ -95,7 +95,7 @@ fn with_parts<'x, A, B, U: Use<A, B>, Rt: Threads + Wait + Sync>(
 ) -> Result<U::Out, NoMemory>
     requires sync { IsSync Rt.row }
     requires loaded { IsLoaded (grammar_of grammar.now) }
-    requires fits { HasMrsPaths (grammar_of grammar.now) }
+    requires fits { IsWellNamed (grammar_of grammar.now) }
     requires book { signs.now.book ≡ grammar.now.book }
     requires shapes { AreShapesOf signs.now parts.now.shapes }
     requires feeds { AreFeedsOf signs.now parts.now.feeds }
@@ -132,7 +132,7 @@ fn with_lent<'x, 'y, A, B, U: Use<A, B>, Rt: Threads + Wait + Sync>(
 ) -> Result<U::Out, NoMemory>
     requires sync { IsSync Rt.row }
     requires loaded { IsLoaded (grammar_of grammar.now) }
-    requires fits { HasMrsPaths (grammar_of grammar.now) }
+    requires fits { IsWellNamed (grammar_of grammar.now) }
     requires book { signs.now.book ≡ grammar.now.book }
     requires shapes { AreShapesOf signs.now parts.now.shapes }
     requires feeds { AreFeedsOf signs.now parts.now.feeds }
@@ -157,7 +157,7 @@ fn with_signs<'x, A, B, U: Use<A, B>, Rt: Threads + Wait + Sync>(
 ) -> Result<U::Out, NoMemory>
     requires sync { IsSync Rt.row }
     requires loaded { IsLoaded (grammar_of grammar.now) }
-    requires fits { HasMrsPaths (grammar_of grammar.now) }
+    requires fits { IsWellNamed (grammar_of grammar.now) }
     requires book { signs.now.book ≡ grammar.now.book }
     ensures none { OnErr result ((a.new ≡ a.old) × (b.new ≡ b.old)) }
     ensures given { IfOk result (λ out. (speech : Speech) × IsSpeechOf (grammar_of grammar.now) speech
@@ -181,7 +181,7 @@ pub fn with_engine<A, B, U: Use<A, B>, Rt: Threads + Wait + Sync>(
     requires sync { IsSync Rt.row }
     requires loaded { IsLoaded (grammar_of grammar.now) }
     requires whole { IsWhole grammar.now.book }
-    requires fits { HasMrsPaths (grammar_of grammar.now) }
+    requires fits { IsWellNamed (grammar_of grammar.now) }
     ensures none { OnErr result ((a.new ≡ a.old) × (b.new ≡ b.old)) }
     ensures given { IfOk result (λ out. (speech : Speech) × IsSpeechOf (grammar_of grammar.now) speech
         × U.Gives job.now (grammar_of grammar.now) speech a.old a.new b.old b.new out) }

@@ -6,21 +6,17 @@ use Rattle.morph_analysis.specs.LatticeViews.{lattice_of}
 use Rattle.mrs_model.specs.Valid.{IsValid as IsValidMrs}
 use Rattle.mrs_model.specs.Views.{meaning_of}
 use Rattle.mrs_places.specs.Paths.{feature_of, paths_of}
-use Rattle.grammar_rules.specs.Lines.{AreShapesOf, AreFeedsOf, HaveAll}
-use Rattle.grammar_rules.specs.Remembered.{IsMemoryOf}
 use Rattle.mrs_generate.specs.Contributors.{AreContributors}
+use Rattle.engine.specs.Ready.{IsReady as IsEngineReady}
 use Rattle.engine.specs.Semantic.{ArePathsOf}
 use Rattle.filter_rows.specs.declared.grammars.Ready.{Ready}
 use Rattle.filter_rows.specs.declared.answers.Asked.{Asked}
 use Rattle.filter_rows.specs.declared.answers.Asked.TheVariants.{Line, Mrs}
 
--- shapes, what is remembered, tables, contributors and paths are those of the signs
+-- the engine is ready, and contributors and paths are those of its signs
 pub record IsReady (r : Ready) : Type 0 where
   pub limits : InRange r.limits
-  pub shapes : AreShapesOf r.engine.signs.now r.engine.shapes.now
-  pub shared : IsMemoryOf r.engine.signs.now r.engine.shapes.now r.engine.shared.now
-  pub feeds : AreFeedsOf r.engine.signs.now r.engine.feeds.now
-  pub have : HaveAll r.engine.signs.now r.engine.grammar.now.lexicon r.engine.grammar.now.spelling
+  pub engine : IsEngineReady r.engine
   pub paths : ArePathsOf r.engine.signs.now (paths_of r.engine.paths.now)
   pub contributors : AreContributors r.engine.signs.now r.engine.grammar.now.lexicon r.engine.grammar.now.spelling (paths_of r.engine.paths.now) (map feature_of r.c_cont.now) r.limits.lexical r.contributors.now
 

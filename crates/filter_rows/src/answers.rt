@@ -14,9 +14,9 @@ use chart_workers::Crew;
 use derivation::{Tree, is_named, write};
 use engine::desks::Desk;
 use fs_unify::Scratch;
-use grammar_rules::{ItemAnswer, LineWork, parse_words};
+use grammar_rules::{ItemAnswer, LineWork, Search, parse_words};
 use morph_analysis::Lattice;
-use mrs_generate::{GenAnswer, generate};
+use mrs_generate::{GenAnswer, GenGrammar, generate};
 use mrs_model::Mrs;
 use sieve::{Priority, Sieve};
 use std::alloc::Global;
@@ -119,23 +119,14 @@ impl Ready<'_, '_, '_, '_> {
         requires ready { IsReady self.now }
         requires valid { IsValid (lattice_of lattice.now) }
     {
-        let Ok(answer) = parse_words(
-            rt,
-            alloc,
-            &mut desk.work,
-            &mut desk.crew,
-            self.engine.signs,
-            self.engine.shapes,
-            self.engine.shared,
-            self.engine.feeds,
-            &self.engine.grammar.lexicon,
-            &self.engine.grammar.spelling,
-            lattice,
-            &self.limits,
-            means.sieves,
-            &Priority::new(means.order),
-            gate,
-        ) else {
+        let grammar = self.engine.lines();
+        let order = Priority::new(means.order);
+        let search = Search {
+            limits: &self.limits,
+            sieves: means.sieves,
+            priority: &order,
+        };
+        let Ok(answer) = parse_words(rt, alloc, desk, &grammar, lattice, &search, gate) else {
             return Err(NoMemory);
         };
         add_trees(alloc, &answer, &self.engine.grammar.names, into)
@@ -155,24 +146,22 @@ impl Ready<'_, '_, '_, '_> {
         requires ready { IsReady self.now }
         requires valid { IsValidMrs (meaning_of mrs.now) }
     {
-        let Ok(answer) = generate(
-            rt,
-            alloc,
-            &mut desk.work,
-            &mut desk.crew,
-            self.engine.signs,
-            self.engine.shapes.shapes(),
-            &self.engine.grammar.lexicon,
-            &self.engine.grammar.spelling,
-            self.contributors,
-            self.engine.paths,
-            self.c_cont,
-            mrs,
-            &self.limits,
-            means.sieves,
-            &Priority::new(means.order),
-            gate,
-        ) else {
+        let grammar = GenGrammar {
+            signs: self.engine.signs,
+            shapes: self.engine.shapes.shapes(),
+            lexicon: &self.engine.grammar.lexicon,
+            spelling: &self.engine.grammar.spelling,
+            contributors: self.contributors,
+            paths: self.engine.paths,
+            c_cont: self.c_cont,
+        };
+        let order = Priority::new(means.order);
+        let search = Search {
+            limits: &self.limits,
+            sieves: means.sieves,
+            priority: &order,
+        };
+        let Ok(answer) = generate(rt, alloc, desk, &grammar, mrs, &search, gate) else {
             return Err(NoMemory);
         };
         add_sentences(alloc, &answer, into)

@@ -5,7 +5,7 @@ ghost use Rattle.chart_core.specs.Kept.{InRange};
 ghost use Rattle.book_signs.specs.Conditions.{IsWhole};
 ghost use Rattle.grammar_load.specs.Conditions.{IsLoaded};
 ghost use Rattle.grammar_load.specs.Views.{grammar_of};
-ghost use Rattle.grammar_names.specs.Fitting.{HasMrsPaths};
+ghost use Rattle.grammar_names.specs.Fitting.{IsWellNamed};
 ghost use Rattle.mrs_places.specs.Paths.{feature_of, paths_of};
 ghost use Rattle.mrs_generate.specs.Contributors.{AreContributors};
 ghost use Rattle.engine.specs.Ready.{IsReady};
@@ -18,7 +18,7 @@ use command_grammars::load_grammar;
 use engine::{Engine, Use, with_engine};
 use fs_unify::Scratch;
 use grammar_load::Grammar;
-use grammar_names::loaded_paths;
+use grammar_names::loaded_names;
 use lkb_io::Shelf;
 use mrs_generate::{Contributors, contributors_of};
 use mrs_paths::c_cont_path;
@@ -125,7 +125,7 @@ fn show_with<R: Threads + Wait + Sync>(
     out: &mut Vec<u8>,
 ) -> Result<(), NoMemory>
     requires loaded { IsLoaded (grammar_of grammar.now) }
-    requires fits { HasMrsPaths (grammar_of grammar.now) }
+    requires fits { IsWellNamed (grammar_of grammar.now) }
     requires whole { IsWhole grammar.now.book }
 {
     let job = Steps { text: steps };
@@ -146,7 +146,7 @@ pub fn show<S: Shelf, R: Threads + Wait + Sync>(
     out: &mut Vec<u8>,
 ) -> Result<(), NoMemory> {
     whole_book();
-    loaded_paths();
+    loaded_names();
     let Ok(grammar) = load_grammar(alloc, shelf, name, None) else {
         return add_line("no grammar", out);
     };

@@ -7,8 +7,9 @@ use chart_workers::BySize;
 use endings::lines::{Answers, Share};
 use endings::pieces::Report;
 use engine::Engine;
-use engine::desks::Desks;
-use mrs_generate::{Contributors, generate};
+use engine::desks::{Desk, Desks};
+use grammar_rules::Search;
+use mrs_generate::{Contributors, GenAnswer, GenGrammar, generate, generate_alone};
 use mrs_model::Mrs;
 use mrs_places::MrsFeat;
 use mrs_text::{MrsFault, read};
@@ -35,8 +36,54 @@ impl Generator<'_, '_, '_, '_> {
     ghost use Rattle.std.specs.Thread.{IsSync};
     ghost use Rattle.mrs_model.specs.Valid.{IsValid};
     ghost use Rattle.mrs_model.specs.Views.{meaning_of};
-    ghost use Rattle.generate_commands.specs.Answers.{IsAnswer};
+    ghost use Rattle.mrs_generate.specs.Views.{answer_seen};
+    ghost use Rattle.generate_commands.specs.Answers.{IsAnswer, IsAnswerTo};
     ghost use Rattle.generate_commands.specs.Inner.Generators.{IsReady, IsReportOf, speaker_of, bounds_of};
+
+    // The answer to an MRS, by the workers of a desk; where that has one, nobody is waited for. One sieve is asked, the quick test of types
+    // at paths, and smaller hosts come first.
+    fn answer_to<Rt: Threads + Wait + Sync>(
+        &self,
+        rt: &Rt,
+        alloc: Global,
+        desk: &mut Desk,
+        mrs: &Mrs,
+        gate: &dyn Gate,
+    ) -> Result<GenAnswer, NoMemory>
+        requires ready { IsReady self.now }
+        requires valid { IsValid (meaning_of mrs.now) }
+        ensures { IfOk result (λ a. IsAnswerTo (speaker_of self.now) (bounds_of self.now) (meaning_of mrs.now) (answer_seen a)) }
+    {
+        self.engine.laws();
+        let sieves = [Sieve::new(TypesMeet)];
+        let grammar = GenGrammar {
+            signs: self.engine.signs,
+            shapes: self.engine.shapes.shapes(),
+            lexicon: &self.engine.grammar.lexicon,
+            spelling: &self.engine.grammar.spelling,
+            contributors: self.contributors,
+            paths: self.engine.paths,
+            c_cont: self.c_cont,
+        };
+        if desk.crew.is_alone() {
+            let alone = generate_alone(
+                alloc,
+                &mut desk.work,
+                &grammar,
+                mrs,
+                &self.limits,
+                &sieves,
+            )?;
+            return Ok(alone);
+        }
+        let search = Search {
+            limits: &self.limits,
+            sieves: &sieves,
+            priority: &BySize,
+        };
+        let answer = generate(rt, alloc, desk, &grammar, mrs, &search, gate)?;
+        Ok(answer)
+    }
 
     // The report on the MRS that the line of this number writes.
     fn generated<Rt: Threads + Wait + Sync>(
@@ -53,28 +100,8 @@ impl Generator<'_, '_, '_, '_> {
         requires valid { IsValid (meaning_of mrs.now) }
         ensures { IfOk result (λ r. IsReportOf self.now number (meaning_of mrs.now) (map (λ l. l.items) r.lines.items) r.refused) }
     {
-        self.engine.laws();
-        // one sieve, the quick test of types at paths; and smaller hosts first
-        let sieves = [Sieve::new(TypesMeet)];
         let mut desk = self.desks.take(rt, alloc, share);
-        let answer = generate(
-            rt,
-            alloc,
-            &mut desk.work,
-            &mut desk.crew,
-            self.engine.signs,
-            self.engine.shapes.shapes(),
-            &self.engine.grammar.lexicon,
-            &self.engine.grammar.spelling,
-            self.contributors,
-            self.engine.paths,
-            self.c_cont,
-            mrs,
-            &self.limits,
-            &sieves,
-            &BySize,
-            gate,
-        )?;
+        let answer = self.answer_to(rt, alloc, &mut desk, mrs, gate)?;
         self.desks.give_back(rt, share, desk);
         report_of(alloc, number, &answer)
     }

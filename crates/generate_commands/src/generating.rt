@@ -15,7 +15,7 @@ use chart_core::Limits;
 use command_grammars::load_grammar;
 use endings::{Fault, Stop};
 use engine::with_engine;
-use grammar_names::loaded_paths;
+use grammar_names::loaded_names;
 use lkb_io::{Shelf, Sink, Source};
 use std::alloc::Global;
 use std::sync::Wait;
@@ -50,7 +50,7 @@ pub fn generate_lines<S: Shelf, I: Source, O: Sink, Rt: Threads + Wait + Sync>(
         (streams I.left I.faults O.written O.flushed O.faults input.old input.new out.old out.new) (input.new ≡ input.old) ((input.new ≡ input.old) × (out.new ≡ out.old)) result }
 {
     whole_book();
-    loaded_paths();
+    loaded_names();
     let grammar = load_grammar(alloc, shelf, command.grammar, command.settings)?;
     let job = AllLines {
         limits: command.limits,

@@ -7,3 +7,4 @@ pub mod Walked
 pub mod Features
 pub mod Types
 pub mod Paths
+pub mod Instances

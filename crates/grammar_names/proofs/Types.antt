@@ -26,7 +26,7 @@ name_at [] ms k h l = absurd (omega (arith, l))
 name_at (n ∷ ns) ms zero h l = h.0
 name_at (n ∷ ns) ms (suc k) h l = name_at ns ms k h.1 (omega (arith, l))
 
-defined_named : (s : StatementTree) → StatementNamed s → is_define s ≡ true → IsTdlName (name_written s)
+pub defined_named : (s : StatementTree) → StatementNamed s → is_define s ≡ true → IsTdlName (name_written s)
 defined_named (defines name at affix b) h e = h.0
 defined_named (adds name at b) h e = absurd (true≢false (sym e))
 defined_named (begins status at) h e = absurd (true≢false (sym e))

@@ -1,4 +1,4 @@
-//! Names of grammars (DELPH-IN TDL): what a grammar that loads names is named as extraction of MRSs asks for.
+//! Names of grammars (DELPH-IN TDL): what a grammar that loads names is named as extraction of MRSs and the texts of trees ask for.
 #![tactic(auto)]
 
 ghost use Rattle.std.specs.Prelude.{Bool, Option, Ok};
@@ -6,11 +6,12 @@ ghost use Rattle.grammar_settings.specs.Forms.{Name};
 ghost use Rattle.grammar_files.specs.Walks.{Files};
 ghost use Rattle.grammar_load.specs.Loaded.{GrammarTree};
 ghost use Rattle.grammar_load.specs.Loads.{Loads};
-ghost use Rattle.grammar_names.specs.Fitting.{HasMrsPaths};
+ghost use Rattle.grammar_names.specs.Fitting.{IsWellNamed};
 
-/// A law: what the settings of a grammar that files load to say of MRSs is what extraction asks for. The names of its types and
-/// features are written as names of TDL, in name characters and ASCII lower case, none of which ends a name of an MRS; no two
-/// features have one name; and sorts are letters. It does nothing.
-pub fn loaded_paths()
-    ensures { (files : Files) (fails : Name → Bool) (top : Name) (settings : Option Name) (g : GrammarTree) → Loads files fails top settings (Ok g) → HasMrsPaths g }
+/// A law: what files load to is named as extraction of MRSs and the texts of trees ask for. The names of its types, features and
+/// instances are written as names of TDL, in name characters and ASCII lower case, none of which ends a name of an MRS or in the text
+/// of a tree; no two features have one name, nor two instances of one status, since such statements are a fault; and sorts are
+/// letters. It does nothing.
+pub fn loaded_names()
+    ensures { (files : Files) (fails : Name → Bool) (top : Name) (settings : Option Name) (g : GrammarTree) → Loads files fails top settings (Ok g) → IsWellNamed g }
 {}

@@ -7,7 +7,7 @@ ghost use Rattle.packed_items.specs.Answers.{limits_in};
 ghost use Rattle.book_signs.specs.Conditions.{IsWhole};
 ghost use Rattle.grammar_load.specs.Conditions.{IsLoaded};
 ghost use Rattle.grammar_load.specs.Views.{grammar_of};
-ghost use Rattle.grammar_names.specs.Fitting.{HasMrsPaths};
+ghost use Rattle.grammar_names.specs.Fitting.{IsWellNamed};
 ghost use Rattle.endings.specs.Meanings.{Shelves, shelves};
 ghost use Rattle.endings.specs.Reports.{streams};
 ghost use Rattle.endings.specs.Endings.{Ended};
@@ -23,7 +23,7 @@ use endings::{Fault, Stop};
 use engine::desks::Desks;
 use engine::{Engine, Use, with_engine};
 use grammar_load::Grammar;
-use grammar_names::loaded_paths;
+use grammar_names::loaded_names;
 use lkb_io::{Shelf, Sink, Source};
 use std::alloc::Global;
 use std::sync::Wait;
@@ -97,7 +97,7 @@ fn chart_with<I: Source, O: Sink, Rt: Threads + Wait + Sync>(
     requires limits { InRange command.now.limits }
     requires workers { IsCrewSize command.now.workers }
     requires loaded { IsLoaded (grammar_of grammar.now) }
-    requires fits { HasMrsPaths (grammar_of grammar.now) }
+    requires fits { IsWellNamed (grammar_of grammar.now) }
     requires whole { IsWhole grammar.now.book }
     ensures { (h : Shelves) → HasGrammar h.files command.now.grammar.now (option_map (λ s. s.now) command.now.settings) (grammar_of grammar.now)
         → Ended (chart_meaning command.now.grammar.now (option_map (λ s. s.now) command.now.settings) (limits_in command.now.limits) command.now.limits.lexical command.now.lattice) h
@@ -132,7 +132,7 @@ pub fn chart_lines<S: Shelf, I: Source, O: Sink, Rt: Threads + Wait + Sync>(
         (streams I.left I.faults O.written O.flushed O.faults input.old input.new out.old out.new) (input.new ≡ input.old) ((input.new ≡ input.old) × (out.new ≡ out.old)) result }
 {
     whole_book();
-    loaded_paths();
+    loaded_names();
     let grammar = load_grammar(alloc, shelf, command.grammar, command.settings)?;
     chart_with(rt, alloc, command, &grammar, input, out, gate)
 }

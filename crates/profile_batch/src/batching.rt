@@ -9,7 +9,7 @@ ghost use Rattle.book_signs.specs.Conditions.{IsWhole};
 ghost use Rattle.grammar_files.specs.Walks.{IsText};
 ghost use Rattle.grammar_load.specs.Conditions.{IsLoaded};
 ghost use Rattle.grammar_load.specs.Views.{grammar_of};
-ghost use Rattle.grammar_names.specs.Fitting.{HasMrsPaths};
+ghost use Rattle.grammar_names.specs.Fitting.{IsWellNamed};
 ghost use Rattle.endings.specs.Meanings.{Files, shelves};
 ghost use Rattle.endings.specs.Endings.{MadeOfItems};
 ghost use Rattle.engine.specs.Speeches.{Speech, IsSpeechOf};
@@ -34,7 +34,7 @@ use endings::{Fault, Stop};
 use engine::desks::Desks;
 use engine::{Engine, Use, with_engine};
 use grammar_load::Grammar;
-use grammar_names::loaded_paths;
+use grammar_names::loaded_names;
 use lkb_io::Shelf;
 use profile_items::{NoMemory, ProfileItem, profile};
 use profile_reports::{ItemResult, ProfileReport, report_on, some_lacking};
@@ -98,7 +98,7 @@ pub fn batch<Rt: Threads + Wait + Sync>(
 ) -> Result<Vec<ItemResult>, NoMemory>
     requires loaded { IsLoaded (grammar_of grammar.now) }
     requires whole { IsWhole grammar.now.book }
-    requires fits { HasMrsPaths (grammar_of grammar.now) }
+    requires fits { IsWellNamed (grammar_of grammar.now) }
     requires limits { InRange limits.now }
     requires workers { IsCrewSize workers }
     requires few { length items.now < 2 ^ 32 }
@@ -143,7 +143,7 @@ fn report_with<Rt: Threads + Wait + Sync>(
 ) -> Result<ItemsReport, NoMemory>
     requires loaded { IsLoaded (grammar_of grammar.now) }
     requires whole { IsWhole grammar.now.book }
-    requires fits { HasMrsPaths (grammar_of grammar.now) }
+    requires fits { IsWellNamed (grammar_of grammar.now) }
     requires few { length text.now < 2 ^ 31 }
     ensures { IfOk result (λ r. (speech : Speech) × IsSpeechOf (grammar_of grammar.now) speech
         × IsToldOf speech (limits_in batch_of.now.limits) batch_of.now.limits.lexical (items_of text.now) r) }
@@ -174,7 +174,7 @@ pub(crate) fn report_of<S: Shelf, Rt: Threads + Wait + Sync>(
         (shelves S.files S.faults S.asked shelf.old shelf.new) result }
 {
     whole_book();
-    loaded_paths();
+    loaded_names();
     late_text();
     let grammar = load_grammar(alloc, shelf, command.grammar, command.settings)?;
     let text = load_text(alloc, shelf, command.profile)?;

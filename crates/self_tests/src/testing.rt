@@ -5,7 +5,7 @@ ghost use Rattle.book_signs.specs.Conditions.{IsWhole};
 ghost use Rattle.packed_items.specs.Answers.{limits_in};
 ghost use Rattle.grammar_load.specs.Conditions.{IsLoaded};
 ghost use Rattle.grammar_load.specs.Views.{grammar_of};
-ghost use Rattle.grammar_names.specs.Fitting.{HasMrsPaths};
+ghost use Rattle.grammar_names.specs.Fitting.{IsWellNamed};
 ghost use Rattle.command_grammars.specs.Grammars.{HasGrammar};
 ghost use Rattle.endings.specs.Meanings.{Shelves};
 ghost use Rattle.endings.specs.Endings.{MadeOfItems};
@@ -25,7 +25,7 @@ use endings::commands::ItemsReport;
 use endings::{Fault, Stop};
 use engine::with_engine;
 use grammar_load::Grammar;
-use grammar_names::loaded_paths;
+use grammar_names::loaded_names;
 use item_counts::Count;
 use lkb_io::{ShelfFile, WholeShelf};
 use std::alloc::Global;
@@ -71,7 +71,7 @@ fn count_with<Rt: Threads + Wait + Sync>(
 ) -> Result<Vec<Count>, NoMemory>
     requires loaded { IsLoaded (grammar_of grammar.now) }
     requires whole { IsWhole grammar.now.book }
-    requires fits { HasMrsPaths (grammar_of grammar.now) }
+    requires fits { IsWellNamed (grammar_of grammar.now) }
     requires lines { map (λ l. l.items) lines.now ≡ workload_lines test.now.number test.now.size }
     ensures { IfOk result (λ counts. AreCountedWith (grammar_of grammar.now) (limits_in test.now.limits) test.now.limits.lexical (workload_lines test.now.number test.now.size) counts.items) }
 {
@@ -97,7 +97,7 @@ fn report_with<Rt: Threads + Wait + Sync>(
         × IsSummedSo speech (limits_in test.now.limits) test.now.limits.lexical test.now.number test.now.size r) }
 {
     whole_book();
-    loaded_paths();
+    loaded_names();
     let counts = count_with(rt, alloc, test, grammar, lines, gate)?;
     report_on(alloc, test.number, test.size, &counts)
 }

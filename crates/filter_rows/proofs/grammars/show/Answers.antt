@@ -13,4 +13,4 @@ show_with-requires-clause-whole g c κs within =
 pub show_with-requires-clause-fits : goal.show_with-requires-clause-fits
 show_with-requires-clause-fits g c κs within =
     let files = (shelves g.S.Shelf.files g.S.Shelf.faults g.S.Shelf.asked c.args.shelf.now c.load_grammar.new.shelf).files in
-    c.loaded_paths.ensures files never c.args.name.now None (grammar_of c.in-Ok.grammar) c.in-Ok.ensures.grammar
+    c.loaded_names.ensures files never c.args.name.now None (grammar_of c.in-Ok.grammar) c.in-Ok.ensures.grammar

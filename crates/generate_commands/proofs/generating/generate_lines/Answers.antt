@@ -17,7 +17,7 @@ with_engine-requires-clause-whole g c κs within =
 pub with_engine-requires-clause-fits : goal.with_engine-requires-clause-fits
 with_engine-requires-clause-fits g c κs within =
     let files = (shelves g.S.Shelf.files g.S.Shelf.faults g.S.Shelf.asked c.args.shelf.now c.load_grammar.new.shelf).files in
-    c.loaded_paths.ensures files never c.args.command.now.grammar.now (option_map (λ s. s.now) c.args.command.now.settings) (grammar_of c.in_ok-grammar.grammar) c.in_ok-grammar.ensures.grammar
+    c.loaded_names.ensures files never c.args.command.now.grammar.now (option_map (λ s. s.now) c.args.command.now.settings) (grammar_of c.in_ok-grammar.grammar) c.in_ok-grammar.ensures.grammar
 
 pub returns-in-Ok-Ok : goal.returns-in-Ok-Ok
 returns-in-Ok-Ok g c =

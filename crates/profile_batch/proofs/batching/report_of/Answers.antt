@@ -37,7 +37,7 @@ report_with-requires-clause-whole g c κs within =
 pub report_with-requires-clause-fits : goal.report_with-requires-clause-fits
 report_with-requires-clause-fits g c κs within =
     let b = c.args.command.now in
-    c.loaded_paths.ensures (g.S.Shelf.files c.args.shelf.now) never b.grammar.now (option_map (λ s. s.now) b.settings) (grammar_of c.in_ok-grammar.grammar) c.in_ok-grammar.ensures.grammar
+    c.loaded_names.ensures (g.S.Shelf.files c.args.shelf.now) never b.grammar.now (option_map (λ s. s.now) b.settings) (grammar_of c.in_ok-grammar.grammar) c.in_ok-grammar.ensures.grammar
 
 pub report_with-requires-clause-few : goal.report_with-requires-clause-few
 report_with-requires-clause-few g c κs within =

@@ -16,7 +16,7 @@ count_with-requires-clause-whole g c κs within =
 
 pub count_with-requires-clause-fits : goal.count_with-requires-clause-fits
 count_with-requires-clause-fits g c κs within =
-    c.loaded_paths.ensures workload_files never workload_name None (grammar_of c.args.grammar.now) c.requires.grammar
+    c.loaded_names.ensures workload_files never workload_name None (grammar_of c.args.grammar.now) c.requires.grammar
 
 pub report_on-requires : goal.report_on-requires
 report_on-requires g c =

@@ -1,7 +1,6 @@
 use Rattle.std.proofs.Common.{◌≡◌, ◌∙◌, length, string_bytes, refl, sym, subst}
 use Rattle.std.proofs.lemmas.List.{length-map}
 use Rattle.constraint_expand.specs.declared.books.Book.{Book}
-use Rattle.book_signs.specs.Conditions.{IsWhole}
 use Rattle.book_signs.specs.Signed.{IsSignsOf}
 use Rattle.book_signs.specs.Trees.{signs_of}
 use Rattle.grammar_load.specs.Views.{grammar_of}

@@ -1,26 +1,10 @@
-use Rattle.std.proofs.Common.{◌≡◌, map, sym, subst}
+use Rattle.std.proofs.Common.{◌≡◌, map}
 use Rattle.mrs_model.specs.Views.{meaning_of}
 use Rattle.mrs_generate.specs.Views.{answer_seen}
-use Rattle.grammar_rules.specs.Lines.{AreShapesOf}
 use Rattle.generate_commands.specs.Reports.{answer_lines, is_refused}
 use Rattle.generate_commands.specs.Inner.Generators.{IsReportOf}
 use Rattle.engine.proofs.Results.{if-both}
 use Rattle.generate_commands.proofs.answering.Generator.generated.Goals as goal
-
-pub generate-requires-clause-shapes : goal.generate-requires-clause-shapes
-generate-requires-clause-shapes g c κs within = subst (AreShapesOf c.args.self.now.engine.signs.now) (sym c.shapes.ensures) c.requires.ready.engine.shapes
-
-pub generate-requires-clause-contributors : goal.generate-requires-clause-contributors
-generate-requires-clause-contributors g c κs within = c.requires.ready.contributors
-
-pub generate-requires-clause-paths : goal.generate-requires-clause-paths
-generate-requires-clause-paths g c κs within = c.laws.ensures.paths.are
-
-pub generate-requires-clause-feats : goal.generate-requires-clause-feats
-generate-requires-clause-feats g c κs within = c.laws.ensures.paths.feats
-
-pub generate-requires-clause-limits : goal.generate-requires-clause-limits
-generate-requires-clause-limits g c κs within = c.requires.ready.limits
 
 pub returns : goal.returns
 returns g c =
