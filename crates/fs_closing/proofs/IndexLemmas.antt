@@ -1,13 +1,14 @@
 -- What the index keeps.
-use Rattle.std.proofs.Common.{ℕ, ◌≡◌, ◌≢◌, ◌≤◌, ◌+◌, ◌&&◌, nat_eq, cond, ◌⊎◌, inl, inr, Option, Some, None, List, [], ◌∷◌, ◌++◌, length, refl, sym, ◌∙◌, ap, subst, arith, eq-eqb}
+use Rattle.std.proofs.Common.{ℕ, ◌≡◌, ◌≢◌, ◌≤◌, ◌+◌, ◌&&◌, nat_eq, cond, ◌⊎◌, inl, inr, Option, Some, None, List, [], ◌∷◌, ◌++◌, length, slice_index_or, refl, sym, ◌∙◌, ap, subst, arith, eq-eqb}
 use Rattle.std.proofs.lemmas.Bool.{ne_eqb}
 use Rattle.std.proofs.lemmas.List.{length-append}
 use Rattle.std.specs.Option.{option_or}
 use Rattle.fs_model.proofs.StepLemmas.{same_or_other}
 use Rattle.fs_closing.specs.declared.cells.Cell.{Cell}
+use Rattle.fs_closing.specs.declared.index.Index.{Index}
 use Rattle.fs_closing.specs.declared.index.Part.{Part}
 use Rattle.fs_closing.specs.Cells.{chain, find_arc}
-use Rattle.fs_closing.specs.Inner.Indexes.{IsPart, AreParts}
+use Rattle.fs_closing.specs.Inner.Indexes.{IsPart, AreParts, HaveIndex, arc_in, part_in}
 use Rattle.fs_closing.proofs.ChainLemmas.{chain-push_old, chain-push_new, find_arc-here, find_arc-past}
 
 -- a cell more at the end
@@ -27,6 +28,10 @@ parts_pushed cells c arcs parts are = record {
   none = are.none;
   some = λ n p e. part_pushed cells c (arcs n) p (are.some n p e);
 }
+
+pub index_pushed : (cells : List Cell) (c : Cell) (indexes : List Index) → HaveIndex cells indexes → HaveIndex (cells ++ c ∷ []) indexes
+index_pushed cells c indexes have d some =
+    parts_pushed cells c (arc_in (slice_index_or indexes 0 d)) (part_in (slice_index_or indexes 0 d)) (have d some)
 
 -- an arc of a node gets into the index
 module _ (cells : List Cell) (arcs arcs' : ℕ → ℕ → Option ℕ) (parts parts' : ℕ → Option Part) (n : ℕ) (c : Cell) (p : Part) where

@@ -5,7 +5,7 @@ ghost use Rattle.fs_closing.specs.Cells.{chain, find_arc, no_cell, PlacesFall};
 ghost use Rattle.fs_closing.specs.Inner.Indexes.{Leads};
 
 use crate::fault::NoMemory;
-use crate::index::{Index, extend, seek};
+use crate::index::{self, Index};
 use std::alloc::Global;
 use std::marker::Model;
 
@@ -27,23 +27,24 @@ pub enum Sought {
 /// Up to so many arcs of a node are looked through one by one.
 const FEW: u32 = 16;
 
-/// The cells of all nodes. Those of a node with many are found by an index too.
+/// The cells of all nodes. Those of a node with many are found by an index too, which is made once a node has as many: until
+/// then `index` is empty, and never has more than one.
 #[derive(Debug, Drop)]
 pub struct Cells {
     cells: Vec<Cell>,
-    index: Index,
+    index: Vec<Index>,
 }
 
 impl Model for Cells {
     ghost use Rattle.std.specs.Prelude.{List};
     ghost use Rattle.fs_closing.specs.declared.cells.Cell.{Cell as Entry};
-    ghost use Rattle.fs_closing.specs.Inner.Indexes.{IsIndex};
+    ghost use Rattle.fs_closing.specs.Inner.Indexes.{HaveIndex};
 
     ghost Value = { List Entry };
 
     ghost view = { λ c. c.cells.items };
 
-    ghost invariant = { λ c. IsIndex c.cells.items c.index };
+    ghost invariant = { λ c. HaveIndex c.cells.items c.index.items };
 }
 
 // Looks through the arcs from a place on, up to so many as are few.
@@ -107,7 +108,7 @@ impl Cells {
     {
         Cells {
             cells: Vec::new(alloc),
-            index: Index::new(alloc),
+            index: Vec::new(alloc),
         }
     }
 
@@ -134,7 +135,7 @@ impl Cells {
         requires falls { PlacesFall self.now }
         ensures { result ≡ find_arc (chain self.now first) feat }
     {
-        if self.index.is_empty() {
+        if index::is_empty(&self.index) {
             return look_through(&self.cells, first, feat);
         }
         self.find_among_many(n, first, feat)
@@ -150,7 +151,7 @@ impl Cells {
         match look_few(&self.cells, first, feat) {
             Sought::Found(to) => Some(to),
             Sought::From(0) => None,
-            Sought::From(_) => match seek(&self.index, n, first, feat) {
+            Sought::From(_) => match index::seek(&self.index, n, first, feat) {
                 Sought::Found(to) => Some(to),
                 Sought::From(rest) => look_through(&self.cells, rest, feat),
             },
@@ -168,7 +169,8 @@ impl Cells {
         let many = cell.next > FEW && are_many(&self.cells, cell.next);
         self.cells.push(cell)?;
         if many {
-            extend(&mut self.index, n, cell, place)?;
+            let alloc = *self.cells.allocator();
+            index::extend(&mut self.index, alloc, n, cell, place)?;
         }
         Ok(())
     }
@@ -178,6 +180,6 @@ impl Cells {
         ensures { self.new ≡ [] }
     {
         self.cells.clear();
-        self.index.clear();
+        index::clear(&mut self.index);
     }
 }

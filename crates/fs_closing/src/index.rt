@@ -1,8 +1,8 @@
 //! Where the arcs of nodes with many of them lead.
 
-ghost use Rattle.std.specs.Prelude.{◌≡◌, ◌≤◌, ◌+◌, ◌++◌, ◌∷◌, [], List, length};
+ghost use Rattle.std.specs.Prelude.{◌≡◌, ◌≤◌, ◌+◌, ◌++◌, ◌∷◌, ◌<◌, [], List, length, OnOk};
 ghost use Rattle.fs_closing.specs.declared.cells.Cell.{Cell as CellValue};
-ghost use Rattle.fs_closing.specs.Inner.Indexes.{IsIndex, Leads};
+ghost use Rattle.fs_closing.specs.Inner.Indexes.{IsIndex, HaveIndex, Leads};
 
 use crate::cells::{Cell, Sought};
 use crate::fault::NoMemory;
@@ -34,11 +34,6 @@ impl Index {
             arcs: HashMap::new(alloc),
             parts: HashMap::new(alloc),
         }
-    }
-
-    /// Whether no node has many arcs.
-    pub fn is_empty(&self) -> bool {
-        self.parts.is_empty()
     }
 
     /// Drops all arcs. It costs nothing where there are none.
@@ -83,9 +78,8 @@ fn enter(index: &mut Index, n: u32, cell: Cell, place: u32) -> Result<(), NoMemo
     Ok(())
 }
 
-/// A new arc of a node with many gets into the index.
-#[inline(never)]
-pub fn extend(index: &mut Index, n: u32, cell: Cell, place: u32) -> Result<(), NoMemory>
+// A new arc of a node with many gets into an index.
+fn extend_in(index: &mut Index, n: u32, cell: Cell, place: u32) -> Result<(), NoMemory>
     ensures { (cells : List CellValue) → cell.next ≤ length cells → place ≡ length cells + 1 → IsIndex cells index.old → IsIndex (cells ++ cell ∷ []) index.new }
 {
     begin(index, n, cell.next)?;
@@ -93,8 +87,8 @@ pub fn extend(index: &mut Index, n: u32, cell: Cell, place: u32) -> Result<(), N
     Ok(())
 }
 
-/// Where an arc of a node leads, of those from a place on, or the place from which on it is to be sought.
-pub fn seek(index: &Index, n: u32, first: u32, feat: u32) -> Sought
+// Where an arc of a node leads, of those from a place on, or the place from which on it is to be sought.
+fn seek_in(index: &Index, n: u32, first: u32, feat: u32) -> Sought
     ensures { (cells : List CellValue) → first ≤ length cells → IsIndex cells index.now → Leads cells first feat result }
 {
     let Some(part) = index.parts.get(&n).copied() else {
@@ -107,4 +101,61 @@ pub fn seek(index: &Index, n: u32, first: u32, feat: u32) -> Sought
         Some(to) => Sought::Found(to),
         None => Sought::From(part.rest),
     }
+}
+
+/// Whether no node has many arcs.
+pub fn is_empty(indexes: &[Index]) -> bool {
+    if indexes.is_empty() {
+        return true;
+    }
+    indexes[0].parts.is_empty()
+}
+
+// Makes the index, if it isn't there.
+fn make(indexes: &mut Vec<Index>, alloc: Global) -> Result<(), NoMemory>
+    ensures there { OnOk result (0 < length indexes.new.items) }
+    ensures index { (cells : List CellValue) → HaveIndex cells indexes.old.items → HaveIndex cells indexes.new.items }
+{
+    if !indexes.is_empty() {
+        return Ok(());
+    }
+    let index = Index::new(alloc);
+    indexes.push(index)?;
+    Ok(())
+}
+
+/// A new arc of a node with many gets into the index, which is made for the first one.
+#[inline(never)]
+pub fn extend(
+    indexes: &mut Vec<Index>,
+    alloc: Global,
+    n: u32,
+    cell: Cell,
+    place: u32,
+) -> Result<(), NoMemory>
+    ensures { (cells : List CellValue) → cell.next ≤ length cells → place ≡ length cells + 1 → HaveIndex cells indexes.old.items → HaveIndex (cells ++ cell ∷ []) indexes.new.items }
+{
+    make(indexes, alloc)?;
+    extend_in(&mut indexes[0], n, cell, place)?;
+    Ok(())
+}
+
+/// Where an arc of a node leads, of those from a place on, or the place from which on it is to be sought.
+pub fn seek(indexes: &[Index], n: u32, first: u32, feat: u32) -> Sought
+    ensures { (cells : List CellValue) → first ≤ length cells → HaveIndex cells indexes.now → Leads cells first feat result }
+{
+    if indexes.is_empty() {
+        return Sought::From(first);
+    }
+    seek_in(&indexes[0], n, first, feat)
+}
+
+/// Drops all arcs, and keeps their memory. It costs nothing where there are none.
+pub fn clear(indexes: &mut Vec<Index>)
+    ensures { (cells later : List CellValue) → HaveIndex cells indexes.old.items → HaveIndex later indexes.new.items }
+{
+    if indexes.is_empty() {
+        return;
+    }
+    indexes[0].clear();
 }

@@ -274,7 +274,7 @@ members_skip words items from to h none is =
     members_more words items items from to h is (sym (append-nil items) ∙ ap (λ l. items ++ l) (sym (filter_none (has_bit words) from (to - from) (λ x low high. none x low (omega arith)))))
 
 -- the bits of a word that is shifted down
-shifted : (w s i : ℕ) → bit_at (w / 2 ^ s) i ≡ bit_at w (s + i)
+pub shifted : (w s i : ℕ) → bit_at (w / 2 ^ s) i ≡ bit_at w (s + i)
 shifted w s i = ap (λ q. q % 2) (div-div-eq-div-mul w (2 ^ s) (2 ^ i) ∙ ap (λ d. w / d) (sym (pow-add 2 s i)))
 
 -- a number whose word is that of an earlier one
@@ -363,3 +363,30 @@ pub row_retained : (n : ℕ) (a b c : List ℕ) → length c ≡ length a → le
 row_retained n a b c len len' each r = cover n a c r len
     (λ k h. subst (λ w. w < 2 ^ 64) (sym (each k h)) (omega (arith, word_fits n a k r h, and_le_l (slice_index a k) (slice_index b k))))
     (λ x h. anded a b c len' len each x ∙ ap (λ p. p && has_bit b x) (r.none_past x h))
+
+-- a word more at a place
+pub word_here : (a : List ℕ) (k w x : ℕ) → k < length a → x / 64 ≡ k → has_bit (slice_set a k (bit_or (slice_index a k) w)) x ≡ (has_bit a x || (bit_at w (x % 64) == 1))
+word_here a k w x h e =
+    ap (λ j. bit_at (slice_index (slice_set a k (bit_or (slice_index a k) w)) j) (x % 64) == 1) e ∙ ap (λ v. bit_at v (x % 64) == 1) (get_or-set_same a k _ 0 h)
+    ∙ ap (λ v. v == 1) (bit_at_or _ _ (x % 64)) ∙ max_is _ _ (bit_at-lt (slice_index a k) (x % 64)) (bit_at-lt w (x % 64))
+    ∙ ap (λ j. (bit_at (slice_index a j) (x % 64) == 1) || (bit_at w (x % 64) == 1)) (sym e)
+
+pub word_apart : (a : List ℕ) (k w x : ℕ) → x / 64 ≢ k → has_bit (slice_set a k (bit_or (slice_index a k) w)) x ≡ has_bit a x
+word_apart a k w x ne = ap (λ v. bit_at v (x % 64) == 1) (get_or-set_other a k (x / 64) _ 0 ne)
+
+pub row_with_word : (n : ℕ) (a : List ℕ) (k w : ℕ) → k < length a → w < 2 ^ 64 → ((i : ℕ) → i < 64 → (bit_at w i == 1) ≡ true → 64 * k + i < n) → IsRow n a →
+    IsRow n (slice_set a k (bit_or (slice_index a k) w))
+row_with_word n a k w h small ends r = cover n a _ r (length-set a k _) (λ j l. fit j l (cases_same j k)) (λ x l. past x l (cases_same (x / 64) k))
+  where
+    fit : (j : ℕ) → j < length a → (j ≡ k) ⊎ (j ≢ k) → slice_index (slice_set a k (bit_or (slice_index a k) w)) j < 2 ^ 64
+    fit j l (inl e) =
+        subst (λ v. v < 2 ^ 64) (sym (ap (slice_index (slice_set a k (bit_or (slice_index a k) w))) e ∙ get_or-set_same a k _ 0 h)) (or_lt 64 _ _ (word_fits n a k r h) small)
+    fit j l (inr e) = subst (λ v. v < 2 ^ 64) (sym (get_or-set_other a k j _ 0 e)) (word_fits n a j r l)
+
+    unset : (x : ℕ) → n ≤ x → x / 64 ≡ k → (b : Bool) → (bit_at w (x % 64) == 1) ≡ b → b ≡ false
+    unset x l e false f = refl
+    unset x l e true f = let less = ends (x % 64) (omega arith) f in absurd (omega arith)
+
+    past : (x : ℕ) → n ≤ x → (x / 64 ≡ k) ⊎ (x / 64 ≢ k) → has_bit (slice_set a k (bit_or (slice_index a k) w)) x ≡ false
+    past x l (inl e) = word_here a k w x h e ∙ sym (no_or _ _ false (r.none_past x l) (unset x l e (bit_at w (x % 64) == 1) refl) refl)
+    past x l (inr e) = word_apart a k w x e ∙ r.none_past x l

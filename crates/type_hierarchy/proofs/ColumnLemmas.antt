@@ -1,13 +1,18 @@
 -- Rows of bits turned to columns.
-use Rattle.std.proofs.Common.{ℕ, ◌≡◌, ◌≢◌, ◌≤◌, ◌<◌, ◌+◌, ◌||◌, ◌⊎◌, inl, inr, Bool, true, false, List, [], length, slice_index_or, slice_set, Vec, All, refl, sym, ◌∙◌, ap, subst, arith}
+use Rattle.std.proofs.Common.{ℕ, ◌≡◌, ◌≢◌, ◌≤◌, ◌<◌, ◌+◌, ◌-◌, ◌*◌, ◌/◌, ◌%◌, ◌==◌, ◌||◌, ◌⊎◌, inl, inr, true, false, List, [], length, slice_index, slice_index_or, slice_set, replicate, Vec, All, refl, sym, ◌∙◌, ap, subst, arith}
 use Rattle.std.specs.Global.{Global}
+use Rattle.std.specs.Int.{bit_at}
 use Rattle.std.proofs.lemmas.Bool.{cases_lt}
-use Rattle.std.proofs.lemmas.List.{length-set, get_or-set_same, get_or-set_other, get_or-map}
+use Rattle.std.proofs.lemmas.List.{length-set, length-map, get_or-set_same, get_or-set_other, get_or-map, get_or_past, get_or-replicate, length-replicate}
+use Rattle.std.proofs.lemmas.Nat.Bits.{bit_at-zero}
 use Rattle.type_hierarchy.specs.Bits.{has_bit, IsRow}
-use Rattle.type_hierarchy.specs.Inner.Tables.{row_items}
-use Rattle.type_hierarchy.specs.Inner.Columns.{IsEntered}
+use Rattle.type_hierarchy.specs.Inner.Columns.{AreColumns, IsGrown, cell}
+use Rattle.type_hierarchy.specs.Inner.Reach.{lists}
+use Rattle.type_hierarchy.specs.Inner.Rows.{row_at, AreEmpty}
+use Rattle.type_hierarchy.proofs.BitLemmas.{has_bit-past}
+use Rattle.type_hierarchy.proofs.SetLemmas.{same_bools, differ, or_cases, or_left, or_right}
 
-same_or_other : (k x : ℕ) → (k ≡ x) ⊎ (k ≢ x)
+pub same_or_other : (k x : ℕ) → (k ≡ x) ⊎ (k ≢ x)
 same_or_other k x = go (cases_lt k x) (cases_lt x k)
   where
     go : (k < x) ⊎ (x ≤ k) → (x < k) ⊎ (k ≤ x) → (k ≡ x) ⊎ (k ≢ x)
@@ -15,118 +20,219 @@ same_or_other k x = go (cases_lt k x) (cases_lt x k)
     go (inr a) (inl b) = inr (λ e. omega arith)
     go (inr a) (inr b) = inl (omega arith)
 
--- the members below x have the number
-pub record IsEntering (first columns : List (Vec ℕ Global)) (row : List ℕ) (number x : ℕ) : Type 0 where
-  pub rows : (n : ℕ) → number < n → All (λ column. IsRow n column.items) first → All (λ column. IsRow n column.items) columns
-  pub size : length columns ≡ length first
-  pub others : (k : ℕ) → k < length first → (y : ℕ) → y ≢ number → has_bit (row_items columns k) y ≡ has_bit (row_items first k) y
-  pub done : (k : ℕ) → k < x → k < length first → has_bit (row_items columns k) number ≡ (has_bit (row_items first k) number || has_bit row k)
-  pub rest : (k : ℕ) → x ≤ k → k < length first → has_bit (row_items columns k) number ≡ has_bit (row_items first k) number
-
-pub entering_starts : (first : List (Vec ℕ Global)) (row : List ℕ) (number : ℕ) → IsEntering first first row number 0
-entering_starts first row number = record {
-  rows = λ n h all. all;
+-- no number was put into a column
+pub grown_none : (columns : List (Vec ℕ Global)) (P : ℕ → ℕ → Type 0) → ((x y : ℕ) → x < length columns → P x y → ⊥) → IsGrown columns columns P
+grown_none columns P none = record {
   size = refl;
-  others = λ k l y ne. refl;
-  done = λ k l l'. absurd (omega arith);
-  rest = λ k l l'. refl;
+  keeps = λ x y l h. h;
+  has = λ x y l p. absurd (none x y l p);
+  only = λ x y l h. inl h;
 }
 
-or_false : (p q : Bool) → q ≡ false → p ≡ (p || q)
-or_false true q e = refl
-or_false false q e = sym e
-
-or_true : (p q : Bool) → q ≡ true → true ≡ (p || q)
-or_true true q e = refl
-or_true false q e = sym e
-
--- numbers that aren't members
-pub entering_skip : (first columns : List (Vec ℕ Global)) (row : List ℕ) (number x to : ℕ) → x ≤ to → ((y : ℕ) → x ≤ y → y < to → has_bit row y ≡ false) →
-    IsEntering first columns row number x → IsEntering first columns row number to
-entering_skip first columns row number x to h none s = record {
-  rows = s.rows;
-  size = s.size;
-  others = s.others;
-  done = λ k l l'. done k l l' (cases_lt k x);
-  rest = λ k l l'. s.rest k (omega arith) l';
+-- some numbers were put into columns, and then others
+pub grown_more : (first old new : List (Vec ℕ Global)) (P Q R : ℕ → ℕ → Type 0) → IsGrown first old P → IsGrown old new Q →
+    ((x y : ℕ) → x < length first → R x y → P x y ⊎ Q x y) → ((x y : ℕ) → P x y → R x y) → ((x y : ℕ) → x < length first → Q x y → R x y) → IsGrown first new R
+grown_more first old new P Q R f g split left right = record {
+  size = g.size ∙ f.size;
+  keeps = λ x y l h. g.keeps x y (within x l) (f.keeps x y l h);
+  has = λ x y l r. has x y l (split x y l r);
+  only = λ x y l h. only x y l (g.only x y (within x l) h);
 }
   where
-    done : (k : ℕ) → k < to → k < length first → (k < x) ⊎ (x ≤ k) → has_bit (row_items columns k) number ≡ (has_bit (row_items first k) number || has_bit row k)
-    done k l l' (inl a) = s.done k a l'
-    done k l l' (inr a) = s.rest k a l' ∙ or_false (has_bit (row_items first k) number) _ (none k a l)
+    within : (x : ℕ) → x < length first → x < length old
+    within x l = omega (arith, l, f.size)
 
-pub entering_more : (first columns new : List (Vec ℕ Global)) (row : List ℕ) (number x : ℕ) (old column : Vec ℕ Global) → IsEntering first columns row number x → x < length columns →
-    has_bit row x ≡ true → old ≡ slice_index_or columns x old → new ≡ slice_set columns x column → has_bit column.items number ≡ (has_bit old.items number || true) →
-    ((y : ℕ) → y ≢ number → has_bit column.items y ≡ has_bit old.items y) → ((n : ℕ) → number < n → IsRow n old.items → IsRow n column.items) →
-    IsEntering first new row number (x + 1)
-entering_more first columns new row number x old column s l e is set has others keeps = record {
-  rows = λ n fits all k d m. rows_at n fits all k d m (same_or_other k x);
-  size = len ∙ s.size;
-  others = λ k m y ne. others_at k m y ne (same_or_other k x);
-  done = λ k m m'. done_at k m m' (same_or_other k x);
-  rest = λ k m m'. rest_at k m m' (same_or_other k x);
+    has : (x y : ℕ) → x < length first → P x y ⊎ Q x y → has_bit (row_at (lists new) x) y ≡ true
+    has x y l (inl p) = g.keeps x y (within x l) (f.has x y l p)
+    has x y l (inr q) = g.has x y (within x l) q
+
+    earlier : (x y : ℕ) → (has_bit (row_at (lists first) x) y ≡ true) ⊎ P x y → (has_bit (row_at (lists first) x) y ≡ true) ⊎ R x y
+    earlier x y (inl h) = inl h
+    earlier x y (inr p) = inr (left x y p)
+
+    only : (x y : ℕ) → x < length first → (has_bit (row_at (lists old) x) y ≡ true) ⊎ Q x y → (has_bit (row_at (lists first) x) y ≡ true) ⊎ R x y
+    only x y l (inl h) = earlier x y (f.only x y l h)
+    only x y l (inr q) = inr (right x y l q)
+
+pub grown_as : (old new : List (Vec ℕ Global)) (P R : ℕ → ℕ → Type 0) → IsGrown old new P → ((x y : ℕ) → x < length old → R x y → P x y) →
+    ((x y : ℕ) → x < length old → P x y → R x y) → IsGrown old new R
+grown_as old new P R f back to = record {
+  size = f.size;
+  keeps = f.keeps;
+  has = λ x y l r. f.has x y l (back x y l r);
+  only = λ x y l h. only x y l (f.only x y l h);
+}
+  where
+    only : (x y : ℕ) → x < length old → (has_bit (row_at (lists old) x) y ≡ true) ⊎ P x y → (has_bit (row_at (lists old) x) y ≡ true) ⊎ R x y
+    only x y l (inl h) = inl h
+    only x y l (inr p) = inr (to x y l p)
+
+-- the column of x, of which a word has more
+pub one_column : (columns new : List (Vec ℕ Global)) (x place word : ℕ) (old column : Vec ℕ Global) → x < length columns → old ≡ slice_index_or columns x old →
+    new ≡ slice_set columns x column →
+    ((y : ℕ) → y / 64 ≡ place → has_bit column.items y ≡ (has_bit old.items y || (bit_at word (y % 64) == 1))) →
+    ((y : ℕ) → y / 64 ≢ place → has_bit column.items y ≡ has_bit old.items y) →
+    IsGrown columns new (λ z y. (z ≡ x) × (y / 64 ≡ place) × ((bit_at word (y % 64) == 1) ≡ true))
+one_column columns new x place word old column l is set has others = record {
+  size = len;
+  keeps = λ z y m h. keeps z y m h (same_or_other z x) (same_or_other (y / 64) place);
+  has = λ z y m p. at_x z y m p.0 ∙ has y p.1 ∙ or_right _ _ p.2;
+  only = λ z y m h. only z y m h (same_or_other z x) (same_or_other (y / 64) place);
 }
   where
     len : length new ≡ length columns
     len = ap length set ∙ length-set columns x column
 
-    here : (d : Vec ℕ Global) → slice_index_or new x d ≡ column
-    here d = ap (λ q. slice_index_or q x d) set ∙ get_or-set_same columns x column d l
+    here : row_at (lists new) x ≡ column.items
+    here = get_or-map (λ r. r.items) new x old [] (omega (arith, len, l)) ∙ ap (λ r. r.items) (ap (λ q. slice_index_or q x old) set ∙ get_or-set_same columns x column old l)
 
-    apart : (k : ℕ) (d : Vec ℕ Global) → k ≢ x → slice_index_or new k d ≡ slice_index_or columns k d
-    apart k d ne = ap (λ q. slice_index_or q k d) set ∙ get_or-set_other columns x k column d ne
+    was : row_at (lists columns) x ≡ old.items
+    was = get_or-map (λ r. r.items) columns x old [] l ∙ ap (λ r. r.items) (sym is)
 
-    column_here : row_items new x ≡ column.items
-    column_here = get_or-map (λ r. r.items) new x old [] (omega (arith, len, l)) ∙ ap (λ r. r.items) (here old)
+    apart : (z : ℕ) → z < length columns → z ≢ x → row_at (lists new) z ≡ row_at (lists columns) z
+    apart z m ne =
+        get_or-map (λ r. r.items) new z old [] (omega (arith, len, m)) ∙ ap (λ r. r.items) (ap (λ q. slice_index_or q z old) set ∙ get_or-set_other columns x z column old ne)
+        ∙ sym (get_or-map (λ r. r.items) columns z old [] m)
 
-    column_was : row_items columns x ≡ old.items
-    column_was = get_or-map (λ r. r.items) columns x old [] l ∙ ap (λ r. r.items) (sym is)
+    at_x : (z y : ℕ) → z < length columns → z ≡ x → has_bit (row_at (lists new) z) y ≡ has_bit column.items y
+    at_x z y m e = ap (λ j. has_bit (row_at (lists new) j) y) e ∙ ap (λ r. has_bit r y) here
 
-    column_apart : (k : ℕ) → k < length first → k ≢ x → row_items new k ≡ row_items columns k
-    column_apart k m ne = get_or-map (λ r. r.items) new k old [] (omega (arith, len, s.size, m)) ∙ ap (λ r. r.items) (apart k old ne) ∙ sym (get_or-map (λ r. r.items) columns k old [] (omega (arith, s.size, m)))
+    was_x : (z y : ℕ) → z ≡ x → has_bit (row_at (lists columns) z) y ≡ has_bit old.items y
+    was_x z y e = ap (λ j. has_bit (row_at (lists columns) j) y) e ∙ ap (λ r. has_bit r y) was
 
-    rows_at : (n : ℕ) → number < n → All (λ c. IsRow n c.items) first → (k : ℕ) (d : Vec ℕ Global) → k < length new → (k ≡ x) ⊎ (k ≢ x) → IsRow n (slice_index_or new k d).items
-    rows_at n fits all k d m (inl f) = subst (λ v. IsRow n v.items) (sym (ap (λ j. slice_index_or new j d) f ∙ here d))
-        (keeps n fits (subst (λ v. IsRow n v.items) (sym is) (s.rows n fits all x old l)))
-    rows_at n fits all k d m (inr ne) = subst (λ v. IsRow n v.items) (sym (apart k d ne)) (s.rows n fits all k d (omega (arith, len, m)))
+    keeps : (z y : ℕ) → z < length columns → has_bit (row_at (lists columns) z) y ≡ true → (z ≡ x) ⊎ (z ≢ x) → (y / 64 ≡ place) ⊎ (y / 64 ≢ place) →
+        has_bit (row_at (lists new) z) y ≡ true
+    keeps z y m h (inr ne) _ = ap (λ r. has_bit r y) (apart z m ne) ∙ h
+    keeps z y m h (inl e) (inl p) = at_x z y m e ∙ has y p ∙ or_left _ _ (sym (was_x z y e) ∙ h)
+    keeps z y m h (inl e) (inr p) = at_x z y m e ∙ others y p ∙ sym (was_x z y e) ∙ h
 
-    others_at : (k : ℕ) → k < length first → (y : ℕ) → y ≢ number → (k ≡ x) ⊎ (k ≢ x) → has_bit (row_items new k) y ≡ has_bit (row_items first k) y
-    others_at k m y ne (inr a) = ap (λ w. has_bit w y) (column_apart k m a) ∙ s.others k m y ne
-    others_at k m y ne (inl f) = ap (λ j. has_bit (row_items new j) y) f ∙ ap (λ w. has_bit w y) column_here ∙ others y ne ∙ ap (λ w. has_bit w y) (sym column_was) ∙ ap (λ j. has_bit (row_items columns j) y) (sym f) ∙ s.others k m y ne
+    more : (z y : ℕ) → z ≡ x → y / 64 ≡ place → (has_bit old.items y ≡ true) ⊎ ((bit_at word (y % 64) == 1) ≡ true) →
+        (has_bit (row_at (lists columns) z) y ≡ true) ⊎ ((z ≡ x) × (y / 64 ≡ place) × ((bit_at word (y % 64) == 1) ≡ true))
+    more z y e p (inl h) = inl (was_x z y e ∙ h)
+    more z y e p (inr b) = inr (e, p, b)
 
-    done_at : (k : ℕ) → k < x + 1 → k < length first → (k ≡ x) ⊎ (k ≢ x) → has_bit (row_items new k) number ≡ (has_bit (row_items first k) number || has_bit row k)
-    done_at k m m' (inr a) = ap (λ w. has_bit w number) (column_apart k m' a) ∙ s.done k (earlier (cases_lt k x)) m'
-      where
-        earlier : (k < x) ⊎ (x ≤ k) → k < x
-        earlier (inl b) = b
-        earlier (inr b) = absurd (a (omega arith))
-    done_at k m m' (inl f) =
-        ap (λ j. has_bit (row_items new j) number) f ∙ ap (λ w. has_bit w number) column_here ∙ has ∙ sym (or_true (has_bit old.items number) true refl)
-        ∙ or_true (has_bit (row_items first k) number) (has_bit row k) (ap (has_bit row) f ∙ e)
+    only : (z y : ℕ) → z < length columns → has_bit (row_at (lists new) z) y ≡ true → (z ≡ x) ⊎ (z ≢ x) → (y / 64 ≡ place) ⊎ (y / 64 ≢ place) →
+        (has_bit (row_at (lists columns) z) y ≡ true) ⊎ ((z ≡ x) × (y / 64 ≡ place) × ((bit_at word (y % 64) == 1) ≡ true))
+    only z y m h (inr ne) _ = inl (sym (ap (λ r. has_bit r y) (apart z m ne)) ∙ h)
+    only z y m h (inl e) (inl p) = more z y e p (or_cases _ _ (sym (at_x z y m e ∙ has y p) ∙ h))
+    only z y m h (inl e) (inr p) = inl (was_x z y e ∙ sym (at_x z y m e ∙ others y p) ∙ h)
 
-    rest_at : (k : ℕ) → x + 1 ≤ k → k < length first → (k ≡ x) ⊎ (k ≢ x) → has_bit (row_items new k) number ≡ has_bit (row_items first k) number
-    rest_at k m m' (inl f) = absurd (omega arith)
-    rest_at k m m' (inr a) = ap (λ w. has_bit w number) (column_apart k m' a) ∙ s.rest k (omega arith) m'
+-- one column was written, and the others are as before
+pub rows_set : (n : ℕ) (columns new : List (Vec ℕ Global)) (x : ℕ) (column : Vec ℕ Global) → x < length columns → new ≡ slice_set columns x column → IsRow n column.items →
+    All (λ c. IsRow n c.items) columns → All (λ c. IsRow n c.items) new
+rows_set n columns new x column l set row all k d m = go (same_or_other k x)
+  where
+    go : (k ≡ x) ⊎ (k ≢ x) → IsRow n (slice_index_or new k d).items
+    go (inl e) =
+        subst (λ c. IsRow n c.items) (sym (ap (λ j. slice_index_or new j d) e ∙ ap (λ q. slice_index_or q x d) set ∙ get_or-set_same columns x column d l)) row
+    go (inr ne) =
+        subst (λ c. IsRow n c.items) (sym (ap (λ q. slice_index_or q k d) set ∙ get_or-set_other columns x k column d ne))
+        (all k d (omega (arith, m, ap length set, length-set columns x column)))
 
--- the first rows have been entered
-pub record HasEntered (rows columns : List (Vec ℕ Global)) (i : ℕ) : Type 0 where
-  pub told : (x k : ℕ) → x < length columns → k < i → has_bit (row_items columns x) k ≡ has_bit (row_items rows k) x
-  pub unset : (x k : ℕ) → x < length columns → i ≤ k → has_bit (row_items columns x) k ≡ false
+-- rows past the last have no numbers
+pub past_rows : (rows : List (Vec ℕ Global)) (k x : ℕ) → length rows ≤ k → has_bit (row_at (lists rows) k) x ≡ false
+past_rows rows k x h =
+    ap (λ r. has_bit r x) (get_or_past (lists rows) k [] (omega (arith, h, length-map rows (λ v. v.items)))) ∙ has_bit-past [] x (omega arith)
 
-pub entered_more : (rows old new : List (Vec ℕ Global)) (row : List ℕ) (i : ℕ) → HasEntered rows old i → row ≡ row_items rows i → IsEntered old new row i → HasEntered rows new (i + 1)
-entered_more rows old new row i s is m = record {
-  told = λ x k l h. told x k (omega (arith, l, m.size)) h (same_or_other k i);
-  unset = λ x k l h. m.others x (omega (arith, l, m.size)) k (λ e. omega arith) ∙ s.unset x k (omega (arith, l, m.size)) (omega arith);
+pub row_there : (rows : List (Vec ℕ Global)) (k x : ℕ) → has_bit (row_at (lists rows) k) x ≡ true → k < length rows
+row_there rows k x e = go (cases_lt k (length rows))
+  where
+    go : (k < length rows) ⊎ (length rows ≤ k) → k < length rows
+    go (inl h) = h
+    go (inr h) = absurd (differ _ e (past_rows rows k x h))
+
+-- all rows were entered
+pub columns_told : (first columns rows : List (Vec ℕ Global)) (count groups : ℕ) → length first ≡ count → AreEmpty (lists first) → length rows ≤ 64 * groups →
+    All (λ c. IsRow (length rows) c.items) columns → IsGrown first columns (λ x y. (y / 64 < groups) × (has_bit (row_at (lists rows) y) x ≡ true)) → AreColumns count rows columns
+columns_told first columns rows count groups size empty enough all grown = record {
+  one_each = grown.size ∙ size;
+  rows_are = all;
+  told = λ x k h l. same_bools _ _ (to x k (omega (arith, h, size))) (λ e. grown.has x k (omega (arith, h, size)) (omega arith, e));
 }
   where
-    false_or : (p q : Bool) → p ≡ false → (p || q) ≡ q
-    false_or p q e = ap (λ b. b || q) e
-
-    told : (x k : ℕ) → x < length old → k < i + 1 → (k ≡ i) ⊎ (k ≢ i) → has_bit (row_items new x) k ≡ has_bit (row_items rows k) x
-    told x k l h (inr ne) = m.others x l k ne ∙ s.told x k l (less (cases_lt k i))
+    to : (x k : ℕ) → x < length first → has_bit (row_at (lists columns) x) k ≡ true → has_bit (row_at (lists rows) k) x ≡ true
+    to x k h e = go (grown.only x k h e)
       where
-        less : (k < i) ⊎ (i ≤ k) → k < i
+        go : (has_bit (row_at (lists first) x) k ≡ true) ⊎ ((k / 64 < groups) × (has_bit (row_at (lists rows) k) x ≡ true)) → has_bit (row_at (lists rows) k) x ≡ true
+        go (inl f) = absurd (differ _ f (empty x (omega (arith, h, length-map first (λ v. v.items))) k))
+        go (inr p) = p.1
+
+-- a square of zeros
+pub blank_cell : (square : List ℕ) (r c : ℕ) → square ≡ replicate 64 0 → cell square r c ≡ false
+blank_cell square r c is = ap (λ w. bit_at w c == 1) (ap (λ l. slice_index l r) is ∙ zero_at (cases_lt r 64)) ∙ ap (λ w. w == 1) (bit_at-zero c)
+  where
+    zero_at : (r < 64) ⊎ (64 ≤ r) → slice_index (replicate 64 0) r ≡ 0
+    zero_at (inl h) = get_or-replicate 64 r 0 0 h
+    zero_at (inr h) = get_or_past (replicate 64 0) r 0 (omega (arith, length-replicate {A = ℕ} 64 0))
+
+-- one word more of a square
+pub set_more : (square : List ℕ) (j word : ℕ) (f : ℕ → ℕ) → j < length square → word ≡ f j → ((k : ℕ) → k < j → slice_index square k ≡ f k) →
+    (k : ℕ) → k < j + 1 → slice_index (slice_set square j word) k ≡ f k
+set_more square j word f h is done k l = go (same_or_other k j)
+  where
+    go : (k ≡ j) ⊎ (k ≢ j) → slice_index (slice_set square j word) k ≡ f k
+    go (inl e) = ap (slice_index (slice_set square j word)) e ∙ get_or-set_same square j word 0 h ∙ is ∙ ap f (sym e)
+    go (inr ne) = get_or-set_other square j k word 0 ne ∙ done k (less (cases_lt k j))
+      where
+        less : (k < j) ⊎ (j ≤ k) → k < j
         less (inl a) = a
         less (inr a) = absurd (ne (omega arith))
-    told x k l h (inl e) = subst (λ j. has_bit (row_items new x) j ≡ has_bit (row_items rows j) x) (sym e)
-        (m.put x l ∙ false_or _ _ (s.unset x i l (omega arith)) ∙ ap (λ r. has_bit r x) is)
+
+-- one column more was written
+pub scattered_more : (first old new : List (Vec ℕ Global)) (square : List ℕ) (from place j : ℕ) →
+    IsGrown first old (λ x y. (from ≤ x) × (x < from + j) × (y / 64 ≡ place) × (cell square (x - from) (y % 64) ≡ true)) →
+    IsGrown old new (λ x y. (x ≡ from + j) × (y / 64 ≡ place) × ((bit_at (slice_index square j) (y % 64) == 1) ≡ true)) →
+    IsGrown first new (λ x y. (from ≤ x) × (x < from + (j + 1)) × (y / 64 ≡ place) × (cell square (x - from) (y % 64) ≡ true))
+scattered_more first old new square from place j f g = grown_more first old new P Q R f g split (λ x y p. (p.0, omega (arith, p.1), p.2, p.3)) right
+  where
+    P : ℕ → ℕ → Type 0
+    P x y = (from ≤ x) × (x < from + j) × (y / 64 ≡ place) × (cell square (x - from) (y % 64) ≡ true)
+
+    Q : ℕ → ℕ → Type 0
+    Q x y = (x ≡ from + j) × (y / 64 ≡ place) × ((bit_at (slice_index square j) (y % 64) == 1) ≡ true)
+
+    R : ℕ → ℕ → Type 0
+    R x y = (from ≤ x) × (x < from + (j + 1)) × (y / 64 ≡ place) × (cell square (x - from) (y % 64) ≡ true)
+
+    split : (x y : ℕ) → x < length first → (from ≤ x) × (x < from + (j + 1)) × (y / 64 ≡ place) × (cell square (x - from) (y % 64) ≡ true) →
+        ((from ≤ x) × (x < from + j) × (y / 64 ≡ place) × (cell square (x - from) (y % 64) ≡ true))
+        ⊎ ((x ≡ from + j) × (y / 64 ≡ place) × ((bit_at (slice_index square j) (y % 64) == 1) ≡ true))
+    split x y l (a, b, c, d) = go (cases_lt x (from + j))
+      where
+        go : (x < from + j) ⊎ (from + j ≤ x) →
+            ((from ≤ x) × (x < from + j) × (y / 64 ≡ place) × (cell square (x - from) (y % 64) ≡ true))
+            ⊎ ((x ≡ from + j) × (y / 64 ≡ place) × ((bit_at (slice_index square j) (y % 64) == 1) ≡ true))
+        go (inl h) = inl (a, h, c, d)
+        go (inr h) = let at : x - from ≡ j = omega arith in inr (omega arith, c, ap (λ k. cell square k (y % 64)) (sym at) ∙ d)
+
+    right : (x y : ℕ) → x < length first → (x ≡ from + j) × (y / 64 ≡ place) × ((bit_at (slice_index square j) (y % 64) == 1) ≡ true) →
+        (from ≤ x) × (x < from + (j + 1)) × (y / 64 ≡ place) × (cell square (x - from) (y % 64) ≡ true)
+    right x y l (a, b, c) = let at : x - from ≡ j = omega arith in (omega arith, omega arith, b, ap (λ k. cell square k (y % 64)) at ∙ c)
+
+-- a square has the bits of rows, turned
+pub square_grown : (old new rows : List (Vec ℕ Global)) (square : List ℕ) (place group : ℕ) →
+    ((r c : ℕ) → r < 64 → c < 64 → cell square r c ≡ has_bit (row_at (lists rows) (64 * group + c)) (64 * place + r)) →
+    IsGrown old new (λ x y. (64 * place ≤ x) × (x < 64 * place + 64) × (y / 64 ≡ group) × (cell square (x - 64 * place) (y % 64) ≡ true)) →
+    IsGrown old new (λ x y. (x / 64 ≡ place) × (y / 64 ≡ group) × (has_bit (row_at (lists rows) y) x ≡ true))
+square_grown old new rows square place group cells f = grown_as old new P R f back to
+  where
+    P : ℕ → ℕ → Type 0
+    P x y = (64 * place ≤ x) × (x < 64 * place + 64) × (y / 64 ≡ group) × (cell square (x - 64 * place) (y % 64) ≡ true)
+
+    R : ℕ → ℕ → Type 0
+    R x y = (x / 64 ≡ place) × (y / 64 ≡ group) × (has_bit (row_at (lists rows) y) x ≡ true)
+
+    is : (x y : ℕ) → x / 64 ≡ place → y / 64 ≡ group → cell square (x - 64 * place) (y % 64) ≡ has_bit (row_at (lists rows) y) x
+    is x y a b =
+        let column : 64 * group + y % 64 ≡ y = omega arith in
+        let row : 64 * place + (x - 64 * place) ≡ x = omega arith in
+        cells (x - 64 * place) (y % 64) (omega arith) (omega arith) ∙ ap (λ k. has_bit (row_at (lists rows) k) (64 * place + (x - 64 * place))) column
+        ∙ ap (has_bit (row_at (lists rows) y)) row
+
+    back : (x y : ℕ) → x < length old → (x / 64 ≡ place) × (y / 64 ≡ group) × (has_bit (row_at (lists rows) y) x ≡ true) →
+        (64 * place ≤ x) × (x < 64 * place + 64) × (y / 64 ≡ group) × (cell square (x - 64 * place) (y % 64) ≡ true)
+    back x y l (a, b, c) = (omega arith, omega arith, b, is x y a b ∙ c)
+
+    to : (x y : ℕ) → x < length old → (64 * place ≤ x) × (x < 64 * place + 64) × (y / 64 ≡ group) × (cell square (x - 64 * place) (y % 64) ≡ true) →
+        (x / 64 ≡ place) × (y / 64 ≡ group) × (has_bit (row_at (lists rows) y) x ≡ true)
+    to x y l (a, b, c, d) = let at : x / 64 ≡ place = omega arith in (at, c, sym (is x y at c) ∙ d)

@@ -18,3 +18,4 @@ pub mod PlaceLemmas
 pub mod CandidateLemmas
 pub mod SupertypeLemmas
 pub mod NearestLemmas
+pub mod SquareLemmas

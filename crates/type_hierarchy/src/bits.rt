@@ -1,6 +1,7 @@
 //! Sets of numbers as words of 64 bits: the number x is bit x % 64 of word x / 64.
 
-ghost use Rattle.std.specs.Prelude.{◌≡◌, ◌≢◌, ℕ, ◌+◌, ◌-◌, ◌*◌, ◌/◌, ◌<◌, ◌≤◌, ◌^◌, ◌&&◌, ◌||◌, ◌==◌, ◌↔◌, ◌++◌, length, filter, IfOk, OnOk, IsTrue, true, false, All};
+ghost use Rattle.std.specs.Prelude.{◌≡◌, ◌≢◌, ℕ, ◌+◌, ◌-◌, ◌*◌, ◌/◌, ◌%◌, ◌<◌, ◌≤◌, ◌^◌, ◌&&◌, ◌||◌, ◌==◌, ◌↔◌, ◌++◌, length, filter, IfOk, OnOk, IsTrue, true, false, All};
+ghost use Rattle.std.specs.Int.{bit_at};
 ghost use Rattle.std.specs.List.{range_with_len};
 ghost use Rattle.type_hierarchy.specs.Bits.{has_bit, bits_below, IsRow};
 ghost use Rattle.type_hierarchy.specs.Inner.Reach.{lists};
@@ -34,6 +35,16 @@ pub fn add(words: &mut [u64], x: u32)
 {
     let place = (x / 64) as usize;
     words[place] |= 1 << (x % 64);
+}
+
+/// Puts the numbers that the bits of a word stand for at its place into the set.
+pub fn add_word(row: &mut Vec<u64>, place: usize, word: u64)
+    requires { place < length row.old.items }
+    ensures has { (x : ℕ) → x / 64 ≡ place → has_bit row.new.items x ≡ (has_bit row.old.items x || (bit_at word (x % 64) == 1)) }
+    ensures others { (x : ℕ) → x / 64 ≢ place → has_bit row.new.items x ≡ has_bit row.old.items x }
+    ensures row { (n : ℕ) → ((i : ℕ) → i < 64 → (bit_at word i == 1) ≡ true → 64 * place + i < n) → IsRow n row.old.items → IsRow n row.new.items }
+{
+    row[place] |= word;
 }
 
 /// Puts all members of the other set into the set.

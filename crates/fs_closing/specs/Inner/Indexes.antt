@@ -1,5 +1,5 @@
 -- An index of the arcs of nodes with many.
-use Rattle.std.specs.Prelude.{ℕ, ◌≡◌, ◌≤◌, Option, Some, None, List, length, nat_eq, Bool, ◌&&◌}
+use Rattle.std.specs.Prelude.{ℕ, ◌≡◌, ◌≤◌, ◌<◌, Option, Some, None, List, length, slice_index_or, nat_eq, Bool, ◌&&◌}
 use Rattle.std.specs.Option.{option_or}
 use Rattle.std.specs.HashMap.{get}
 use Rattle.fs_closing.specs.declared.cells.Cell.{Cell}
@@ -31,6 +31,10 @@ part_in index n = get nat_eq index.parts n
 
 abbrev pub IsIndex : List Cell → Index → Type 0
 IsIndex cells index = AreParts cells (arc_in index) (part_in index)
+
+-- the index is made once it is needed
+abbrev pub HaveIndex : List Cell → List Index → Type 0
+HaveIndex cells indexes = (d : Index) → 0 < length indexes → IsIndex cells (slice_index_or indexes 0 d)
 
 -- what is known of an arc, of those from a place on: where it leads, or a place from which on it is to be sought
 abbrev pub Leads : List Cell → ℕ → ℕ → Sought → Type 0

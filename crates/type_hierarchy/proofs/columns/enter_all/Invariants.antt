@@ -1,12 +1,13 @@
-use Rattle.std.proofs.Common.{◌≡◌, length, All}
-use Rattle.type_hierarchy.specs.Bits.{IsRow}
-use Rattle.type_hierarchy.proofs.ColumnLemmas.{HasEntered}
+use Rattle.std.proofs.Common.{◌≡◌, ◌<◌, ◌/◌, true, length, All}
+use Rattle.type_hierarchy.specs.Bits.{has_bit, IsRow}
+use Rattle.type_hierarchy.specs.Inner.Columns.{IsGrown}
+use Rattle.type_hierarchy.specs.Inner.Reach.{lists}
+use Rattle.type_hierarchy.specs.Inner.Rows.{row_at}
 use Rattle.type_hierarchy.proofs.columns.enter_all.Given as goal
 
-abbrev pub invariant-loop-i : goal.invariant-loop-i
-invariant-loop-i l =
+abbrev pub invariant-loop-group : goal.invariant-loop-group
+invariant-loop-group l =
     record {
-      size : length l.columns ≡ l.count;
+      grown : IsGrown l.initial.columns l.columns (λ x y. (y / 64 < l.group) × (has_bit (row_at (lists l.rows) y) x ≡ true));
       columns_are : All (λ column. IsRow (length l.rows) column.items) l.columns;
-      entered : HasEntered l.rows l.columns l.i;
     }
