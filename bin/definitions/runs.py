@@ -4,6 +4,8 @@ from .bodies import NAMES
 from .cases import case_of, files_of, lattice_of, line_of, options_of
 from .chart_cases import changed, lattice_line, lattice_of_text, limits_of, line_of as text_of_line, sample_of
 from .charts import chart_answer
+from .explain_cases import line_of as line_of_tree, trees_of
+from .explained import explain_answer
 from .grammar import Grammar
 from .items import generate_answer, parse_answer
 from .mrs import Mrs, are_equal, contribution, mrs_line, mrs_of, DEFAULTS
@@ -24,7 +26,7 @@ from .transfer_cases import (
 from .transfers import lines_of_transfer
 from .type_cases import types_asked
 
-MOST_MRSS, BROKEN, SCOPES, TRANSFERS, TEXTS, PROFILES, CHARTS, DEFAULT_READINGS = 12, 20, 30, 25, 6, 4, 25, 10000
+MOST_MRSS, BROKEN, SCOPES, TRANSFERS, TEXTS, PROFILES, CHARTS, EXPLAINED, DEFAULT_READINGS = 12, 20, 30, 25, 6, 4, 25, 60, 10000
 CHECK = ["check", "g", "--settings", "set"]
 
 
@@ -292,6 +294,28 @@ def charted(chance, words, grammar, lines):
     return Asked([*words, *flags], reports, said, 4 if refused else 0, passed=passed)
 
 
+def explain_run(chance):
+    """Trees, a line each, by a random grammar or one of `examples`; with MRSs where the grammar has meanings."""
+    files, words, grammar, lines = sample_of(chance)
+    if None in grammar.instance.values() or any(grammar.constraint(name) is None for name in grammar.types.names):
+        raise TooMuch
+    trees = list(trees_of(grammar, chance.sample(lines, min(len(lines), 12))))
+    mrs_lines = (lambda full: mrs_line(grammar, full)) if "mrs" in grammar.case and chance.random() < 0.8 else None
+    said, reports, refused, passed = [], [], False, 0
+    for _ in range(EXPLAINED):
+        line = line_of_tree(chance, grammar, trees)
+        try:
+            report, is_refused = explain_answer(grammar, len(said) + 1, line, mrs_lines)
+        except TooMuch:
+            passed += 1
+            continue
+        refused |= is_refused
+        said.append(line.decode(errors="surrogateescape"))
+        reports.append(report)
+    words = ["explain", *words[1:], *(["--mrs"] if mrs_lines else []), *workers_of(chance), *(["--lattice"] if chance.random() < 0.1 else [])]
+    return files, [Asked(words, reports, said, 4 if refused else 0, passed=passed)]
+
+
 def chart_report(grammar, number, text, is_lattice):
     """The report on a line, and whether it is refused or can't be read."""
     if any("\udc80" <= c <= "\udcff" for c in text):
@@ -333,4 +357,5 @@ def skips_of(chance):
 RUNS = {
     "syntax": syntax_run, "semantics": semantics_run, "spelling": spelling_run, "types": types_run, "broken": broken_run, "scope": scope_run,
     "transfer": transfer_run, "batch": batch_run, "chart": chart_run,
+    "explain": explain_run,
 }

@@ -2,14 +2,16 @@
 the form is an error of this reader; which faults `lkb` tells is compared elsewhere."""
 import re
 
+from .bodies import NAMES
+
 TOKEN = re.compile(r';[^\n]*|"(?:[^"\\]|\\.)*"|%\(letter-set\s*\([^()]*\)\s*\)|%(?:suffix|prefix)(?:\s*\([^()]*\))+|:=|:begin|:end|:include|:status|:instance|:type|<!|!>|\.\.\.|#?[^\s()<>\[\]!,.&;"#:%]+|[\S]')
 KINDS = {"lex-entry": "entries", "lex-rule": "lexical", "rule": "rules", "root": "roots"}
 DEFAULTS = {"limit": 255, "restrictors": ["CONT", "C-CONT", "STEM"], "daughters": ["ARGS"], "edges": 5000, "readings": 10000, "unary": 8, "lexical-limit": 7, "empty": 4}
 
 
-def case_of_files(folder, top, irregular=None):
-    """A grammar with its irregular forms, under the settings' defaults."""
-    case = {**DEFAULTS, "types": [], "entries": [], "lexical": [], "rules": [], "roots": [], "words": {}, "spelling": {}, "letters": {}, "irregular": [], "order": []}
+def case_of_files(folder, top, irregular=None, names=NAMES):
+    """A grammar with its irregular forms and what it calls its lists, its daughters and its words, under the settings' defaults."""
+    case = {**DEFAULTS, "names": names, "types": [], "entries": [], "lexical": [], "rules": [], "roots": [], "words": {}, "spelling": {}, "letters": {}, "irregular": [], "order": []}
     Reader(folder, top, case).file()
     for line in (folder / irregular).read_text().split("\n") if irregular else ():
         if len(words := line.split()) == 3 and not line.startswith(";"):
@@ -88,7 +90,7 @@ class Reader:
         if self.status == "lexical":
             self.case["spelling"][name] = spelling
         elif self.status == "entries":
-            words = [value for kind, body in terms if kind == "avm" for path, of in body if path == ("STEM",) for _, (items, _) in of for ((_, value),) in items]
+            words = [value for kind, body in terms if kind == "avm" for path, of in body if path == (self.case["names"]["STEM"],) for _, (items, _) in of for ((_, value),) in items]
             self.case["words"][name] = tuple(word.casefold() for text in words for word in text.split())
 
     def spelling(self):

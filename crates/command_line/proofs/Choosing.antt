@@ -4,7 +4,7 @@ use Rattle.std.proofs.lemmas.Slice.Eq.{bytes_eq-Decides}
 use Rattle.std.proofs.lemmas.List.{take_all}
 use Rattle.std.specs.List.{list_all}
 use Rattle.std.specs.Str.{bytes_eq}
-use Rattle.command_line.specs.Words.{OptionName, Workers, Edges, Readings, Lexical, Unary, Empty, Settings, Mrs, Lattice, Value, in_range, name, nothing, is_name, word_of, value_of, IsValue, Item, positional, option as an_option, words_of, AreItems, Task, parse, chart, generate, types, expand, check, self_test, scope, batch, transfer, name_word, command_word, places_of, HasNames}
+use Rattle.command_line.specs.Words.{OptionName, Workers, Edges, Readings, Lexical, Unary, Empty, Settings, Mrs, Lattice, Value, in_range, name, nothing, is_name, word_of, value_of, IsValue, Item, positional, option as an_option, words_of, AreItems, Task, parse, chart, explain, generate, types, expand, check, self_test, scope, batch, transfer, name_word, command_word, places_of, HasNames}
 use Rattle.command_line.specs.declared.tasks.CommandName.{CommandName}
 use Rattle.command_line.specs.declared.tasks.CommandName.TheVariants as named
 use Rattle.command_line.specs.Inner.Reading.{IsWord, of_option, of_name, AreWords, no_word, a_word, is_option_word, is_word, command_named, places_by, places_in, names_in, task_by}
@@ -89,6 +89,7 @@ items-pass (an_option o vs ∷ items) are = rw (word-passes o) (with-value (valu
 pub task-named : (t : Task) (n : CommandName) → command_named (command_word t) ≡ Some n → places_of t ≡ places_in (places_by n)
 task-named (parse g) n e = let same : named.Parse ≡ n = cc in ap (λ x. places_in (places_by x)) same
 task-named (chart g) n e = let same : named.Chart ≡ n = cc in ap (λ x. places_in (places_by x)) same
+task-named (explain g) n e = let same : named.Explain ≡ n = cc in ap (λ x. places_in (places_by x)) same
 task-named (generate g) n e = let same : named.Generate ≡ n = cc in ap (λ x. places_in (places_by x)) same
 task-named (types g) n e = let same : named.Types ≡ n = cc in ap (λ x. places_in (places_by x)) same
 task-named (expand g x) n e = let same : named.Expand ≡ n = cc in ap (λ x. places_in (places_by x)) same
@@ -101,6 +102,7 @@ task-named (transfer r) n e = let same : named.Transfer ≡ n = cc in ap (λ x. 
 pub no-task : (t : Task) → command_named (command_word t) ≡ None → ⊥
 no-task (parse g) e = cc
 no-task (chart g) e = cc
+no-task (explain g) e = cc
 no-task (generate g) e = cc
 no-task (types g) e = cc
 no-task (expand g x) e = cc
@@ -118,6 +120,7 @@ pub named-word : (w : List ℕ) (n : CommandName) → command_named w ≡ Some n
 named-word w n =
     pick (bytes_eq w (codes "parse")) w named.Parse n _ (bytes_eq-Decides w (codes "parse")).0
     (pick (bytes_eq w (codes "chart")) w named.Chart n _ (bytes_eq-Decides w (codes "chart")).0
+    (pick (bytes_eq w (codes "explain")) w named.Explain n _ (bytes_eq-Decides w (codes "explain")).0
     (pick (bytes_eq w (codes "generate")) w named.Generate n _ (bytes_eq-Decides w (codes "generate")).0
     (pick (bytes_eq w (codes "types")) w named.Types n _ (bytes_eq-Decides w (codes "types")).0
     (pick (bytes_eq w (codes "expand")) w named.Expand n _ (bytes_eq-Decides w (codes "expand")).0
@@ -125,11 +128,12 @@ named-word w n =
     (pick (bytes_eq w (codes "self-test")) w named.SelfTest n _ (bytes_eq-Decides w (codes "self-test")).0
     (pick (bytes_eq w (codes "scope")) w named.Scope n _ (bytes_eq-Decides w (codes "scope")).0
     (pick (bytes_eq w (codes "batch")) w named.Batch n _ (bytes_eq-Decides w (codes "batch")).0
-    (pick (bytes_eq w (codes "transfer")) w named.Transfer n None (bytes_eq-Decides w (codes "transfer")).0 (λ e. cc))))))))))
+    (pick (bytes_eq w (codes "transfer")) w named.Transfer n None (bytes_eq-Decides w (codes "transfer")).0 (λ e. cc)))))))))))
 
 same-word : (n : CommandName) (a b : List ℕ) → name_word n ≡ command_word (task_by n a b)
 same-word named.Parse a b = refl
 same-word named.Chart a b = refl
+same-word named.Explain a b = refl
 same-word named.Generate a b = refl
 same-word named.Types a b = refl
 same-word named.Expand a b = refl
@@ -145,6 +149,7 @@ word-is w n a b e = named-word w n e ∙ same-word n a b
 pub places-are-by : (n : CommandName) (a b : List ℕ) → places_of (task_by n a b) ≡ places_in (places_by n)
 places-are-by named.Parse a b = refl
 places-are-by named.Chart a b = refl
+places-are-by named.Explain a b = refl
 places-are-by named.Generate a b = refl
 places-are-by named.Types a b = refl
 places-are-by named.Expand a b = refl
@@ -157,6 +162,7 @@ places-are-by named.Transfer a b = refl
 pub has-names : (n : CommandName) (a b : List ℕ) → HasNames (task_by n a b) (names_in (places_by n) a b)
 has-names named.Parse a b = refl
 has-names named.Chart a b = refl
+has-names named.Explain a b = refl
 has-names named.Generate a b = refl
 has-names named.Types a b = refl
 has-names named.Expand a b = refl

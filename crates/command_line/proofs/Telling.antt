@@ -21,6 +21,7 @@ some-same x y e = cc
 pub named-is : (n : CommandName) → command_named (name_word n) ≡ Some n
 named-is named.Parse = refl
 named-is named.Chart = refl
+named-is named.Explain = refl
 named-is named.Generate = refl
 named-is named.Types = refl
 named-is named.Expand = refl
@@ -33,6 +34,7 @@ named-is named.Transfer = refl
 not-help : (n : CommandName) → bytes_eq (name_word n) (codes "help") ≡ false
 not-help named.Parse = refl
 not-help named.Chart = refl
+not-help named.Explain = refl
 not-help named.Generate = refl
 not-help named.Types = refl
 not-help named.Expand = refl

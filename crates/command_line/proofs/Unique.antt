@@ -1,7 +1,7 @@
 -- Words have one form.
 use Rattle.std.proofs.Common.{◌≡◌, ◌∙◌, sym, ap, ap₂, refl, subst, ℕ, List, [], ◌∷◌, ◌++◌, Some, true, false, inl, inr}
 use Rattle.std.proofs.lemmas.Slice.Eq.{bytes_eq-Decides}
-use Rattle.command_line.specs.Words.{OptionName, Value, in_range, name, nothing, is_name, option_id, word_of, value_of, number_of, IsValue, Item, positional, option as an_option, words_of, AreItems, positionals, options_of, Options, AreArguments, Task, parse, chart, generate, types, expand, check, self_test, scope, batch, transfer, command_word, places_of, HasNames, Form, help, help_on, version, run, IsForm}
+use Rattle.command_line.specs.Words.{OptionName, Value, in_range, name, nothing, is_name, option_id, word_of, value_of, number_of, IsValue, Item, positional, option as an_option, words_of, AreItems, positionals, options_of, Options, AreArguments, Task, parse, chart, explain, generate, types, expand, check, self_test, scope, batch, transfer, command_word, places_of, HasNames, Form, help, help_on, version, run, IsForm}
 use Rattle.command_line.specs.Inner.Reading.{command_named, told_form}
 use Rattle.command_line.proofs.Uses.{ids-apart}
 use Rattle.command_line.proofs.Telling.{head-same, tail-same, some-same, help-told, help-on-told, version-told, help-apart, help-on-apart, version-apart}
@@ -59,6 +59,7 @@ second-name a b x y names h k = let e : a ∷ x ∷ [] ≡ b ∷ y ∷ [] = sym 
 same-task : (t u : Task) (names : List (List ℕ)) → command_named (command_word t) ≡ command_named (command_word u) → HasNames t names → HasNames u names → t ≡ u
 same-task (parse a) (parse b) names e h k = ap parse (one-name a b names h k)
 same-task (chart a) (chart b) names e h k = ap chart (one-name a b names h k)
+same-task (explain a) (explain b) names e h k = ap explain (one-name a b names h k)
 same-task (generate a) (generate b) names e h k = ap generate (one-name a b names h k)
 same-task (types a) (types b) names e h k = ap types (one-name a b names h k)
 same-task (expand a x) (expand b y) names e h k = let s = second-name a b x y names h k in λ i. expand (s.0 i) (s.1 i)

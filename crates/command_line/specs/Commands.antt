@@ -7,7 +7,7 @@ use Rattle.command_line.specs.declared.tasks.Task.{Task as CodeTask}
 use Rattle.command_line.specs.declared.tasks.Task.TheVariants as code
 use Rattle.command_line.specs.declared.tasks.Command.{Command}
 use Rattle.command_line.specs.declared.tasks.Command.TheVariants.{Help, HelpOn, Version, Run}
-use Rattle.command_line.specs.Words.{Options, Task, parse, chart, generate, types, expand, check, self_test, scope, batch, transfer, command_in, Form, help, help_on, version, run, IsForm}
+use Rattle.command_line.specs.Words.{Options, Task, parse, chart, explain, generate, types, expand, check, self_test, scope, batch, transfer, command_in, Form, help, help_on, version, run, IsForm}
 
 -- the options that options of the program stand for
 abbrev pub options_in : CodeOptions → Options
@@ -17,6 +17,7 @@ options_in o = record { workers = o.workers; edges = o.edges; readings = o.readi
 abbrev pub task : CodeTask → Task
 task (code.Parse grammar) = parse grammar.now
 task (code.Chart grammar) = chart grammar.now
+task (code.Explain grammar) = explain grammar.now
 task (code.Generate grammar) = generate grammar.now
 task (code.Types grammar) = types grammar.now
 task (code.Expand grammar entry) = expand grammar.now entry.now

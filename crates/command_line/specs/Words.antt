@@ -164,6 +164,7 @@ AreArguments places words names options = (items : List Item) × (words ≡ word
 pub data Task : Type 0 where
   parse : (grammar : List ℕ) → Task
   chart : (grammar : List ℕ) → Task
+  explain : (grammar : List ℕ) → Task
   generate : (grammar : List ℕ) → Task
   types : (grammar : List ℕ) → Task
   expand : (grammar entry : List ℕ) → Task
@@ -177,6 +178,7 @@ pub data Task : Type 0 where
 abbrev pub command_in : Task → CommandName
 command_in (parse grammar) = named.Parse
 command_in (chart grammar) = named.Chart
+command_in (explain grammar) = named.Explain
 command_in (generate grammar) = named.Generate
 command_in (types grammar) = named.Types
 command_in (expand grammar entry) = named.Expand
@@ -190,6 +192,7 @@ command_in (transfer rules) = named.Transfer
 abbrev pub name_word : CommandName → List ℕ
 name_word named.Parse = codes "parse"
 name_word named.Chart = codes "chart"
+name_word named.Explain = codes "explain"
 name_word named.Generate = codes "generate"
 name_word named.Types = codes "types"
 name_word named.Expand = codes "expand"
@@ -215,6 +218,7 @@ places_of one = name ∷ []
 abbrev pub HasNames : Task → List (List ℕ) → Type 0
 HasNames (parse grammar) names = names ≡ grammar ∷ []
 HasNames (chart grammar) names = names ≡ grammar ∷ []
+HasNames (explain grammar) names = names ≡ grammar ∷ []
 HasNames (generate grammar) names = names ≡ grammar ∷ []
 HasNames (types grammar) names = names ≡ grammar ∷ []
 HasNames (expand grammar entry) names = names ≡ grammar ∷ entry ∷ []

@@ -10,6 +10,8 @@ pub enum CommandName {
     Parse,
     /// `chart`.
     Chart,
+    /// `explain`.
+    Explain,
     /// `generate`.
     Generate,
     /// `types`.
@@ -35,6 +37,8 @@ pub enum Task<'a> {
     Parse(&'a str),
     /// The packed classes of each line of the input, with the grammar of this name.
     Chart(&'a str),
+    /// Whether the tree of each line of the input is licensed by the grammar of this name, and if not, why not.
+    Explain(&'a str),
     /// The sentences of each MRS of the input, with the grammar of this name.
     Generate(&'a str),
     /// The types of the grammar of this name.
@@ -64,6 +68,7 @@ impl Task<'_> {
         match self {
             Task::Parse(_) => CommandName::Parse,
             Task::Chart(_) => CommandName::Chart,
+            Task::Explain(_) => CommandName::Explain,
             Task::Generate(_) => CommandName::Generate,
             Task::Types(_) => CommandName::Types,
             Task::Expand(_, _) => CommandName::Expand,

@@ -65,6 +65,8 @@ fn command_named(word: &str) -> Option<CommandName>
         Some(CommandName::Parse)
     } else if word == "chart" {
         Some(CommandName::Chart)
+    } else if word == "explain" {
+        Some(CommandName::Explain)
     } else if word == "generate" {
         Some(CommandName::Generate)
     } else if word == "types" {
@@ -104,6 +106,7 @@ impl CommandName {
             CommandName::Scope => Places::NoPlace,
             CommandName::Parse
             | CommandName::Chart
+            | CommandName::Explain
             | CommandName::Generate
             | CommandName::Types
             | CommandName::Check
@@ -119,6 +122,7 @@ impl CommandName {
         match self {
             CommandName::Parse => Task::Parse(arguments.first),
             CommandName::Chart => Task::Chart(arguments.first),
+            CommandName::Explain => Task::Explain(arguments.first),
             CommandName::Generate => Task::Generate(arguments.first),
             CommandName::Types => Task::Types(arguments.first),
             CommandName::Expand => Task::Expand(arguments.first, arguments.second),

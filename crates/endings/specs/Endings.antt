@@ -88,7 +88,7 @@ is_items Items = true
 is_items other = false
 
 abbrev pub usage_line : List ℕ
-usage_line = codes "usage: lkb parse|chart|generate|types|check GRAMMAR, lkb expand GRAMMAR NAME, lkb self-test NUMBER SIZE, lkb scope, lkb batch GRAMMAR PROFILE, lkb transfer RULES, with options" ++ 10 ∷ []
+usage_line = codes "usage: lkb parse|chart|explain|generate|types|check GRAMMAR, lkb expand GRAMMAR NAME, lkb self-test NUMBER SIZE, lkb scope, lkb batch GRAMMAR PROFILE, lkb transfer RULES, with options" ++ 10 ∷ []
 
 -- what is told of a word that is outside the form
 abbrev pub word_text : Result Bool Fault → List ℕ

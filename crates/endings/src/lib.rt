@@ -31,7 +31,7 @@ use worker_gate::Gate;
 
 // The usage text and its line end.
 const USAGE: &[u8] =
-    b"usage: lkb parse|chart|generate|types|check GRAMMAR, lkb expand GRAMMAR NAME, lkb self-test NUMBER SIZE, lkb scope, lkb batch GRAMMAR PROFILE, lkb transfer RULES, with options\n";
+    b"usage: lkb parse|chart|explain|generate|types|check GRAMMAR, lkb expand GRAMMAR NAME, lkb self-test NUMBER SIZE, lkb scope, lkb batch GRAMMAR PROFILE, lkb transfer RULES, with options\n";
 
 /// Why a run over lines stops before the end.
 #[derive(Clone, Copy, Debug, PartialEq, Eq)]

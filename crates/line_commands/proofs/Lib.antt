@@ -8,3 +8,7 @@ pub mod Answered
 pub mod Serving
 pub mod Lines
 pub mod Forests
+pub mod OneExplained
+pub mod ExplainLaws
+pub mod TreeFaults
+pub mod Explainings

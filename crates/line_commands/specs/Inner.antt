@@ -2,3 +2,5 @@
 pub mod Lattices
 pub mod Parsers
 pub mod Charters
+pub mod Trees
+pub mod Explainers

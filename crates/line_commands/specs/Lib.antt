@@ -2,5 +2,6 @@ pub mod Lines
 pub mod Answers
 pub mod Parsing
 pub mod Charting
+pub mod Explaining
 pub mod Views
 pub mod Inner

@@ -1,4 +1,4 @@
-//! What holds of `parse` and of `chart`: told files have one grammar or one first fault, and never both, and lines have one report.
+//! What holds of `parse`, `chart` and `explain`: told files have one grammar or one first fault, and never both, and lines have one report.
 
 ghost use Rattle.std.specs.Prelude.{ℕ, List, Option, Bool};
 ghost use Rattle.item_model.specs.Items.{Limits};
@@ -6,14 +6,18 @@ ghost use Rattle.endings.specs.Meanings.{Lawful};
 ghost use Rattle.line_commands.specs.Answers.{Asked};
 ghost use Rattle.line_commands.specs.Parsing.{parse_meaning};
 ghost use Rattle.line_commands.specs.Charting.{chart_meaning};
+ghost use Rattle.line_commands.specs.Explaining.{explain_meaning};
 
 use book_signs::laws::one_signs;
 use command_grammars::laws::grammar_laws;
+use grammar_names::loaded_names;
 use line_charts::chart_laws;
 use morph_analysis::laws::one_line;
 use mrs_lines::mrs_line_laws;
 use parse_items::parse_laws;
 use rule_model::said_laws;
+use tree_faults::explained_laws;
+use tree_reading::tree_laws;
 
 /// What holds of `parse`.
 pub fn parse_lawful()
@@ -36,4 +40,17 @@ pub fn chart_lawful()
     said_laws();
     one_line();
     chart_laws();
+}
+
+/// What holds of `explain`.
+pub fn explain_lawful()
+    ensures { (name : List ℕ) (settings : Option (List ℕ)) (mrs : Bool) → Lawful (explain_meaning name settings mrs) }
+{
+    grammar_laws();
+    one_signs();
+    said_laws();
+    loaded_names();
+    tree_laws();
+    explained_laws();
+    mrs_line_laws();
 }

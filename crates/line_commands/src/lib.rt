@@ -1,14 +1,18 @@
-//! The commands that answer each line of their input with a grammar: `parse` and `chart`.
+//! The commands that answer each line of their input with a grammar: `parse`, `chart` and `explain`.
 #![tactic(auto)]
 
 mod answering;
 mod charter;
 mod charting;
+mod explainer;
+mod explaining;
 mod lattices;
 pub mod laws;
 mod parsing;
 mod reports;
+mod trees;
 
 pub use charting::{Chart, chart_lines};
 pub use engine::NoMemory;
+pub use explaining::{Explain, explain_lines};
 pub use parsing::{Parse, parse_lines};

@@ -1,12 +1,13 @@
 -- What the program does. A command is one case of `meaning_of`.
 use Rattle.std.specs.Prelude.{◌≡◌, ◌++◌, ◌∷◌, [], ℕ, List, codes}
-use Rattle.command_line.specs.Words.{Form, help, help_on, version, run, parse, chart, generate, types, expand, check, self_test, scope, batch, transfer, Task, Options, AreWithin, IsWithin, in_range}
+use Rattle.command_line.specs.Words.{Form, help, help_on, version, run, parse, chart, explain, generate, types, expand, check, self_test, scope, batch, transfer, Task, Options, AreWithin, IsWithin, in_range}
 use Rattle.endings.specs.Meanings.{Meaning}
 use Rattle.endings.specs.PlainTexts.{plain_meaning}
 use Rattle.grammar_commands.specs.Commands.{types_meaning, expand_meaning, check_meaning}
 use Rattle.line_commands.specs.Answers.{Asked}
 use Rattle.line_commands.specs.Parsing.{parse_meaning}
 use Rattle.line_commands.specs.Charting.{chart_meaning}
+use Rattle.line_commands.specs.Explaining.{explain_meaning}
 use Rattle.generate_commands.specs.Answers.{Bounds}
 use Rattle.generate_commands.specs.Generating.{generate_meaning}
 use Rattle.scope_commands.specs.Scoping.{scope_meaning}
@@ -33,6 +34,7 @@ meaning_of (help_on command) = plain_meaning (page_on command)
 meaning_of version = plain_meaning version_line
 meaning_of (run (parse grammar) options) = parse_meaning grammar options.settings (asked_of options)
 meaning_of (run (chart grammar) options) = chart_meaning grammar options.settings (asked_of options).limits options.lexical options.lattice
+meaning_of (run (explain grammar) options) = explain_meaning grammar options.settings options.mrs
 meaning_of (run (generate grammar) options) = generate_meaning grammar options.settings (bounds_of options)
 meaning_of (run (types grammar) options) = types_meaning grammar options.settings
 meaning_of (run (expand grammar entry) options) = expand_meaning grammar entry options.settings

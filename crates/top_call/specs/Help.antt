@@ -9,6 +9,7 @@ use Rattle.command_line.specs.declared.tasks.CommandName.TheVariants as named
 abbrev pub command_line_of : CommandName → List ℕ
 command_line_of named.Parse = codes "  parse GRAMMAR          for each line of the input the number of its packed classes, and all its trees"
 command_line_of named.Chart = codes "  chart GRAMMAR          for each line of the input the words that no entry covers, and its packed classes"
+command_line_of named.Explain = codes "  explain GRAMMAR        for each tree of the input whether it is licensed, and if not, where it fails and why"
 command_line_of named.Generate = codes "  generate GRAMMAR       for each MRS of the input the number of its packed classes, and all its sentences"
 command_line_of named.Types = codes "  types GRAMMAR          the completed types, each with its immediate supertypes"
 command_line_of named.Check = codes "  check GRAMMAR          one line that counts types, features, entries, rules and roots"
@@ -28,7 +29,7 @@ option_line_of Unary = codes "  --unary N        the most unary rules one over a
 option_line_of Empty = codes "  --empty N        the most words without a predicate in a generated sentence, 0 to 16 (4)"
 option_line_of Workers = codes "  --workers N      how many workers fill a chart, or answer lines, 1 to 64 (1); no answer depends on it"
 option_line_of Lattice = codes "  --lattice        each line writes a lattice, FROM:TO:WORD for each step (a line is its words)"
-option_line_of Mrs = codes "  --mrs            each tree is followed by its MRS (trees alone)"
+option_line_of Mrs = codes "  --mrs            each tree that is listed or licensed is followed by its MRS (no MRSs)"
 
 -- what each command and option does, and the default of each option
 abbrev pub help_lines : List (List ℕ)
@@ -38,6 +39,7 @@ help_lines =
     ∷ codes "Commands:"
     ∷ command_line_of named.Parse
     ∷ command_line_of named.Chart
+    ∷ command_line_of named.Explain
     ∷ command_line_of named.Generate
     ∷ command_line_of named.Types
     ∷ command_line_of named.Check
@@ -65,8 +67,8 @@ help_lines =
     ∷ codes "Every command takes every option and heeds those that concern it."
     ∷ []
     ∷ codes "Status: 0 all was done; 2 the words are outside the form; 3 the command's files have a fault; 4 a line was"
-    ∷ codes "refused or isn't in its form, an item of a profile differs or is bad, or NAME stands for nothing; 5 the input"
-    ∷ codes "failed or a line is too long; 6 the output failed; 7 memory was wanting"
+    ∷ codes "refused or isn't in its form, a tree isn't licensed, an item of a profile differs or is bad, or NAME stands"
+    ∷ codes "for nothing; 5 the input failed or a line is too long; 6 the output failed; 7 memory was wanting"
     ∷ []
 
 -- the lines, each with a line feed after it
@@ -77,6 +79,7 @@ help_page = flat_map (λ line. line ++ 10 ∷ []) help_lines
 abbrev pub usage_of : CommandName → List ℕ
 usage_of named.Parse = codes "usage: lkb parse GRAMMAR, with options"
 usage_of named.Chart = codes "usage: lkb chart GRAMMAR, with options"
+usage_of named.Explain = codes "usage: lkb explain GRAMMAR, with options"
 usage_of named.Generate = codes "usage: lkb generate GRAMMAR, with options"
 usage_of named.Types = codes "usage: lkb types GRAMMAR, with options"
 usage_of named.Check = codes "usage: lkb check GRAMMAR, with options"
@@ -90,6 +93,7 @@ usage_of named.Transfer = codes "usage: lkb transfer RULES, with options"
 abbrev pub heeded_by : CommandName → List OptionName
 heeded_by named.Parse = Settings ∷ Edges ∷ Readings ∷ Lexical ∷ Unary ∷ Workers ∷ Lattice ∷ Mrs ∷ []
 heeded_by named.Chart = Settings ∷ Edges ∷ Lexical ∷ Unary ∷ Workers ∷ Lattice ∷ []
+heeded_by named.Explain = Settings ∷ Workers ∷ Mrs ∷ []
 heeded_by named.Generate = Settings ∷ Edges ∷ Readings ∷ Lexical ∷ Unary ∷ Empty ∷ Workers ∷ []
 heeded_by named.Types = Settings ∷ []
 heeded_by named.Check = Settings ∷ []

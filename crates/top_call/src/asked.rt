@@ -25,7 +25,7 @@ use endings::plain::Plain;
 use endings::{Fault, Stop};
 use generate_commands::{Generate, generate_lines};
 use grammar_commands::{Check, Expand, Types};
-use line_commands::{Chart, Parse, chart_lines, parse_lines};
+use line_commands::{Chart, Explain, Parse, chart_lines, explain_lines, parse_lines};
 use lkb_io::{Shelf, Sink, Source};
 use profile_batch::Batch;
 use scope_commands::{Scoper, scope_lines};
@@ -148,6 +148,7 @@ fn do_task<S: Shelf, I: Source, O: Sink, Rt: Threads + Wait + Sync>(
     ensures unopened { (meaning_of (form (Command.Run task.entry options.entry))).opens ≡ false → shelf.new ≡ shelf.old }
 {
     let settings = options.settings;
+    let mrs = options.mrs;
     match task {
         Task::Parse(grammar) => {
             let command = Parse {
@@ -156,7 +157,7 @@ fn do_task<S: Shelf, I: Source, O: Sink, Rt: Threads + Wait + Sync>(
                 limits: limits_of(&options),
                 workers: workers_of(&options),
                 lattice: options.lattice,
-                mrs: options.mrs,
+                mrs,
             };
             parse_lines(rt, alloc, &command, shelf, input, out, gate)
         }
@@ -169,6 +170,15 @@ fn do_task<S: Shelf, I: Source, O: Sink, Rt: Threads + Wait + Sync>(
                 lattice: options.lattice,
             };
             chart_lines(rt, alloc, &command, shelf, input, out, gate)
+        }
+        Task::Explain(grammar) => {
+            let command = Explain {
+                grammar,
+                settings,
+                workers: workers_of(&options),
+                mrs,
+            };
+            explain_lines(rt, alloc, &command, shelf, input, out, gate)
         }
         Task::Generate(grammar) => {
             let command = Generate {

@@ -12,6 +12,7 @@ const HELP: &[u8] = b"\
     Commands:\n\
     \x20 parse GRAMMAR          for each line of the input the number of its packed classes, and all its trees\n\
     \x20 chart GRAMMAR          for each line of the input the words that no entry covers, and its packed classes\n\
+    \x20 explain GRAMMAR        for each tree of the input whether it is licensed, and if not, where it fails and why\n\
     \x20 generate GRAMMAR       for each MRS of the input the number of its packed classes, and all its sentences\n\
     \x20 types GRAMMAR          the completed types, each with its immediate supertypes\n\
     \x20 check GRAMMAR          one line that counts types, features, entries, rules and roots\n\
@@ -34,13 +35,13 @@ const HELP: &[u8] = b"\
     \x20 --empty N        the most words without a predicate in a generated sentence, 0 to 16 (4)\n\
     \x20 --workers N      how many workers fill a chart, or answer lines, 1 to 64 (1); no answer depends on it\n\
     \x20 --lattice        each line writes a lattice, FROM:TO:WORD for each step (a line is its words)\n\
-    \x20 --mrs            each tree is followed by its MRS (trees alone)\n\
+    \x20 --mrs            each tree that is listed or licensed is followed by its MRS (no MRSs)\n\
     \n\
     Every command takes every option and heeds those that concern it.\n\
     \n\
     Status: 0 all was done; 2 the words are outside the form; 3 the command's files have a fault; 4 a line was\n\
-    refused or isn't in its form, an item of a profile differs or is bad, or NAME stands for nothing; 5 the input\n\
-    failed or a line is too long; 6 the output failed; 7 memory was wanting\n\
+    refused or isn't in its form, a tree isn't licensed, an item of a profile differs or is bad, or NAME stands\n\
+    for nothing; 5 the input failed or a line is too long; 6 the output failed; 7 memory was wanting\n\
 ";
 
 /// What each command and option does, and the default of each option.
@@ -61,7 +62,7 @@ const PARSE: &[u8] = b"\
     \x20 --unary N        the most unary rules one over another, 0 to 32 (8)\n\
     \x20 --workers N      how many workers fill a chart, or answer lines, 1 to 64 (1); no answer depends on it\n\
     \x20 --lattice        each line writes a lattice, FROM:TO:WORD for each step (a line is its words)\n\
-    \x20 --mrs            each tree is followed by its MRS (trees alone)\n\
+    \x20 --mrs            each tree that is listed or licensed is followed by its MRS (no MRSs)\n\
 ";
 
 const CHART: &[u8] = b"\
@@ -73,6 +74,14 @@ const CHART: &[u8] = b"\
     \x20 --unary N        the most unary rules one over another, 0 to 32 (8)\n\
     \x20 --workers N      how many workers fill a chart, or answer lines, 1 to 64 (1); no answer depends on it\n\
     \x20 --lattice        each line writes a lattice, FROM:TO:WORD for each step (a line is its words)\n\
+";
+
+const EXPLAIN: &[u8] = b"\
+    usage: lkb explain GRAMMAR, with options\n\
+    \x20 explain GRAMMAR        for each tree of the input whether it is licensed, and if not, where it fails and why\n\
+    \x20 --settings NAME  a file of settings (each setting's default)\n\
+    \x20 --workers N      how many workers fill a chart, or answer lines, 1 to 64 (1); no answer depends on it\n\
+    \x20 --mrs            each tree that is listed or licensed is followed by its MRS (no MRSs)\n\
 ";
 
 const GENERATE: &[u8] = b"\
@@ -154,6 +163,13 @@ fn on_chart() -> &'static [u8]
     CHART
 }
 
+// Help on `explain`.
+fn on_explain() -> &'static [u8]
+    ensures { result.now ≡ page_on CommandName.Explain }
+{
+    EXPLAIN
+}
+
 // Help on `generate`.
 fn on_generate() -> &'static [u8]
     ensures { result.now ≡ page_on CommandName.Generate }
@@ -217,6 +233,7 @@ pub fn text_on(command: CommandName) -> &'static [u8]
     match command {
         CommandName::Parse => on_parse(),
         CommandName::Chart => on_chart(),
+        CommandName::Explain => on_explain(),
         CommandName::Generate => on_generate(),
         CommandName::Types => on_types(),
         CommandName::Check => on_check(),

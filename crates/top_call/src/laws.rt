@@ -5,7 +5,7 @@ ghost use Rattle.top_call.specs.Commands.{meaning_of};
 
 use generate_commands::laws::generate_lawful;
 use grammar_commands::laws::{check_lawful, expand_lawful, types_lawful};
-use line_commands::laws::{chart_lawful, parse_lawful};
+use line_commands::laws::{chart_lawful, explain_lawful, parse_lawful};
 use profile_batch::laws::batch_lawful;
 use scope_commands::laws::scope_lawful;
 use self_tests::laws::self_test_lawful;
@@ -17,6 +17,7 @@ pub fn built_lawful()
 {
     parse_lawful();
     chart_lawful();
+    explain_lawful();
     generate_lawful();
     types_lawful();
     expand_lawful();

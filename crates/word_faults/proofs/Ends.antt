@@ -40,6 +40,7 @@ two-gap x u y v (suc (suc k)) e = refl
 no-name : (c : CommandName) (k : ℕ) → slice_get (values_by c) k ≡ None → slice_get (names_by c) k ≡ None
 no-name named.Parse k e = one-gap _ _ k e
 no-name named.Chart k e = one-gap _ _ k e
+no-name named.Explain k e = one-gap _ _ k e
 no-name named.Generate k e = one-gap _ _ k e
 no-name named.Types k e = one-gap _ _ k e
 no-name named.Check k e = one-gap _ _ k e
@@ -52,6 +53,7 @@ no-name named.Scope k e = refl
 no-value : (c : CommandName) (k : ℕ) → slice_get (names_by c) k ≡ None → slice_get (values_by c) k ≡ None
 no-value named.Parse k e = one-gap _ _ k e
 no-value named.Chart k e = one-gap _ _ k e
+no-value named.Explain k e = one-gap _ _ k e
 no-value named.Generate k e = one-gap _ _ k e
 no-value named.Types k e = one-gap _ _ k e
 no-value named.Check k e = one-gap _ _ k e

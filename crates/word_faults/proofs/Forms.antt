@@ -1,6 +1,6 @@
 -- Fronts and the forms that they go on to.
 use Rattle.std.proofs.Common.{◌≡◌, ◌∙◌, ◌⊎◌, inl, inr, sym, ap, refl, subst, ℕ, ◌≤◌, List, [], ◌∷◌, ◌++◌, length, Some, None, true, false, slice_get, append-nil, arith, codes}
-use Rattle.command_line.specs.Words.{Value, in_range, name, number_of, IsNumber, IsValue, Item, words_of, AreItems, AreOnce, positionals, FillPlaces, options_of, Task, parse, chart, generate, types, expand, check, self_test, scope, batch, transfer, command_in, name_word, places_of, HasNames, Form, help, help_on, version, run, IsHelpFlag, IsForm}
+use Rattle.command_line.specs.Words.{Value, in_range, name, number_of, IsNumber, IsValue, Item, words_of, AreItems, AreOnce, positionals, FillPlaces, options_of, Task, parse, chart, explain, generate, types, expand, check, self_test, scope, batch, transfer, command_in, name_word, places_of, HasNames, Form, help, help_on, version, run, IsHelpFlag, IsForm}
 use Rattle.command_line.specs.declared.tasks.CommandName.{CommandName}
 use Rattle.command_line.specs.declared.tasks.CommandName.TheVariants as named
 use Rattle.command_line.specs.Inner.Reading.{command_named, is_word}
@@ -30,6 +30,7 @@ flag-unnamed w (inr e) = ap command_named e
 pub places-are : (t : Task) → places_of t ≡ values_by (command_in t)
 places-are (parse g) = refl
 places-are (chart g) = refl
+places-are (explain g) = refl
 places-are (generate g) = refl
 places-are (types g) = refl
 places-are (expand g x) = refl
@@ -135,6 +136,7 @@ lacks-two c t u v vs one other word places has (w ∷ x ∷ y ∷ ws) fill = abs
 pub lacks : (c : CommandName) (ws : List (List ℕ)) → FillFirst (values_by c) ws → Lacks c ws
 lacks named.Parse ws fill = lacks-one named.Parse (λ g. parse g) refl (λ w. refl) (λ w. refl) (λ w. refl) ws fill
 lacks named.Chart ws fill = lacks-one named.Chart (λ g. chart g) refl (λ w. refl) (λ w. refl) (λ w. refl) ws fill
+lacks named.Explain ws fill = lacks-one named.Explain (λ g. explain g) refl (λ w. refl) (λ w. refl) (λ w. refl) ws fill
 lacks named.Generate ws fill = lacks-one named.Generate (λ g. generate g) refl (λ w. refl) (λ w. refl) (λ w. refl) ws fill
 lacks named.Types ws fill = lacks-one named.Types (λ g. types g) refl (λ w. refl) (λ w. refl) (λ w. refl) ws fill
 lacks named.Check ws fill = lacks-one named.Check (λ g. check g) refl (λ w. refl) (λ w. refl) (λ w. refl) ws fill

@@ -25,6 +25,7 @@ command-apart c o = apart o (name_word c) (command-name c)
     command-name : (c : CommandName) → is_name (name_word c) ≡ true
     command-name named.Parse = refl
     command-name named.Chart = refl
+    command-name named.Explain = refl
     command-name named.Generate = refl
     command-name named.Types = refl
     command-name named.Expand = refl

@@ -109,6 +109,7 @@ pub fn wanted_at(command: CommandName, filled: usize) -> Option<Wanted>
         ),
         CommandName::Parse
         | CommandName::Chart
+        | CommandName::Explain
         | CommandName::Generate
         | CommandName::Types
         | CommandName::Check
@@ -128,6 +129,7 @@ pub fn name_at(command: CommandName, filled: usize) -> Option<&'static str>
         CommandName::Transfer => of_one("RULES", filled),
         CommandName::Parse
         | CommandName::Chart
+        | CommandName::Explain
         | CommandName::Generate
         | CommandName::Types
         | CommandName::Check => of_one("GRAMMAR", filled),

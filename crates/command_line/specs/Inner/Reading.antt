@@ -5,7 +5,7 @@ use Rattle.command_line.specs.declared.reading.Places.{Places}
 use Rattle.command_line.specs.declared.reading.Places.TheVariants.{NoPlace, OneName, TwoNames, TwoNumbers}
 use Rattle.command_line.specs.declared.tasks.CommandName.{CommandName}
 use Rattle.command_line.specs.declared.tasks.CommandName.TheVariants as named
-use Rattle.command_line.specs.Words.{OptionName, Workers, Edges, Readings, Lexical, Unary, Empty, Settings, Mrs, Lattice, Value, in_range, name, Task, parse, chart, generate, types, expand, check, self_test, scope, batch, transfer, Form, help, help_on, version, is_name, word_of, number_of}
+use Rattle.command_line.specs.Words.{OptionName, Workers, Edges, Readings, Lexical, Unary, Empty, Settings, Mrs, Lattice, Value, in_range, name, Task, parse, chart, explain, generate, types, expand, check, self_test, scope, batch, transfer, Form, help, help_on, version, is_name, word_of, number_of}
 
 -- a word of a command line after the command's: that of an option, or a name
 pub data IsWord : List ℕ → Type 0 where
@@ -41,6 +41,7 @@ is_word w = is_name w || is_option_word w
 abbrev pub command_named : List ℕ → Option CommandName
 command_named w = if bytes_eq w (codes "parse") then Some named.Parse
     else (if bytes_eq w (codes "chart") then Some named.Chart
+    else (if bytes_eq w (codes "explain") then Some named.Explain
     else (if bytes_eq w (codes "generate") then Some named.Generate
     else (if bytes_eq w (codes "types") then Some named.Types
     else (if bytes_eq w (codes "expand") then Some named.Expand
@@ -48,7 +49,7 @@ command_named w = if bytes_eq w (codes "parse") then Some named.Parse
     else (if bytes_eq w (codes "self-test") then Some named.SelfTest
     else (if bytes_eq w (codes "scope") then Some named.Scope
     else (if bytes_eq w (codes "batch") then Some named.Batch
-    else (if bytes_eq w (codes "transfer") then Some named.Transfer else None)))))))))
+    else (if bytes_eq w (codes "transfer") then Some named.Transfer else None))))))))))
 
 abbrev pub places_by : CommandName → Places
 places_by named.Expand = TwoNames
@@ -61,6 +62,7 @@ places_by other = OneName
 abbrev pub task_by : CommandName → List ℕ → List ℕ → Task
 task_by named.Parse first second = parse first
 task_by named.Chart first second = chart first
+task_by named.Explain first second = explain first
 task_by named.Generate first second = generate first
 task_by named.Types first second = types first
 task_by named.Expand first second = expand first second

@@ -2,7 +2,7 @@ use Rattle.std.proofs.Common.{◌≡◌, ap, subst, option_map}
 use Rattle.command_line.specs.declared.tasks.Command.TheVariants.{Run}
 use Rattle.command_line.specs.Commands.{task}
 use Rattle.command_line.specs.declared.tasks.Task.{Task}
-use Rattle.command_line.specs.declared.tasks.Task.TheVariants.{Parse, Chart, Generate, Types, Expand, Check, SelfTest, Scope, Batch, Transfer}
+use Rattle.command_line.specs.declared.tasks.Task.TheVariants.{Parse, Chart, Explain, Generate, Types, Expand, Check, SelfTest, Scope, Batch, Transfer}
 use Rattle.endings.specs.Meanings.{Shelves, shelves}
 use Rattle.endings.specs.Reports.{Streams, streams}
 use Rattle.endings.specs.Endings.{Ended}
@@ -37,6 +37,16 @@ returns-in-Chart-clause-ended g c =
     let untouched = (done.new.input ≡ c.args.input.now) × (done.new.out ≡ c.args.out.now) in
     let ended = subst (λ a. Ended (chart_meaning c.in-Chart.grammar.now (option_map (λ s. s.now) c.args.options.settings) a.limits a.lexical c.args.options.lattice) h o idle untouched done.result) c.limits_of-in-Chart.ensures.asked done.ensures in
     as-asked (run c.args.task) (run (Chart c.in-Chart.grammar)) h o idle untouched done.result (ap run c.in-Chart.is) ended
+
+pub returns-in-Explain-clause-ended : goal.returns-in-Explain-clause-ended
+returns-in-Explain-clause-ended g c =
+    let run = λ (t : Task). Run t c.args.options in
+    let done = c.explain_lines in
+    let h : Shelves = shelves g.S.Shelf.files g.S.Shelf.faults g.S.Shelf.asked c.args.shelf.now done.new.shelf in
+    let o : Streams = streams g.I.Source.left g.I.Source.faults g.O.Sink.written g.O.Sink.flushed g.O.Sink.faults c.args.input.now done.new.input c.args.out.now done.new.out in
+    let idle = done.new.input ≡ c.args.input.now in
+    let untouched = (done.new.input ≡ c.args.input.now) × (done.new.out ≡ c.args.out.now) in
+    as-asked (run c.args.task) (run (Explain c.in-Explain.grammar)) h o idle untouched done.result (ap run c.in-Explain.is) done.ensures
 
 pub returns-in-Generate-clause-ended : goal.returns-in-Generate-clause-ended
 returns-in-Generate-clause-ended g c =

@@ -1,5 +1,5 @@
 use Rattle.std.proofs.Common.{◌∙◌, ℕ, sym, List}
-use Rattle.command_line.specs.Words.{Form, help, help_on, version, run, parse, chart, generate, types, expand, check, self_test, scope, batch, transfer}
+use Rattle.command_line.specs.Words.{Form, help, help_on, version, run, parse, chart, explain, generate, types, expand, check, self_test, scope, batch, transfer}
 use Rattle.endings.specs.Meanings.{Lawful}
 use Rattle.endings.specs.PlainTexts.{plain_meaning}
 use Rattle.top_call.specs.Commands.{meaning_of, asked_of, bounds_of}
@@ -25,6 +25,7 @@ returns c = by_cases
     by_cases version = plain _
     by_cases (run (parse grammar) options) = c.parse_lawful.ensures grammar options.settings (asked_of options)
     by_cases (run (chart grammar) options) = c.chart_lawful.ensures grammar options.settings (asked_of options).limits options.lexical options.lattice
+    by_cases (run (explain grammar) options) = c.explain_lawful.ensures grammar options.settings options.mrs
     by_cases (run (generate grammar) options) = c.generate_lawful.ensures grammar options.settings (bounds_of options)
     by_cases (run (types grammar) options) = c.types_lawful.ensures grammar options.settings
     by_cases (run (expand grammar entry) options) = c.expand_lawful.ensures grammar entry options.settings

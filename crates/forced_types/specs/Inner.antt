@@ -1,0 +1,6 @@
+pub mod Entries
+pub mod Sound
+pub mod Closed
+pub mod Apart
+pub mod Told
+pub mod Search

@@ -1,0 +1,4 @@
+pub mod Forced
+pub mod Verdicts
+pub mod Views
+pub mod Inner

@@ -1,0 +1,11 @@
+//! What is proved of verdicts.
+
+ghost use Rattle.forced_types.specs.Verdicts.{VerdictsAreRight, VerdictsAreOne};
+
+/// The laws of verdicts. It does nothing.
+///
+/// Claims go together exactly where the verdict on them says so, and there is one verdict on them at most.
+pub fn forced_laws()
+    ensures right { VerdictsAreRight }
+    ensures one { VerdictsAreOne }
+{}

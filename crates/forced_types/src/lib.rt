@@ -1,0 +1,24 @@
+//! Why parts don't go together: the first path at which they force two types without a common subtype, or a path that is too long.
+//!
+//! Unification of typed feature structures, and well-formed ones: Copestake 2002.
+#![tactic(auto)]
+
+mod closed;
+mod closed_types;
+mod given;
+mod laws;
+mod loading;
+mod merging;
+mod nodes;
+mod placed;
+mod putting;
+mod rounds;
+mod search;
+mod steps;
+mod told;
+mod verdict;
+
+pub use fs_closing::NoMemory;
+pub use laws::forced_laws;
+pub use placed::{PlacedGraph, Verdict};
+pub use verdict::verdict_on;

@@ -1,0 +1,9 @@
+pub mod Nodes
+pub mod Spelled
+pub mod WordBooks
+pub mod Explained
+pub mod Views
+pub mod Laws
+pub mod Texts
+pub mod Lines
+pub mod Inner

@@ -1,0 +1,5 @@
+pub mod Parts
+pub mod Written
+pub mod Apart
+pub mod Counts
+pub mod Made

@@ -1,0 +1,2 @@
+pub mod TreeGrammars
+pub mod Laws

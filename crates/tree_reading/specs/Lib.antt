@@ -1,0 +1,3 @@
+pub mod Grammars
+pub mod Texts
+pub mod Inner
