@@ -1,121 +1,110 @@
-//! Worked rows of calls below `run`. Each line of the input is a step, and each line of the output a step with what its
-//! call answers for it. Steps that only say what later ones are about are not written again.
+//! Worked rows of calls below `run`. Each line of the input is a step, and each line of the output a step with what its call
+//! answers for it. Steps that only say what later ones are about are not written again. The steps themselves are read and written
+//! by calls that the rows are about, over the system's streams.
 #![tactic(auto)]
 
-mod chains;
-mod entries;
-mod hierarchies;
-mod spelling;
-mod statements;
+mod mrss;
+mod shelves;
+mod sinks;
+mod slow;
+mod sources;
 mod steps;
 mod tokens;
 mod trees;
 mod words;
 
-use entries::Entries;
-use hierarchies::Hierarchies;
-use spelling::Rules;
+use derivation::Tree;
+use lkb_io::{Held, LineFault, Sink, Source, StdSink, StdSource, put_all, read_line};
 use std::alloc::{AllocError, Global};
-use std::io;
-use std::io::{Read, Write};
-use steps::{front, unescaped};
-use trees::Trees;
+use std::process::ExitCode;
+use std::rt::Files;
+use steps::{front, push};
 
-// What the steps so far have said.
-#[derive(Drop)]
-struct Rows {
-    hierarchies: Hierarchies,
-    rules: Rules,
-    entries: Entries,
-    trees: Trees,
-}
-
-impl Rows {
-    fn new(alloc: Global) -> Rows {
-        Rows {
-            hierarchies: Hierarchies::new(),
-            rules: Rules::new(alloc),
-            entries: Entries::new(alloc),
-            trees: Trees::new(alloc),
-        }
-    }
-
-    // What the call of a step answers, if it makes one.
-    fn answer(
-        &mut self,
-        alloc: Global,
-        step: &str,
-        rest: &str,
-    ) -> Result<Option<String>, AllocError> {
-        if let Some(found) = text_answer(alloc, step, rest)? {
-            return Ok(Some(found));
-        }
-        if let Some(found) = words::answer(alloc, step, rest)? {
-            return Ok(Some(found));
-        }
-        if let Some(found) = self.hierarchies.answer(alloc, step, rest)? {
-            return Ok(Some(found));
-        }
-        if let Some(found) = self.rules.answer(alloc, step, rest)? {
-            return Ok(Some(found));
-        }
-        if let Some(found) = self.entries.answer(alloc, step, rest)? {
-            return Ok(Some(found));
-        }
-        self.trees.answer(alloc, step, rest)
-    }
-}
-
-// The steps about a text alone. In a text `\n` stands for a line end, and `\u{..}` for a character by its number.
-fn text_answer(alloc: Global, step: &str, rest: &str) -> Result<Option<String>, AllocError> {
-    let text = unescaped(alloc, rest)?;
-    if text.len() > 100_000 {
-        return Ok(None);
-    }
+// Adds what the call of a step answers. A step that calls nothing else calls a shelf.
+fn answer<F: Files>(
+    files: &F,
+    alloc: Global,
+    pile: &[Tree],
+    step: &str,
+    rest: &str,
+    out: &mut Vec<u8>,
+) -> Result<(), AllocError> {
     match step {
-        "tokens" => Ok(Some(tokens::shown(alloc, text.as_bytes())?)),
-        "bytes" => Ok(Some(tokens::of_bytes(alloc, rest)?)),
-        "values" => Ok(Some(tokens::values(alloc, text.as_str())?)),
-        "statements" => Ok(Some(statements::shown(alloc, text.as_str())?)),
-        "brackets" => Ok(Some(statements::of_brackets(alloc, rest)?)),
-        "spelling" => Ok(Some(statements::spelling(alloc, text.as_str())?)),
-        _ => Ok(None),
+        "tokens" => tokens::of_text(alloc, rest, out),
+        "bytes" => tokens::of_bytes(alloc, rest, out),
+        "values" => tokens::values(alloc, rest, out),
+        "tree" => trees::last(alloc, pile, rest, false, out),
+        "spans" => trees::last(alloc, pile, rest, true, out),
+        "order" => trees::order(alloc, pile, out),
+        "command" | "among" | "no-words" => words::answer(alloc, step, rest, out),
+        "memory" | "whole" | "system" => sources::answer(alloc, step, rest, out),
+        "sink" | "whole-sink" | "system-sink" => sinks::answer(alloc, step, rest, out),
+        "match" => mrss::matched(alloc, rest, out),
+        _ => shelves::answer(files, alloc, step, rest, out),
     }
 }
 
-// Adds a step and what was answered, as a line.
-fn push_answer(out: &mut Vec<u8>, line: &str, found: &str) -> Result<(), AllocError> {
-    out.extend_from_slice(line.as_bytes())?;
-    out.extend_from_slice(b": ")?;
-    out.extend_from_slice(found.as_bytes())?;
-    out.push(b'\n')?;
+// Takes a step, and adds it with what it asks for.
+fn take<F: Files>(
+    files: &F,
+    alloc: Global,
+    pile: &mut Vec<Tree>,
+    line: &str,
+    out: &mut Vec<u8>,
+) -> Result<(), AllocError> {
+    let (step, rest) = front(line);
+    match step {
+        "lexical" => trees::add_lexical(alloc, pile, rest),
+        "phrase" => trees::join(alloc, pile, rest),
+        _ => {
+            push(out, line)?;
+            push(out, ": ")?;
+            answer(files, alloc, pile, step, rest, out)?;
+            push(out, "\n")
+        }
+    }
+}
+
+// Takes a line of the input, and writes it with what it asks for.
+fn take_line<F: Files, O: Sink>(
+    files: &F,
+    alloc: Global,
+    pile: &mut Vec<Tree>,
+    line: &[u8],
+    sink: &mut O,
+) -> Result<(), LineFault> {
+    let Ok(text) = std::str::from_utf8(line) else {
+        return Err(LineFault::Failed);
+    };
+    let mut out = Vec::new(alloc);
+    take(files, alloc, pile, text, &mut out)?;
+    put_all(sink, &out)?;
     Ok(())
 }
 
-// Takes a line of the input, and adds what it asks for.
-fn take(alloc: Global, rows: &mut Rows, line: &str, out: &mut Vec<u8>) -> Result<(), AllocError> {
-    let (step, rest) = front(line);
-    match rows.answer(alloc, step, rest)? {
-        Some(found) => push_answer(out, line, found.as_str()),
-        None => Ok(()),
+// Takes the lines of a source, a thousand at most.
+fn answers<F: Files, S: Source, O: Sink>(
+    files: &F,
+    alloc: Global,
+    source: &mut S,
+    sink: &mut O,
+) -> Result<(), LineFault> {
+    let mut pile = Vec::new(alloc);
+    let mut held = Held::new(alloc);
+    for _ in 0..1_000 {
+        match read_line(alloc, source, &mut held)? {
+            Some(line) => take_line(files, alloc, &mut pile, &line, sink)?,
+            None => return Ok(sink.flush()?),
+        }
     }
+    Ok(())
 }
 
-// What the lines of the input ask for.
-fn answers(alloc: Global, input: &str) -> Result<Vec<u8>, AllocError> {
-    let mut rows = Rows::new(alloc);
-    let mut out = Vec::new(alloc);
-    for line in input.split('\n') {
-        take(alloc, &mut rows, line, &mut out)?;
+fn main(rt: HostRuntime) -> ExitCode {
+    let mut source = StdSource::new(rt.stdin());
+    let mut sink = StdSink::new(rt.stdout());
+    match answers(&rt, rt.alloc(), &mut source, &mut sink) {
+        Ok(()) => ExitCode::SUCCESS,
+        Err(_) => ExitCode::from(1),
     }
-    Ok(out)
-}
-
-fn main(rt: HostRuntime) -> io::Result<()> {
-    let mut input = String::new(rt.alloc());
-    rt.stdin().read_to_string(&mut input)?;
-    let out = answers(rt.alloc(), input.as_str())?;
-    let mut stdout = rt.stdout();
-    stdout.write_all(&out)?;
-    stdout.flush()
 }

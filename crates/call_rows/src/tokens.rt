@@ -3,57 +3,69 @@
 ghost use Rattle.std.specs.Prelude.{◌<◌, ◌^◌, ◌≡◌, length};
 ghost use Rattle.tdl_lexer.specs.Spelling.{has_value};
 
+use crate::steps::{push, unescaped};
 use std::alloc::{AllocError, Global};
-use tdl_lexer::{TokenKind, tokens, value};
+use tdl_lexer::{Token, TokenKind, tokens, value};
 
-// The tokens with their places, or the fault.
-pub fn shown(alloc: Global, source: &[u8]) -> Result<String, AllocError>
-    requires { length source.now < 2 ^ 32 }
-{
-    match tokens(alloc, source) {
-        Ok(found) => {
-            let mut out = String::new(alloc);
-            for token in &found {
-                let one = format!(in alloc; "{:?} {} {}, ", token.kind, token.from, token.to)?;
-                out.push_str(one.as_str())?;
-            }
-            Ok(out)
-        }
-        Err(fault) => format!(in alloc; "{fault:?}"),
-    }
+// The tokens of a text with their places, or the fault. In the text `\n` stands for a line end, and `\u{..}` for a character by
+// its number.
+pub fn of_text(alloc: Global, text: &str, out: &mut Vec<u8>) -> Result<(), AllocError> {
+    let text = unescaped(alloc, text)?;
+    shown(alloc, text.as_bytes(), out)
 }
 
 // The tokens of bytes by their numbers.
-pub fn of_bytes(alloc: Global, numbers: &str) -> Result<String, AllocError> {
+pub fn of_bytes(alloc: Global, numbers: &str, out: &mut Vec<u8>) -> Result<(), AllocError> {
     let mut bytes = Vec::new(alloc);
     for number in numbers.split(' ') {
         bytes.push(number.parse::<u8>().unwrap_or(0))?;
     }
-    if bytes.len() < 1_000 {
-        shown(alloc, &bytes)
-    } else {
-        String::from_str(alloc, "too long")
+    shown(alloc, &bytes, out)
+}
+
+fn shown(alloc: Global, source: &[u8], out: &mut Vec<u8>) -> Result<(), AllocError> {
+    if source.len() > 100_000 {
+        return push(out, "too long");
+    }
+    match tokens(alloc, source) {
+        Ok(found) => push_tokens(alloc, &found, out),
+        Err(fault) => push(out, format!(in alloc; "{fault:?}")?.as_str()),
     }
 }
 
+fn push_tokens(alloc: Global, tokens: &[Token], out: &mut Vec<u8>) -> Result<(), AllocError> {
+    for token in tokens {
+        let one = format!(in alloc; "{:?} {} {}, ", token.kind, token.from, token.to)?;
+        push(out, one.as_str())?;
+    }
+    Ok(())
+}
+
 // The values of a text's tokens that have one, with a stroke after each.
-pub fn values(alloc: Global, text: &str) -> Result<String, AllocError>
+pub fn values(alloc: Global, text: &str, out: &mut Vec<u8>) -> Result<(), AllocError> {
+    let text = unescaped(alloc, text)?;
+    if text.len() > 100_000 {
+        return push(out, "too long");
+    }
+    push_values(alloc, text.as_str(), out)
+}
+
+fn push_values(alloc: Global, text: &str, out: &mut Vec<u8>) -> Result<(), AllocError>
     requires { length text.now < 2 ^ 32 }
 {
-    let mut out = String::new(alloc);
     let Ok(found) = tokens(alloc, text.as_bytes()) else {
-        return String::from_str(alloc, "no tokens");
+        return push(out, "no tokens");
     };
     for token in &found {
         if has_value(token.kind) {
             match value(alloc, text, token) {
-                Ok(value) => out.push_str(value.as_str())?,
-                Err(_) => out.push_str("no memory")?,
+                Ok(value) => push(out, value.as_str())?,
+                Err(_) => push(out, "no memory")?,
             }
-            out.push('/')?;
+            push(out, "/")?;
         }
     }
-    Ok(out)
+    Ok(())
 }
 
 fn has_value(kind: TokenKind) -> bool

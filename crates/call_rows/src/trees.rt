@@ -1,80 +1,73 @@
 //! The texts and the order of trees, which steps put on a pile.
 
-use crate::steps::{front, number, parted};
+use crate::steps::{front, number, parted, push};
 use derivation::{Tree, compare, is_named, write};
 use std::alloc::{AllocError, Global};
 
-#[derive(Drop)]
-pub struct Trees {
-    pile: Vec<Tree>,
+// `lexical PLACE RULES WORDS NODES` puts a lexical tree on the pile, its rules from the inside out and its words between commas,
+// `-` for none.
+pub fn add_lexical(alloc: Global, pile: &mut Vec<Tree>, rest: &str) -> Result<(), AllocError> {
+    pile.push(lexical(alloc, rest)?)?;
+    Ok(())
 }
 
-impl Trees {
-    pub fn new(alloc: Global) -> Trees {
-        Trees {
-            pile: Vec::new(alloc),
+// `phrase RULE COUNT` puts a phrase over the last so many on the pile, in their place.
+pub fn join(alloc: Global, pile: &mut Vec<Tree>, rest: &str) -> Result<(), AllocError> {
+    let (rule, count) = front(rest);
+    let daughters = taken(alloc, pile, number(count))?;
+    match Tree::phrase(alloc, number(rule), daughters) {
+        Ok(tree) => {
+            pile.push(tree)?;
+            Ok(())
+        }
+        Err(_) => Err(AllocError),
+    }
+}
+
+// The last so many trees of the pile, in order.
+fn taken(alloc: Global, pile: &mut Vec<Tree>, count: u32) -> Result<Vec<Tree>, AllocError> {
+    let mut daughters = Vec::new(alloc);
+    for _ in 0..count {
+        if let Some(last) = pile.pop() {
+            daughters.push(last)?;
         }
     }
+    daughters.reverse();
+    Ok(daughters)
+}
 
-    // `lexical PLACE RULES WORDS NODES` puts a lexical tree on the pile, its rules from the inside out and its words
-    // between commas, `-` for none; `phrase RULE COUNT` a phrase over the last so many. `tree NAMES` and `spans NAMES`
-    // write the last one, without nodes and with them. `order` compares the last with the one before it.
-    pub fn answer(
-        &mut self,
-        alloc: Global,
-        step: &str,
-        rest: &str,
-    ) -> Result<Option<String>, AllocError> {
-        match step {
-            "lexical" => {
-                self.pile.push(lexical(alloc, rest)?)?;
-                Ok(None)
-            }
-            "phrase" => {
-                self.join(alloc, rest)?;
-                Ok(None)
-            }
-            "tree" => Ok(Some(self.text(alloc, rest, false)?)),
-            "spans" => Ok(Some(self.text(alloc, rest, true)?)),
-            "order" => Ok(Some(self.order(alloc)?)),
-            _ => Ok(None),
+// `tree NAMES` and `spans NAMES` write the last one, without nodes and with them.
+pub fn last(
+    alloc: Global,
+    pile: &[Tree],
+    names: &str,
+    nodes: bool,
+    out: &mut Vec<u8>,
+) -> Result<(), AllocError> {
+    let names = parted(alloc, names, ' ')?;
+    match pile.last() {
+        Some(tree) if is_named(tree, names.len()) => {
+            write(tree, &names, nodes, out).map_err(|_| AllocError)
         }
+        _ => push(out, "a name is missing"),
     }
+}
 
-    fn join(&mut self, alloc: Global, rest: &str) -> Result<(), AllocError> {
-        let (rule, count) = front(rest);
-        let mut daughters = Vec::new(alloc);
-        for _ in 0..number(count) {
-            if let Some(last) = self.pile.pop() {
-                daughters.push(last)?;
-            }
+// `order` compares the last with the one before it.
+pub fn order(alloc: Global, pile: &[Tree], out: &mut Vec<u8>) -> Result<(), AllocError> {
+    let mut last = pile.iter().rev();
+    match (last.next(), last.next()) {
+        (Some(tree), Some(before)) => {
+            let (here, back) = (compare(before, tree), compare(tree, before));
+            let text = format!(in alloc; "{here:?} {back:?} {:?}", compare(tree, tree))?;
+            push(out, text.as_str())
         }
-        daughters.reverse();
-        self.pile.push(phrase(alloc, number(rule), daughters)?)?;
-        Ok(())
-    }
-
-    fn text(&self, alloc: Global, names: &str, nodes: bool) -> Result<String, AllocError> {
-        match self.pile.last() {
-            Some(tree) => text_of(alloc, tree, names, nodes),
-            None => String::from_str(alloc, "no tree"),
-        }
-    }
-
-    fn order(&self, alloc: Global) -> Result<String, AllocError> {
-        let mut last = self.pile.iter().rev();
-        match (last.next(), last.next()) {
-            (Some(tree), Some(before)) => {
-                let (here, back) = (compare(before, tree), compare(tree, before));
-                format!(in alloc; "{here:?} {back:?} {:?}", compare(tree, tree))
-            }
-            _ => String::from_str(alloc, "no two trees"),
-        }
+        _ => push(out, "no two trees"),
     }
 }
 
 // The numbers between commas; none for `-`.
-fn numbers(alloc: Global, text: &str) -> Result<Vec<u32>, AllocError> {
+fn rules(alloc: Global, text: &str) -> Result<Vec<u32>, AllocError> {
     let mut found = Vec::new(alloc);
     if text != "-" {
         for one in text.split(',') {
@@ -85,40 +78,16 @@ fn numbers(alloc: Global, text: &str) -> Result<Vec<u32>, AllocError> {
 }
 
 // The nodes of a text, two numbers.
-fn nodes_of(alloc: Global, text: &str) -> Result<Option<(u32, u32)>, AllocError> {
-    let found = numbers(alloc, text)?;
-    match (found.first(), found.get(1)) {
-        (Some(from), Some(to)) => Ok(Some((*from, *to))),
-        _ => Ok(None),
-    }
+fn nodes(text: &str) -> Option<(u32, u32)> {
+    let (from, to) = text.split_once(',')?;
+    Some((number(from), number(to)))
 }
 
 fn lexical(alloc: Global, rest: &str) -> Result<Tree, AllocError> {
     let (place, rest) = front(rest);
-    let (rules, rest) = front(rest);
-    let (words, nodes) = front(rest);
-    let rules = numbers(alloc, rules)?;
+    let (chain, rest) = front(rest);
+    let (words, span) = front(rest);
+    let rules = rules(alloc, chain)?;
     let words = parted(alloc, words, ',')?;
-    let nodes = nodes_of(alloc, nodes)?;
-    Tree::lexical(alloc, number(place), rules, words, nodes).map_err(|_| AllocError)
-}
-
-fn phrase(alloc: Global, rule: u32, daughters: Vec<Tree>) -> Result<Tree, AllocError> {
-    Tree::phrase(alloc, rule, daughters).map_err(|_| AllocError)
-}
-
-// The text of a tree over these names.
-fn text_of(alloc: Global, tree: &Tree, names: &str, nodes: bool) -> Result<String, AllocError> {
-    let names = parted(alloc, names, ' ')?;
-    if !is_named(tree, names.len()) {
-        return String::from_str(alloc, "a name is missing");
-    }
-    let mut into = Vec::new(alloc);
-    if write(tree, &names, nodes, &mut into).is_err() {
-        return String::from_str(alloc, "no memory");
-    }
-    match std::str::from_utf8(&into) {
-        Ok(text) => String::from_str(alloc, text),
-        Err(_) => String::from_str(alloc, "not utf-8"),
-    }
+    Tree::lexical(alloc, number(place), rules, words, nodes(span)).map_err(|_| AllocError)
 }

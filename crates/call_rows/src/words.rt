@@ -1,38 +1,41 @@
 //! What the words of a command line ask for.
 
-use crate::steps::parted;
+use crate::steps::{parted, push};
 use command_line::{Command, CommandName, Options, WordsFault, command_among, command_of};
 use std::alloc::{AllocError, Global};
 
 // `command WORDS` is what words with a blank between each two ask for: two blanks have an empty word between them.
 // `among WORDS` is that where `types` and `check` alone are there. `no-words` is what no words ask for.
-pub fn answer(alloc: Global, step: &str, rest: &str) -> Result<Option<String>, AllocError> {
+pub fn answer(alloc: Global, step: &str, rest: &str, out: &mut Vec<u8>) -> Result<(), AllocError> {
     let words = parted(alloc, rest, ' ')?;
     match step {
-        "no-words" => Ok(Some(shown(alloc, command_of(alloc, &[]))?)),
-        "command" => Ok(Some(shown(alloc, command_of(alloc, &words))?)),
-        "among" => {
+        "no-words" => shown(alloc, command_of(alloc, &[]), out),
+        "command" => shown(alloc, command_of(alloc, &words), out),
+        _ => {
             let there = [CommandName::Types, CommandName::Check];
-            Ok(Some(shown(alloc, command_among(alloc, &there, &words))?))
+            shown(alloc, command_among(alloc, &there, &words), out)
         }
-        _ => Ok(None),
     }
 }
 
 // The command, with its options where a step says so.
-fn shown(alloc: Global, found: Result<Command<'_>, WordsFault>) -> Result<String, AllocError> {
+fn shown(
+    alloc: Global,
+    found: Result<Command<'_>, WordsFault>,
+    out: &mut Vec<u8>,
+) -> Result<(), AllocError> {
     match found {
-        Err(fault) => format!(in alloc; "{fault:?}"),
+        Err(fault) => push(out, format!(in alloc; "{fault:?}")?.as_str()),
         Ok(Command::Run(task, options)) => {
-            let told = options_text(alloc, &options)?;
-            format!(in alloc; "{task:?}{told}")
+            push(out, format!(in alloc; "{task:?}")?.as_str())?;
+            push_options(alloc, &options, out)
         }
-        Ok(command) => format!(in alloc; "{command:?}"),
+        Ok(command) => push(out, format!(in alloc; "{command:?}")?.as_str()),
     }
 }
 
 // The options, each by its value, where one isn't its default.
-fn options_text(alloc: Global, options: &Options<'_>) -> Result<String, AllocError> {
+fn push_options(alloc: Global, options: &Options<'_>, out: &mut Vec<u8>) -> Result<(), AllocError> {
     let numbers = format!(in alloc;
         " {} {} {} {} {} {}",
         options.workers,
@@ -47,8 +50,8 @@ fn options_text(alloc: Global, options: &Options<'_>) -> Result<String, AllocErr
         options.settings, options.mrs, options.lattice
     )?;
     if numbers.as_str() == " 1 5000 10000 7 8 4" && rest.as_str() == " None false false" {
-        Ok(String::new(alloc))
-    } else {
-        format!(in alloc; "{numbers}{rest}")
+        return Ok(());
     }
+    push(out, numbers.as_str())?;
+    push(out, rest.as_str())
 }

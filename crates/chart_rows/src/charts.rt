@@ -7,8 +7,9 @@ ghost use Rattle.chart_core.specs.Leaves.{LeafBelongs};
 
 use crate::grammars::limits;
 use crate::steps::{front, long_number};
+use crate::told::{push_entered, push_number, push_rows};
 use crate::worker::{advance, advance_after, saturate};
-use chart_core::{Core, Entered, Finished, Leaf, Ready, RowId, TaskId};
+use chart_core::{Core, Leaf, Ready, TaskId};
 use cover::{NoMemory, Shapes};
 use std::alloc::Global;
 
@@ -21,14 +22,13 @@ pub fn chart<S: Shapes>(
     cover: &S::Cover,
     leaves: Vec<Leaf<S>>,
     steps: &str,
-) -> Result<String, NoMemory>
+    out: &mut String,
+) -> Result<(), NoMemory>
     requires { All (LeafBelongs (S.calculus shapes.now) (S.belongs shapes.now)) leaves.items }
 {
     let mut core = Core::start(alloc, leaves, shapes, work, &limits(5000))?;
-    let mut out = String::new(alloc);
-    run(&mut core, alloc, shapes, work, cover, steps, &mut out)?;
-    end(core, alloc, shapes, steps.ends_with("leaves"), &mut out)?;
-    Ok(out)
+    run(&mut core, alloc, shapes, work, cover, steps, out)?;
+    end(core, alloc, shapes, steps.ends_with("leaves"), out)
 }
 
 fn run<S: Shapes>(
@@ -176,52 +176,4 @@ fn end<S: Shapes>(
         Ok(finished) => push_rows(alloc, &finished, out),
         Err(_) => Ok(out.push_str("a task is pending")?),
     }
-}
-
-// How many rows there are, and the representatives of those that are packed or frosted.
-fn push_rows<S: Shapes>(
-    alloc: Global,
-    finished: &Finished<S>,
-    out: &mut String,
-) -> Result<(), NoMemory> {
-    push_number(alloc, out, "rows ", finished.rows())?;
-    for number in 0..finished.rows() {
-        if let Some(into) = finished.row(RowId(number)).into {
-            push_number(alloc, out, ", row ", number)?;
-            push_number(alloc, out, " into ", into.0)?;
-        }
-    }
-    Ok(())
-}
-
-fn push_entered(alloc: Global, out: &mut String, entered: Entered) -> Result<(), NoMemory> {
-    match entered {
-        Entered::Stale { place } => push_number(alloc, out, "stale ", place),
-        Entered::Noted { place } => push_number(alloc, out, "noted ", place),
-        Entered::Full { made } => push_number(alloc, out, "full ", made),
-        Entered::NoMemory => Err(NoMemory),
-        Entered::Skipped { place, row } => {
-            push_number(alloc, out, "skipped ", place)?;
-            push_number(alloc, out, " row ", row.0)
-        }
-        Entered::Placed {
-            place,
-            row,
-            first_task,
-            end_task,
-        } => {
-            push_number(alloc, out, "placed ", place)?;
-            push_number(alloc, out, " row ", row.0)?;
-            push_number(alloc, out, " tasks ", first_task.0)?;
-            push_number(alloc, out, " to ", end_task.0)
-        }
-    }
-}
-
-// A word and a number.
-fn push_number(alloc: Global, out: &mut String, word: &str, number: u64) -> Result<(), NoMemory> {
-    out.push_str(word)?;
-    let number = format!(in alloc; "{number}")?;
-    out.push_str(number.as_str())?;
-    Ok(())
 }

@@ -3,6 +3,7 @@
 ghost use Rattle.std.specs.Prelude.{◌≤◌};
 
 use crate::steps::{front, number};
+use crate::told::push_number;
 use cover::{Counts, Cover, NoMemory, Numbers, Span};
 use std::alloc::Global;
 
@@ -16,13 +17,16 @@ pub fn span(text: &str) -> Span {
 }
 
 // The join of two spans, and the size of the second one.
-pub fn spans(alloc: Global, left: &str, right: &str) -> Result<String, NoMemory> {
+pub fn spans(alloc: Global, left: &str, right: &str, out: &mut String) -> Result<(), NoMemory> {
     let (left, right) = (span(left), span(right));
-    let size = right.size();
     match left.join(alloc, &right, &())? {
-        Some(both) => Ok(format!(in alloc; "{} {}, {size}", both.from, both.to)?),
-        None => Ok(format!(in alloc; "none, {size}")?),
+        Some(both) => {
+            push_number(alloc, out, "", u64::from(both.from))?;
+            push_number(alloc, out, " ", u64::from(both.to))?;
+        }
+        None => out.push_str("none")?,
     }
+    push_number(alloc, out, ", ", u64::from(right.size()))
 }
 
 // Counts with a comma between each two, and after a blank that of empty words.
@@ -39,11 +43,17 @@ fn counts_of(alloc: Global, text: &str) -> Result<Counts, NoMemory> {
 }
 
 // Whether two counts join within a bound, and an equal cover to their join.
-pub fn counts(alloc: Global, bound: &str, left: &str, right: &str) -> Result<String, NoMemory> {
+pub fn counts(
+    alloc: Global,
+    bound: &str,
+    left: &str,
+    right: &str,
+    out: &mut String,
+) -> Result<(), NoMemory> {
     let bound = counts_of(alloc, bound)?;
     let left = counts_of(alloc, left)?;
     let right = counts_of(alloc, right)?;
-    joined(alloc, &bound, &left, &right)
+    joined(alloc, &bound, &left, &right, out)
 }
 
 fn joined(
@@ -51,14 +61,21 @@ fn joined(
     bound: &Counts,
     left: &Counts,
     right: &Counts,
-) -> Result<String, NoMemory> {
+    out: &mut String,
+) -> Result<(), NoMemory> {
     let joins = left.joins(right, bound);
+    out.push_str(if joins { "true " } else { "false " })?;
     match left.join(alloc, right, bound)? {
-        Some(both) => {
-            let equal = both.share(alloc)?;
-            let of = equal.of.as_slice();
-            Ok(format!(in alloc; "{joins} {of:?} {} {}", equal.empty, equal == both)?)
-        }
-        None => Ok(format!(in alloc; "{joins} none")?),
+        Some(both) => push_both(alloc, &both, out),
+        None => Ok(out.push_str("none")?),
     }
+}
+
+// Adds counts, and whether an equal cover to them is equal.
+fn push_both(alloc: Global, both: &Counts, out: &mut String) -> Result<(), NoMemory> {
+    let equal = both.share(alloc)?;
+    let of = equal.of.as_slice();
+    let text = format!(in alloc; "{of:?} {} {}", equal.empty, equal == *both)?;
+    out.push_str(text.as_str())?;
+    Ok(())
 }

@@ -7,7 +7,7 @@ ghost use Rattle.cover.specs.Tables.{IsSized};
 
 use crate::steps::{front, number};
 use chart_core::{Leaf, Limits};
-use cover::{NoMemory, Span, TableRule, TableShapes};
+use cover::{NoMemory, Shapes, Span, TableRule, TableShapes};
 use std::alloc::Global;
 
 // The default limits, but so many edges, from 1 to 20,000.
@@ -24,7 +24,7 @@ pub fn limits(edges: u32) -> Limits
 }
 
 // A leaf from one node to the next.
-fn leaf(from: u32, shape: u32) -> Leaf<TableShapes>
+fn leaf<S: Shapes<Shape = u32, Cover = Span>>(from: u32, shape: u32) -> Leaf<S>
     requires { from < 1000 }
     ensures { is_span result.cover }
 {
@@ -36,7 +36,10 @@ fn leaf(from: u32, shape: u32) -> Leaf<TableShapes>
 }
 
 // The leaves of these shapes in a row.
-pub fn leaves(alloc: Global, shapes: &str) -> Result<Vec<Leaf<TableShapes>>, NoMemory>
+pub fn leaves<S: Shapes<Shape = u32, Cover = Span>>(
+    alloc: Global,
+    shapes: &str,
+) -> Result<Vec<Leaf<S>>, NoMemory>
     ensures { IfOk result (λ v. All (λ leaf. Unit {0} × is_span leaf.cover) v.items) }
 {
     let mut leaves = Vec::new(alloc);

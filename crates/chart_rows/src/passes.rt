@@ -4,6 +4,7 @@ ghost use Rattle.std.specs.Prelude.{All};
 ghost use Rattle.cover.specs.Spans.{is_span};
 
 use crate::grammars::limits;
+use crate::told::push_number;
 use chart_core::{ChartFault, Leaf, ordered_pass};
 use cover::{NoMemory, TableShapes};
 use std::alloc::Global;
@@ -14,16 +15,18 @@ pub fn classes(
     shapes: &TableShapes,
     leaves: Vec<Leaf<TableShapes>>,
     edges: u32,
-) -> Result<String, NoMemory>
+    out: &mut String,
+) -> Result<(), NoMemory>
     requires { All (λ leaf. Unit {0} × is_span leaf.cover) leaves.items }
 {
-    let found = match classes_of(alloc, shapes, leaves, edges) {
-        Ok(count) => format!(in alloc; "{count}"),
-        Err(ChartFault::Edges { size }) => format!(in alloc; "edges, size {size}"),
-        Err(ChartFault::UnaryChain { size }) => format!(in alloc; "unary chain, size {size}"),
-        Err(ChartFault::NoMemory) => return Err(NoMemory),
-    };
-    Ok(found?)
+    match classes_of(alloc, shapes, leaves, edges) {
+        Ok(count) => push_number(alloc, out, "", u64::from(count)),
+        Err(ChartFault::Edges { size }) => push_number(alloc, out, "edges, size ", u64::from(size)),
+        Err(ChartFault::UnaryChain { size }) => {
+            push_number(alloc, out, "unary chain, size ", u64::from(size))
+        }
+        Err(ChartFault::NoMemory) => Err(NoMemory),
+    }
 }
 
 fn classes_of(

@@ -1,6 +1,0 @@
-use Rattle.std.proofs.Common.{All, ◌≤◌}
-use Rattle.cover.specs.Spans.{is_span}
-use Rattle.worker_rows.proofs.grammars.leaves.Given as goal
-
-abbrev pub invariant-loop-shape : goal.invariant-loop-shape
-invariant-loop-shape g l = (l.from ≤ 1000) × All (λ leaf. Unit {0} × is_span leaf.cover) l.leaves.items

@@ -1,6 +1,0 @@
-use Rattle.std.proofs.Common.{◌∙◌, sym, subst}
-use Rattle.task_pool.specs.Pools.{ArePool}
-use Rattle.worker_rows.proofs.pools.pool.Goals as goal
-
-pub settle-settled-requires : goal.settle-settled-requires
-settle-settled-requires g c = subst ArePool (sym (c.in_ok-passes.ensures ∙ c.steps.ensures)) c.in_ok-seats.ensures.pool
