@@ -11,9 +11,9 @@ use Rattle.std.proofs.lemmas.Slice.Eq.{bytes_eq-Decides}
 use Rattle.type_hierarchy.specs.Decls.{Name}
 use Rattle.type_hierarchy.specs.Table.{TypeTable}
 use Rattle.fs_model.specs.Claims.{Path, Claim, exists_at, same, below}
-use Rattle.fs_paths.specs.declared.facts.Feat.{Feat}
-use Rattle.fs_paths.specs.declared.facts.Fact.{Fact}
-use Rattle.fs_paths.specs.Facts.{path_of, claims_of}
+use Rattle.fs_graph.specs.declared.facts.Feat.{Feat}
+use Rattle.fs_graph.specs.declared.facts.Fact.{Fact}
+use Rattle.fs_graph.specs.Facts.{path_of, claims_of}
 use Rattle.body_facts.specs.Claimed.{first_carrier, claim_said, claims_of_sayings}
 use Rattle.body_facts.specs.Numbers.{type_number, text_number}
 use Rattle.body_facts.specs.Running.{Running, running, Carrier, carrier, carrier_of, carrier_in, with_carrier, told_once, told_all}

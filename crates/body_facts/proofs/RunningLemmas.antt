@@ -6,8 +6,8 @@ use Rattle.type_hierarchy.specs.Table.{TypeTable}
 use Rattle.fs_model.specs.Claims.{Path}
 use Rattle.std.specs.Global.{Global}
 use Rattle.std.specs.List.{flat_map}
-use Rattle.fs_paths.specs.declared.facts.Feat.{Feat}
-use Rattle.fs_paths.specs.Facts.{path_of}
+use Rattle.fs_graph.specs.declared.facts.Feat.{Feat}
+use Rattle.fs_graph.specs.Facts.{path_of}
 use Rattle.tdl_reader.specs.declared.Attr.{Attr}
 use Rattle.tdl_reader.specs.declared.Body.{Body}
 use Rattle.tdl_reader.specs.Trees.{BodyTree, no_attrs, more_attrs, ItemTrees, no_items, more_items, items_of}

@@ -7,8 +7,8 @@ use Rattle.tdl_reader.specs.Trees.{TermTree, BodyTree, AttrTrees, ItemTrees, Res
 use Rattle.type_hierarchy.specs.Decls.{Name, number_of}
 use Rattle.type_hierarchy.specs.Table.{TypeTable}
 use Rattle.fs_model.specs.Claims.{Path, Claim, exists_at, same, below}
-use Rattle.fs_paths.specs.declared.facts.Feat.{Feat}
-use Rattle.fs_paths.specs.Facts.{path_of, claims_of}
+use Rattle.fs_graph.specs.declared.facts.Feat.{Feat}
+use Rattle.fs_graph.specs.Facts.{path_of, claims_of}
 use Rattle.body_facts.specs.Sayings.{Saying, has_type, has_text, carries, is_there, are_equal, term_says, body_says, attrs_say, items_say, end_says}
 use Rattle.body_facts.specs.Claimed.{WordTable}
 use Rattle.body_facts.specs.Numbers.{type_number, text_number}

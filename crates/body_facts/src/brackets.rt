@@ -6,7 +6,7 @@ ghost use Rattle.tdl_reader.specs.Views.{term_of, attr_of, body_in, rest_of};
 ghost use Rattle.body_facts.specs.Writing.{list_names};
 ghost use Rattle.body_facts.specs.BracketUses.{used_of, used, is_empty_path, is_empty_list, path_uses, cell_uses, term_uses, body_uses, attrs_use, items_use, end_uses};
 
-use crate::fault::NoMemory;
+use crate::NoMemory;
 use crate::settled_names::Names;
 use std::alloc::Global;
 use tdl_reader::{Attr, Body, Rest, Term};

@@ -2,7 +2,6 @@
 #![tactic(auto)]
 
 mod brackets;
-mod fault;
 mod laws;
 mod lookup;
 mod mentioned;
@@ -10,9 +9,9 @@ mod settled_names;
 mod telling;
 
 pub use brackets::{Use, uses};
-pub use fault::NoMemory;
 pub use laws::coreference_law;
 pub use lookup::Words;
 pub use mentioned::{Unknown, first_unknown};
 pub use settled_names::Names;
+pub use std::alloc::AllocError as NoMemory;
 pub use telling::facts;

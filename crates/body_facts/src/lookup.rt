@@ -8,9 +8,9 @@ ghost use Rattle.type_hierarchy.specs.Named.{noted, ArePlaces};
 ghost use Rattle.type_hierarchy.specs.Table.{completed_count};
 ghost use Rattle.body_facts.specs.Numbers.{type_number, text_number, strings_of};
 
-use crate::fault::NoMemory;
+use crate::NoMemory;
 use crate::settled_names::Names;
-use fs_paths::Feat;
+use fs_graph::Feat;
 use indexmap::IndexMap;
 use std::alloc::{AllocError, Global};
 use type_hierarchy::{Ty, Types};

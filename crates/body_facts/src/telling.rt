@@ -5,14 +5,14 @@ ghost use Rattle.tdl_reader.specs.Trees.{attrs_of, items_of, more_attrs, no_attr
 ghost use Rattle.tdl_reader.specs.Views.{term_of, attr_of, body_in, rest_of};
 ghost use Rattle.type_hierarchy.specs.Decls.{texts, number_of};
 ghost use Rattle.fs_model.specs.Claims.{exists_at, same, below};
-ghost use Rattle.fs_paths.specs.Facts.{path_of, claims_of};
+ghost use Rattle.fs_graph.specs.Facts.{path_of, claims_of};
 ghost use Rattle.body_facts.specs.Claimed.{claims_said};
 ghost use Rattle.body_facts.specs.WordTables.{table_of};
 ghost use Rattle.body_facts.specs.Running.{running_of, carrier_in, carrier_of, with_carrier, moved, claimed, carried, term_told, body_told, attrs_told, items_told, end_told, difference_told};
 
-use crate::fault::NoMemory;
+use crate::NoMemory;
 use crate::lookup::Words;
-use fs_paths::{Fact, Feat};
+use fs_graph::{Fact, Feat};
 use indexmap::IndexMap;
 use std::alloc::{AllocError, Global};
 use tdl_reader::{Attr, Body, Rest, Term};

@@ -6,7 +6,7 @@ use Rattle.constraint_expand.specs.declared.books.Book.{Book}
 use Rattle.constraint_expand.specs.declared.books.Instance.{Instance}
 use Rattle.constraint_expand.specs.Books.{numbered_of, instance_of}
 use Rattle.closed_lists.specs.Names.{ListTree, IsReadable}
-use Rattle.instance_shapes.specs.Shapes.{HasDaughters}
+use Rattle.book_shapes.specs.Daughters.{HasDaughters}
 use Rattle.book_shapes.specs.Shapes.{lists_of, instances_of, AreReadable, HasItsDaughters}
 use Rattle.book_shapes.proofs.PlaceLemmas.{seen_at, each_at, clash}
 

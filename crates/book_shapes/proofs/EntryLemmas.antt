@@ -10,7 +10,7 @@ use Rattle.constraint_expand.specs.declared.books.Book.{Book}
 use Rattle.constraint_expand.specs.Books.{numbered_of, InstanceMap}
 use Rattle.constraint_expand.proofs.RuleLemmas.{range_push}
 use Rattle.constraint_expand.proofs.SplitLemmas.{zip_push}
-use Rattle.word_lists.specs.Words.{Word}
+use Rattle.lexicon.specs.Words.{Word}
 use Rattle.lexicon.specs.Entries.{EntryTree}
 use Rattle.closed_lists.specs.Names.{ListTree}
 use Rattle.closed_lists.specs.Strings.{AreWordsAt}

@@ -11,10 +11,10 @@ use Rattle.type_hierarchy.specs.Table.{TypeTable, count_of, completed_count}
 use Rattle.fs_unify.specs.Rules.{Grammar}
 use Rattle.constraint_expand.specs.declared.books.Book.{Book}
 use Rattle.constraint_expand.specs.Books.{Numbered, numbered_of, numbered_in, InstanceMap, IsInstanceOf, IsBookOf}
-use Rattle.placed_statements.specs.Placings.{PlacedTree}
-use Rattle.placed_statements.specs.Statements.{instances_in}
+use Rattle.grammar_files.specs.Placings.{PlacedTree}
+use Rattle.grammar_files.specs.Statements.{instances_in}
 use Rattle.constraint_expand.specs.Systems.{Settled}
-use Rattle.word_lists.specs.Words.{Each}
+use Rattle.lexicon.specs.Words.{Each}
 use Rattle.closed_lists.specs.Names.{IsReadable}
 use Rattle.book_shapes.specs.Shapes.{lists_of, instances_of, AreReadable}
 

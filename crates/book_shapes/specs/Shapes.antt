@@ -6,12 +6,12 @@ use Rattle.tdl_reader.specs.declared.Status.{Status}
 use Rattle.tdl_reader.specs.declared.Status.TheVariants.{Entry}
 use Rattle.constraint_expand.specs.declared.books.Book.{Book}
 use Rattle.constraint_expand.specs.Books.{Numbered, numbered_of, InstanceMap, instance_of}
-use Rattle.word_lists.specs.Words.{Word, Each}
+use Rattle.lexicon.specs.Words.{Word, Each}
 use Rattle.lexicon.specs.Entries.{EntryTree}
 use Rattle.lexicon.specs.Groups.{given_of, words_in}
 use Rattle.closed_lists.specs.Names.{ListTree, IsReadable}
 use Rattle.closed_lists.specs.Strings.{HasWords}
-use Rattle.instance_shapes.specs.Shapes.{HasDaughters}
+use Rattle.book_shapes.specs.Daughters.{HasDaughters}
 use Rattle.book_shapes.specs.declared.entries.Entries.{Entries}
 use Rattle.book_shapes.specs.declared.entries.Entries.TheVariants.{Given, Without}
 

@@ -7,10 +7,10 @@ ghost use Rattle.book_shapes.specs.Shapes.{is_entry, AreReadable, AreFound, numb
 use crate::rules::list_names;
 use closed_lists::words_at;
 use constraint_expand::Book;
-use fs_paths::Feat;
+use fs_graph::Feat;
+use lexicon::NoMemory;
 use std::alloc::Global;
 use tdl_reader::Status;
-use word_lists::NoMemory;
 
 /// The entries of a book by number, with their words, or the place of the first entry that has none.
 #[derive(Drop)]

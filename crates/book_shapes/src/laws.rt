@@ -2,7 +2,7 @@
 
 ghost use Rattle.std.specs.Prelude.{List};
 ghost use Rattle.type_hierarchy.specs.Table.{TypeTable};
-ghost use Rattle.placed_statements.specs.Placings.{PlacedTree};
+ghost use Rattle.grammar_files.specs.Placings.{PlacedTree};
 ghost use Rattle.constraint_expand.specs.declared.books.Book.{Book as BookValue};
 ghost use Rattle.constraint_expand.specs.Systems.{Settled};
 ghost use Rattle.constraint_expand.specs.Books.{IsBookOf};

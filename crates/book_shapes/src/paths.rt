@@ -4,9 +4,9 @@ ghost use Rattle.std.specs.Prelude.{◌≡◌, ◌<◌, ◌^◌, length, map, op
 ghost use Rattle.type_hierarchy.specs.Decls.{texts};
 ghost use Rattle.constraint_expand.specs.Books.{feature_named};
 
-use fs_paths::Feat;
+use fs_graph::Feat;
+use lexicon::NoMemory;
 use std::alloc::Global;
-use word_lists::NoMemory;
 
 // The feature of a name.
 fn feature(feats: &[String], name: &String) -> Option<Feat>

@@ -5,11 +5,11 @@ ghost use Rattle.closed_lists.specs.Names.{names_of};
 ghost use Rattle.constraint_expand.specs.Books.{numbered_of};
 ghost use Rattle.book_shapes.specs.Shapes.{lists_of, instances_of, HasItsDaughters, AreReadable, IsFirstPlace};
 
+use crate::has_daughters;
 use closed_lists::ListNames;
 use constraint_expand::{Book, BookNames};
-use instance_shapes::has_daughters;
+use lexicon::NoMemory;
 use std::alloc::Global;
-use word_lists::NoMemory;
 
 /// What a grammar's lists are made of.
 pub fn list_names(names: &BookNames) -> ListNames

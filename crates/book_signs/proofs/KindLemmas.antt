@@ -3,7 +3,7 @@ use Rattle.std.proofs.Common.{ℕ, zero, suc, ◌≡◌, ◌+◌, ◌<◌, ◌�
 use Rattle.std.specs.Prelude.{slice_get}
 use Rattle.std.proofs.lemmas.List.{append-nil, drop_more}
 use Rattle.fs_model.specs.Claims.{Has, here, there}
-use Rattle.item_model.specs.Signs.{Kind, an_entry, a_lexical_rule, a_phrase_rule, a_root, another, Instance, is_phrase_rule, phrase_rules}
+use Rattle.tree_model.specs.Signs.{Kind, an_entry, a_lexical_rule, a_phrase_rule, a_root, another, Instance, is_phrase_rule, phrase_rules}
 use Rattle.book_signs.specs.Trees.{is_entry, is_lexical_rule, is_root, places_where}
 use Rattle.book_signs.specs.declared.kinds.Kinds.{Kinds}
 use Rattle.book_signs.specs.Inner.Noted.{Notes, AreNoted, AreKinds}

@@ -4,25 +4,25 @@ use Rattle.std.proofs.lemmas.List.{length-map}
 use Rattle.std.specs.List.{AllZip, range_with_len}
 use Rattle.type_hierarchy.specs.Decls.{Name, texts}
 use Rattle.type_hierarchy.specs.Table.{TypeTable}
-use Rattle.placed_statements.specs.Placings.{PlacedTree}
-use Rattle.placed_statements.specs.Statements.{instances_in}
+use Rattle.grammar_files.specs.Placings.{PlacedTree}
+use Rattle.grammar_files.specs.Statements.{instances_in}
 use Rattle.fs_model.specs.Claims.{Path, Claim, System}
 use Rattle.fs_model.specs.Closure.{Closure, IsConsistent}
 use Rattle.fs_model.specs.Sources.{Reader, Source, Told, Tells, tells_exists, tells_same, tells_below, IsUnified, IsGraphOf}
 use Rattle.fs_graph.specs.GraphMap.{GraphMap, reader_of}
 use Rattle.fs_unify.specs.Rules.{Grammar, system_of}
 use Rattle.fs_unify.specs.Given.{facts_source}
-use Rattle.rule_model.specs.Views.{source_alone}
-use Rattle.rule_model.proofs.Closures.{falls, grows}
-use Rattle.rule_model.proofs.ViewLemmas.{alone_to}
-use Rattle.item_model.specs.Signs.{Instance, Signs}
+use Rattle.tree_model.specs.Views.{source_alone}
+use Rattle.tree_model.proofs.Closures.{falls, grows}
+use Rattle.tree_model.proofs.ViewLemmas.{alone_to}
+use Rattle.tree_model.specs.Signs.{Instance, Signs}
 use Rattle.constraint_expand.specs.declared.books.Book.{Book}
 use Rattle.constraint_expand.specs.Systems.{Settled, instance_claims, words_of}
 use Rattle.constraint_expand.specs.Introducers.{IsIntroducer}
 use Rattle.constraint_expand.specs.Features.{writers_of}
 use Rattle.constraint_expand.specs.Books.{numbered_of, InstanceMap, IsInstanceOf, IsBookOf}
-use Rattle.word_lists.specs.Words.{Each}
-use Rattle.instance_shapes.specs.Shapes.{is_rule}
+use Rattle.lexicon.specs.Words.{Each}
+use Rattle.book_shapes.specs.Daughters.{is_rule}
 use Rattle.book_shapes.specs.Shapes.{instances_of, HasItsDaughters}
 use Rattle.book_shapes.proofs.ReadableLemmas.{readable}
 use Rattle.book_signs.specs.Signed.{element_path, AreDaughters, ArePlaces, of_rule, of_other, IsSignOf, IsSignsOf, IsOnly}

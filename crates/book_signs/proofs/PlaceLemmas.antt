@@ -8,8 +8,8 @@ use Rattle.tdl_reader.specs.declared.Status.{Status}
 use Rattle.tdl_reader.specs.declared.Status.TheVariants.{TypeDef, Entry, LexRule, Rule, Root, Other}
 use Rattle.type_hierarchy.specs.Table.{TypeTable}
 use Rattle.fs_model.specs.Claims.{Path}
-use Rattle.fs_paths.specs.declared.facts.Feat.{Feat}
-use Rattle.fs_paths.specs.Facts.{path_of}
+use Rattle.fs_graph.specs.declared.facts.Feat.{Feat}
+use Rattle.fs_graph.specs.Facts.{path_of}
 use Rattle.fs_graph.specs.GraphMap.{GraphMap}
 use Rattle.constraint_expand.specs.declared.books.Book.{Book}
 use Rattle.constraint_expand.specs.Books.{numbered_of, InstanceMap}
@@ -18,7 +18,7 @@ use Rattle.constraint_expand.proofs.SplitLemmas.{zip_push}
 use Rattle.closed_lists.specs.Names.{ListTree}
 use Rattle.closed_lists.specs.Lists.{arc_named, Elements, ends, goes_on, HasList, IsListAt}
 use Rattle.closed_lists.proofs.ListLemmas.{list_one, somes_one}
-use Rattle.instance_shapes.specs.Shapes.{is_rule, MayHave, of_rule, no_rule}
+use Rattle.book_shapes.specs.Daughters.{is_rule, MayHave, of_rule, no_rule}
 use Rattle.book_shapes.specs.Shapes.{lists_of, HasItsDaughters}
 use Rattle.book_shapes.proofs.PlaceLemmas.{clash}
 use Rattle.book_signs.specs.Signed.{known_of, element_path, AreDaughters, ArePlaces}

@@ -15,14 +15,14 @@ use Rattle.fs_graph.specs.GraphMap.{GraphMap, IsGraph, table_of, arcs_at, arc_to
 use Rattle.fs_unify.specs.Rules.{Grammar}
 use Rattle.fs_unify.specs.Entering.{IsGraphIn}
 use Rattle.fs_trim.specs.Cutting.{IsShort}
-use Rattle.rule_model.specs.Mothers.{Rule}
+use Rattle.tree_model.specs.Mothers.{Rule}
 use Rattle.fs_unify.specs.Rules.{Grammar as Typing}
-use Rattle.item_model.specs.Signs.{Instance}
+use Rattle.tree_model.specs.Signs.{Instance}
 use Rattle.closed_lists.specs.Names.{ListTree, IsReadable}
 use Rattle.closed_lists.specs.Lists.{arc_named, Elements, ends, goes_on}
 use Rattle.closed_lists.proofs.ListLemmas.{list_one}
-use Rattle.instance_shapes.specs.Shapes.{is_rule, MayHave, of_rule, no_rule}
-use Rattle.word_lists.specs.Words.{Each}
+use Rattle.book_shapes.specs.Daughters.{is_rule, MayHave, of_rule, no_rule}
+use Rattle.lexicon.specs.Words.{Each}
 use Rattle.constraint_expand.specs.declared.books.Book.{Book}
 use Rattle.constraint_expand.specs.declared.books.Instance.{Instance as BookInstance}
 use Rattle.constraint_expand.specs.Books.{numbered_of, InstanceMap, instance_of}

@@ -6,9 +6,9 @@ use Rattle.fs_model.specs.Sources.{Told}
 use Rattle.fs_graph.specs.GraphMap.{GraphMap, reader_of}
 use Rattle.fs_unify.specs.Rules.{Grammar, system_of}
 use Rattle.fs_unify.specs.Placing.{IsAnswerIn}
-use Rattle.rule_model.specs.Views.{source_alone}
+use Rattle.tree_model.specs.Views.{source_alone}
 use Rattle.constraint_expand.specs.declared.books.Book.{Book}
-use Rattle.word_lists.specs.Words.{Each}
+use Rattle.lexicon.specs.Words.{Each}
 use Rattle.book_shapes.specs.Shapes.{instances_of, AreReadable, HasItsDaughters}
 
 -- a structure is consistent and closed under the type system

@@ -8,11 +8,11 @@ use Rattle.fs_graph.specs.GraphMap.{GraphMap, reader_of}
 use Rattle.fs_unify.specs.Rules.{Grammar, system_of}
 pub use Rattle.fs_trim.specs.Cutting.{paths_in}
 use Rattle.fs_model.specs.Sources.{Source}
-use Rattle.rule_model.specs.Views.{view}
-use Rattle.rule_model.specs.Said.{source_said}
-use Rattle.item_model.specs.Signs.{Kind, an_entry, a_lexical_rule, a_phrase_rule, a_root, another, Instance, Signs}
+use Rattle.tree_model.specs.Views.{view}
+use Rattle.tree_model.specs.Said.{source_said}
+use Rattle.tree_model.specs.Signs.{Kind, an_entry, a_lexical_rule, a_phrase_rule, a_root, another, Instance, Signs}
 use Rattle.closed_lists.specs.Lists.{HasList}
-use Rattle.instance_shapes.specs.Shapes.{is_rule}
+use Rattle.book_shapes.specs.Daughters.{is_rule}
 use Rattle.constraint_expand.specs.declared.books.Book.{Book}
 use Rattle.constraint_expand.specs.Books.{numbered_of, InstanceMap}
 use Rattle.book_shapes.specs.Shapes.{lists_of, instances_of}

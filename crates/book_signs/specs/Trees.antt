@@ -3,11 +3,11 @@ use Rattle.std.specs.Prelude.{ℕ, ◌≡◌, ◌+◌, ◌<◌, ◌≤◌, All, 
 use Rattle.std.specs.Global.{Global}
 use Rattle.fs_model.specs.Claims.{Path}
 use Rattle.fs_model.specs.Sources.{Source}
-use Rattle.fs_paths.specs.declared.facts.Feat.{Feat}
-use Rattle.fs_paths.specs.Facts.{path_of}
+use Rattle.fs_graph.specs.declared.facts.Feat.{Feat}
+use Rattle.fs_graph.specs.Facts.{path_of}
 use Rattle.fs_unify.specs.Rules.{Grammar, system_of}
-use Rattle.rule_model.specs.Mothers.{Rule}
-use Rattle.item_model.specs.Signs.{Kind, an_entry, a_lexical_rule, a_phrase_rule, a_root, Instance, Signs, is_phrase_rule}
+use Rattle.tree_model.specs.Mothers.{Rule}
+use Rattle.tree_model.specs.Signs.{Kind, an_entry, a_lexical_rule, a_phrase_rule, a_root, Instance, Signs, is_phrase_rule}
 use Rattle.constraint_expand.specs.declared.books.Book.{Book}
 use Rattle.constraint_expand.specs.Books.{numbered_of, InstanceMap}
 use Rattle.book_shapes.specs.Shapes.{instances_of}

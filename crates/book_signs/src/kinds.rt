@@ -6,9 +6,9 @@ ghost use Rattle.book_signs.specs.Inner.Noted.{Notes, AreKinds};
 ghost use Rattle.book_signs.specs.Inner.Kept.{kinds_in};
 
 use constraint_expand::Instance;
+use lexicon::NoMemory;
 use std::alloc::Global;
 use tdl_reader::Status;
-use word_lists::NoMemory;
 
 /// The places of entries, of lexical rules, of phrase rules and of roots, each in order.
 #[derive(Drop)]

@@ -1,12 +1,12 @@
 //! The features that a grammar has.
 
 ghost use Rattle.std.specs.Prelude.{◌≡◌, map, option_map, IfOk};
-ghost use Rattle.fs_paths.specs.Facts.{path_of};
+ghost use Rattle.fs_graph.specs.Facts.{path_of};
 ghost use Rattle.book_signs.specs.Signed.{known_of};
 
-use fs_paths::Feat;
+use fs_graph::Feat;
+use lexicon::NoMemory;
 use std::alloc::Global;
-use word_lists::NoMemory;
 
 /// Those of some features that the grammar has, in order.
 pub fn known(alloc: Global, feats: &[Option<Feat>]) -> Result<Vec<Feat>, NoMemory>

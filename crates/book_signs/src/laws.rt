@@ -2,11 +2,11 @@
 
 ghost use Rattle.std.specs.Prelude.{List};
 ghost use Rattle.type_hierarchy.specs.Table.{TypeTable};
-ghost use Rattle.placed_statements.specs.Placings.{PlacedTree};
+ghost use Rattle.grammar_files.specs.Placings.{PlacedTree};
 ghost use Rattle.constraint_expand.specs.declared.books.Book.{Book as BookValue};
 ghost use Rattle.constraint_expand.specs.Systems.{Settled};
 ghost use Rattle.constraint_expand.specs.Books.{IsBookOf};
-ghost use Rattle.word_lists.specs.Words.{Each};
+ghost use Rattle.lexicon.specs.Words.{Each};
 ghost use Rattle.book_shapes.specs.Shapes.{instances_of, HasItsDaughters};
 ghost use Rattle.book_signs.specs.Signed.{IsSignsOf, IsOnly};
 ghost use Rattle.book_signs.specs.Conditions.{IsWhole};

@@ -10,4 +10,4 @@ mod signs;
 
 pub use fs_trim::Cut;
 pub use signs::SignBook;
-pub use word_lists::NoMemory;
+pub use std::alloc::AllocError as NoMemory;

@@ -2,23 +2,23 @@
 
 ghost use Rattle.std.specs.Prelude.{◌≡◌, true, map, IfOk};
 ghost use Rattle.std.specs.List.{AllZip, range_with_len};
-ghost use Rattle.fs_paths.specs.Facts.{path_of};
+ghost use Rattle.fs_graph.specs.Facts.{path_of};
 ghost use Rattle.closed_lists.specs.Names.{IsReadable};
 ghost use Rattle.constraint_expand.specs.Books.{numbered_of, instance_of};
 ghost use Rattle.book_shapes.specs.Shapes.{instances_of, lists_of, HasItsDaughters};
 ghost use Rattle.book_signs.specs.Signed.{element_path, ArePlaces, AreDaughters};
 ghost use Rattle.book_signs.specs.Conditions.{IsWhole};
 ghost use Rattle.book_signs.specs.Trees.{paths_of};
-ghost use Rattle.instance_shapes.specs.Shapes.{is_rule};
+ghost use Rattle.book_shapes.specs.Daughters.{is_rule};
 
 use crate::known::known;
 use book_shapes::list_names;
 use closed_lists::list_at;
 use constraint_expand::{Book, Instance};
-use fs_paths::Feat;
+use fs_graph::Feat;
+use lexicon::NoMemory;
 use std::alloc::Global;
 use tdl_reader::Status;
-use word_lists::NoMemory;
 
 // The path of an element of the list at a path.
 fn element_path(

@@ -5,8 +5,8 @@ ghost use Rattle.fs_model.specs.Claims.{IsOrder};
 ghost use Rattle.fs_unify.specs.Rules.{system_of};
 ghost use Rattle.fs_unify.specs.Owing.{ListsOwed};
 ghost use Rattle.fs_trim.specs.Cutting.{cut_of, owed_of, IsShort};
-ghost use Rattle.rule_model.specs.Mothers.{daughters_cut, restrictors_cut};
-ghost use Rattle.item_model.specs.Signs.{rule_system};
+ghost use Rattle.tree_model.specs.Mothers.{daughters_cut, restrictors_cut};
+ghost use Rattle.tree_model.specs.Signs.{rule_system};
 ghost use Rattle.book_signs.specs.Signed.{IsSignsOf, facts_of};
 ghost use Rattle.book_signs.specs.Conditions.{IsWhole, IsClosed};
 ghost use Rattle.book_signs.specs.Trees.{signs_of, paths_of, facts_at, places_at, entries_of, lexical_rules_of, phrase_rules_of, roots_of, ArePathsIn, HaveArities};
@@ -15,13 +15,12 @@ use crate::kinds::{Kinds, kinds_of};
 use crate::known::known;
 use crate::placing::all_places;
 use constraint_expand::Book;
-use fs_graph::Graph;
-use fs_paths::Feat;
+use fs_graph::{Feat, Graph};
 use fs_trim::Cut;
 use fs_unify::{Owed, TypeSystem};
+use lexicon::NoMemory;
 use std::alloc::Global;
 use std::marker::Model;
-use word_lists::NoMemory;
 
 /// A grammar's book as its trees see it: for each instance its structure and the places of its daughters, what a mother loses
 /// and what abstract structures lack, and which instances are entries, rules and roots. It is made once for a grammar.

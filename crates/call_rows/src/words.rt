@@ -46,10 +46,10 @@ fn push_options(alloc: Global, options: &Options<'_>, out: &mut Vec<u8>) -> Resu
         options.empty
     )?;
     let rest = format!(in alloc;
-        " {:?} {} {}",
-        options.settings, options.mrs, options.lattice
+        " {:?} {} {} {}",
+        options.settings, options.mrs, options.lattice, options.verbose
     )?;
-    if numbers.as_str() == " 1 5000 10000 7 8 4" && rest.as_str() == " None false false" {
+    if numbers.as_str() == " 1 5000 10000 7 8 4" && rest.as_str() == " None false false false" {
         return Ok(());
     }
     push(out, numbers.as_str())?;

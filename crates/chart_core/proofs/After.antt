@@ -2,8 +2,8 @@
 use Rattle.std.specs.Prelude.{◌≡◌, ℕ, ◌<◌, ◌≤◌, ◌++◌, Bool, true, false, not, is_some, Option, Some, None, List, [], ◌∷◌, length, map, slice_get, All, MatchOption, vec_capacity}
 use Rattle.std.proofs.Common.{refl, ap, sym, ◌∙◌, subst, arith, zero, suc, append-nil}
 use Rattle.std.proofs.lemmas.List.{map-append, length-map}
-use Rattle.cover.specs.Calculus.{Calculus}
-use Rattle.cover.specs.Tuples.{on_list}
+use Rattle.chart_model.specs.Calculus.{Calculus}
+use Rattle.chart_model.specs.Tuples.{on_list}
 use Rattle.chart_model.specs.Chart as model
 use Rattle.chart_model.specs.Below.{IsRun, Follows}
 use Rattle.chart_core.specs.declared.chart.Core.{Core}

@@ -1,7 +1,7 @@
 -- One step of a chart, where the task is open or skipped.
 use Rattle.std.specs.Prelude.{◌≡◌, ℕ, ◌+◌, ◌<◌, ◌++◌, Bool, true, false, is_none, Option, Some, None, List, [], ◌∷◌, length, map, slice_get, slice_set, if◌then◌else◌}
 use Rattle.std.proofs.Common.{refl, ap, sym, ◌∙◌, arith, zero, suc}
-use Rattle.cover.specs.Calculus.{Calculus}
+use Rattle.chart_model.specs.Calculus.{Calculus}
 use Rattle.chart_model.specs.Chart as model
 use Rattle.chart_model.specs.Below.{Follows}
 use Rattle.chart_model.specs.At.{from_get, at_below}

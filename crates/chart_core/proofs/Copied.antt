@@ -2,10 +2,10 @@
 use Rattle.std.specs.Prelude.{◌≡◌, ℕ, ◌<◌, ◌≤◌, Option, Some, None, List, [], ◌∷◌, length, map, option_map, All}
 use Rattle.std.proofs.Common.{refl, ap, sym, ◌∙◌, subst, arith, zero, suc}
 use Rattle.std.proofs.lemmas.List.{length-map}
-use Rattle.cover.specs.Calculus.{Laws}
-use Rattle.cover.specs.Tuples.{on_list, NoGap, IsTuple, IsFor, covers_of, parts_of}
-use Rattle.cover.specs.declared.Part.{Part}
-use Rattle.cover.specs.declared.Tuple.{Tuple}
+use Rattle.chart_model.specs.Calculus.{Laws}
+use Rattle.chart_model.specs.Tuples.{on_list, NoGap, IsTuple, IsFor, covers_of, parts_of}
+use Rattle.chart_model.specs.declared.covers.Part.{Part}
+use Rattle.chart_model.specs.declared.covers.Tuple.{Tuple}
 use Rattle.chart_model.specs.Chart as model
 use Rattle.chart_model.specs.At.{from_get, to_get}
 use Rattle.chart_core.specs.declared.chart.Core.{Core}

@@ -2,8 +2,8 @@
 use Rattle.std.specs.Prelude.{◌≡◌, ℕ, ◌+◌, ◌≤◌, ◌^◌, nat_le, Bool, true, false, if◌then◌else◌, is_some, option_map, Option, Some, None, List, [], ◌∷◌, refl, All, MatchOption, slice_index_or}
 use Rattle.std.proofs.Common.{sym, ◌∙◌, ap, subst, arith, zero, suc}
 use Rattle.std.proofs.lemmas.List.Elements.{All-head, All-tail}
-use Rattle.cover.specs.Calculus.{Calculus, Laws}
-use Rattle.cover.specs.Tuples.{on_list}
+use Rattle.chart_model.specs.Calculus.{Calculus, Laws}
+use Rattle.chart_model.specs.Tuples.{on_list}
 use Rattle.chart_model.specs.At.{At, here, there}
 use Rattle.chart_model.specs.Chart as model
 use Rattle.chart_model.specs.Limits.{LimitAnswer, Within, UnaryChain, Edges, IsLimitAnswer, IsClassCount}

@@ -1,7 +1,7 @@
 -- Where nothing is pending, the chart is complete.
 use Rattle.std.specs.Prelude.{◌≡◌, ℕ, Option, Some, None, List, [], ◌∷◌, map}
 use Rattle.std.proofs.Common.{refl, sym, subst, suc, zero, arith}
-use Rattle.cover.specs.Calculus.{Laws, Agreement}
+use Rattle.chart_model.specs.Calculus.{Laws, Agreement}
 use Rattle.chart_model.specs.Chart as model
 use Rattle.chart_model.specs.At.{At, here, there}
 use Rattle.chart_model.specs.Finished.{NothingPending, IsComplete}

@@ -2,8 +2,8 @@
 use Rattle.std.specs.Prelude.{◌≡◌, ℕ, ◌<◌, ◌≤◌, Option, Some, None, List, [], ◌∷◌, length, map, option_map, slice_get, All, MatchOption}
 use Rattle.std.proofs.Common.{refl, ap, sym, ◌∙◌, subst, arith, zero, suc, length-append}
 use Rattle.std.proofs.lemmas.List.{length-map}
-use Rattle.cover.specs.Calculus.{Calculus, Laws}
-use Rattle.cover.specs.Tuples.{on_list}
+use Rattle.chart_model.specs.Calculus.{Calculus, Laws}
+use Rattle.chart_model.specs.Tuples.{on_list}
 use Rattle.chart_model.specs.Chart as model
 use Rattle.chart_model.specs.At.{At, here, there, from_get, to_get, at_one, at_below, Snoc, old, new, at_snoc}
 use Rattle.chart_model.proofs.Pairing.{LowHost, TaskOk, Front, front}

@@ -2,7 +2,7 @@
 use Rattle.std.specs.Prelude.{◌≡◌, ℕ, ◌+◌, ◌<◌, ◌&&◌, Bool, true, false, is_some, is_none, Option, Some, None, Result, Ok, Err, IfOk, List, [], ◌∷◌, length, map, option_map, slice_get, slice_index_or, All}
 use Rattle.std.specs.List.{find}
 use Rattle.std.proofs.Common.{refl, ap, sym, ◌∙◌, subst, arith, zero, suc}
-use Rattle.cover.specs.Calculus.{Calculus, Laws}
+use Rattle.chart_model.specs.Calculus.{Calculus, Laws}
 use Rattle.chart_model.specs.Chart as model
 use Rattle.chart_model.specs.At.{At, here, there, to_get, from_get}
 use Rattle.chart_model.specs.Picked.{picked}

@@ -4,7 +4,7 @@ use Rattle.std.specs.List.{filter, list_any}
 use Rattle.std.proofs.Common.{refl, ap, sym, ◌∙◌, subst, arith, zero, suc, eqb-true}
 use Rattle.std.proofs.lemmas.Bool.{eqb-false}
 use Rattle.std.proofs.lemmas.List.{length-map}
-use Rattle.cover.specs.Calculus.{Calculus, Laws}
+use Rattle.chart_model.specs.Calculus.{Calculus, Laws}
 use Rattle.chart_model.specs.Chart as model
 use Rattle.chart_model.specs.At.{At, here, there, to_get}
 use Rattle.chart_model.proofs.Peers as peers

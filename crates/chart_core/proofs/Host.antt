@@ -2,7 +2,7 @@
 use Rattle.std.specs.Prelude.{◌≡◌, ℕ, ◌+◌, ◌≤◌, ◌<◌, ◌++◌, Option, Some, None, List, [], ◌∷◌, length, map, slice_get, All, MatchOption, Bool, false}
 use Rattle.std.specs.List.{filter}
 use Rattle.std.proofs.Common.{refl, ap, sym, ◌∙◌, subst, arith}
-use Rattle.cover.specs.Calculus.{Calculus}
+use Rattle.chart_model.specs.Calculus.{Calculus}
 use Rattle.chart_model.specs.Chart as model
 use Rattle.chart_core.specs.declared.Row.{Row}
 use Rattle.chart_core.specs.declared.Verdict.{Verdict}

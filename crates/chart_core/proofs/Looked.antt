@@ -2,9 +2,9 @@
 use Rattle.std.specs.Prelude.{◌≡◌, ℕ, ◌≤◌, ◌<◌, ◌^◌, Some, None, List, length, map}
 use Rattle.std.proofs.Common.{ap, sym, ◌∙◌, subst, arith, inl, inr}
 use Rattle.std.proofs.lemmas.Bool.{cases_lt}
-use Rattle.cover.specs.Calculus.{Calculus, Laws}
-use Rattle.cover.specs.Tuples.{shapes_of, covers_of}
-use Rattle.cover.specs.declared.Tuple.{Tuple}
+use Rattle.chart_model.specs.Calculus.{Calculus, Laws}
+use Rattle.chart_model.specs.Tuples.{shapes_of, covers_of}
+use Rattle.chart_model.specs.declared.covers.Tuple.{Tuple}
 use Rattle.chart_model.specs.Chart as model
 use Rattle.chart_model.specs.At.{from_get}
 use Rattle.chart_core.specs.declared.chart.Core.{Core}

@@ -1,7 +1,7 @@
 -- Each entry of a history is of a task that is done, at its place.
 use Rattle.std.specs.Prelude.{◌≡◌, ℕ, ◌+◌, Bool, true, false, if◌then◌else◌, Option, Some, None, List, [], ◌∷◌, slice_set, slice_get, refl}
 use Rattle.std.proofs.Common.{ap, sym, ◌∙◌, subst, arith, zero, suc}
-use Rattle.cover.specs.Calculus.{Calculus}
+use Rattle.chart_model.specs.Calculus.{Calculus}
 use Rattle.chart_model.specs.Chart as model
 use Rattle.chart_model.specs.Chart.{Row, Task, Chart, Leaf, Limits, Entry, Outcome, Fails, Fits, Makes, step, replayed, opened, with_done, with_outcome, with_whole, whole_row, leaf_row, peer_over, daughters, all_free}
 use Rattle.chart_model.specs.At.{At, here, there, at_one, at_append, to_get, from_get}

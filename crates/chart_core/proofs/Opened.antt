@@ -3,8 +3,8 @@ use Rattle.std.specs.Prelude.{◌≡◌, ℕ, ◌<◌, ◌++◌, Option, Some, N
 use Rattle.std.proofs.Common.{refl, sym, ap, ◌∙◌, subst, arith, zero, suc}
 use Rattle.chart_model.specs.At.{At}
 use Rattle.chart_model.specs.Picked.{Rises, no_more}
-use Rattle.cover.specs.Calculus.{Calculus}
-use Rattle.cover.specs.Tuples.{on_list}
+use Rattle.chart_model.specs.Calculus.{Calculus}
+use Rattle.chart_model.specs.Tuples.{on_list}
 use Rattle.chart_model.specs.Chart as model
 use Rattle.chart_core.specs.declared.chart.Core.{Core}
 use Rattle.chart_core.specs.declared.Row.{Row}

@@ -2,7 +2,7 @@
 use Rattle.std.specs.Prelude.{◌≡◌, ℕ, ◌+◌, ◌<◌, ◌^◌, ◌⊎◌, Option, Some, None, List, [], ◌∷◌, map, refl, MatchOption, MatchResult, Result}
 use Rattle.std.proofs.Common.{ap, sym, subst, arith, inl, inr, zero, suc}
 use Rattle.std.proofs.lemmas.Bool.{cases_order}
-use Rattle.cover.specs.Calculus.{Calculus, Laws, Agreement}
+use Rattle.chart_model.specs.Calculus.{Calculus, Laws, Agreement}
 use Rattle.chart_model.specs.Chart as model
 use Rattle.chart_model.specs.At.{At, here, there}
 use Rattle.chart_model.specs.Limits.{LimitAnswer, Within, IsLimitAnswer}

@@ -2,7 +2,7 @@
 use Rattle.std.specs.Prelude.{◌≡◌, ℕ, ◌+◌, ◌≤◌, ◌&&◌, Bool, true, false, is_none, is_some, Option, Some, None, List, [], ◌∷◌, map, option_map, All}
 use Rattle.std.specs.List.{filter}
 use Rattle.std.proofs.Common.{refl, ap, sym, ◌∙◌, subst, arith, zero, suc, cond}
-use Rattle.cover.specs.Calculus.{Laws}
+use Rattle.chart_model.specs.Calculus.{Laws}
 use Rattle.chart_model.specs.Chart as model
 use Rattle.chart_model.specs.At.{At, here, there, from_get}
 use Rattle.chart_model.specs.Picked.{Rises, no_more, next_is}

@@ -2,8 +2,8 @@
 use Rattle.std.specs.Prelude.{◌≡◌, ℕ, ◌+◌, ◌-◌, ◌<◌, ◌≤◌, ◌&&◌, ◌++◌, Bool, true, false, is_some, Option, Some, None, List, [], ◌∷◌, length, map, option_map, drop, slice_get, slice_index_or, if◌then◌else◌}
 use Rattle.std.proofs.Common.{refl, ap, sym, ◌∙◌, arith, zero, suc, add-one, drop-cons, append_assoc, append-nil, get_or}
 use Rattle.std.proofs.lemmas.List.{drop_all, map-append}
-use Rattle.cover.specs.Calculus.{Calculus}
-use Rattle.cover.specs.Tuples.{on_list}
+use Rattle.chart_model.specs.Calculus.{Calculus}
+use Rattle.chart_model.specs.Tuples.{on_list}
 use Rattle.chart_model.specs.Chart as model
 use Rattle.chart_model.specs.Picked.{at_row, picked}
 use Rattle.chart_core.specs.declared.Row.{Row}

@@ -1,7 +1,7 @@
 -- How a task stands, from what a core keeps of it.
 use Rattle.std.specs.Prelude.{◌≡◌, ℕ, Option, Some, None, List, [], ◌∷◌, map, slice_get}
 use Rattle.std.proofs.Common.{refl, ap, sym, ◌∙◌, subst, zero, suc}
-use Rattle.cover.specs.Calculus.{Laws}
+use Rattle.chart_model.specs.Calculus.{Laws}
 use Rattle.chart_model.specs.Chart as model
 use Rattle.chart_model.specs.At.{from_get, to_get}
 use Rattle.chart_core.specs.declared.chart.Core.{Core}

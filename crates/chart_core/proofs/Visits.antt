@@ -2,7 +2,7 @@
 use Rattle.std.specs.Prelude.{◌≡◌, ℕ, ◌+◌, ◌≤◌, ◌<◌, Some, length}
 use Rattle.std.proofs.Common.{sym, ◌∙◌, subst, arith, inl, inr}
 use Rattle.std.proofs.lemmas.List.{length-map}
-use Rattle.cover.specs.Calculus.{Laws}
+use Rattle.chart_model.specs.Calculus.{Laws}
 use Rattle.chart_model.specs.Chart as model
 use Rattle.chart_model.specs.At.{At, at_one, at_below, from_get}
 use Rattle.chart_model.specs.Limits.{AreProper}

@@ -1,6 +1,6 @@
 -- What the calls of a core say, over the core itself.
 use Rattle.std.specs.Prelude.{◌≡◌, ℕ, ◌<◌, Bool, true, Some, None, List, [], ◌++◌, length, map, slice_get, All}
-use Rattle.cover.specs.Tuples.{on_list, IsFor}
+use Rattle.chart_model.specs.Tuples.{on_list, IsFor}
 use Rattle.chart_model.specs.Chart as model
 use Rattle.chart_model.specs.At.{At}
 use Rattle.chart_model.specs.Picked.{Rises}

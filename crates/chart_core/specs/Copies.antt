@@ -1,7 +1,7 @@
 -- Equal shapes and covers, taken from rows.
 use Rattle.std.specs.Prelude.{◌≡◌, ℕ, Option, Some, None, List, slice_get}
-use Rattle.cover.specs.declared.Part.{Part}
-use Rattle.cover.specs.declared.Tuple.{Tuple}
+use Rattle.chart_model.specs.declared.covers.Part.{Part}
+use Rattle.chart_model.specs.declared.covers.Tuple.{Tuple}
 use Rattle.chart_core.specs.declared.Row.{Row}
 use Rattle.chart_core.specs.declared.RowId.{RowId}
 use Rattle.chart_core.specs.declared.Daughters.{Daughters}

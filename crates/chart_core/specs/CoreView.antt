@@ -1,6 +1,6 @@
 -- The chart, the leaves and the history that a core stands for.
 use Rattle.std.specs.Prelude.{ℕ, Option, Some, None, List, [], ◌∷◌, map, length, slice_get}
-use Rattle.cover.specs.Tuples.{on_list}
+use Rattle.chart_model.specs.Tuples.{on_list}
 use Rattle.chart_model.specs.Chart as model
 use Rattle.chart_core.specs.declared.chart.Core.{Core}
 use Rattle.chart_core.specs.declared.history.Entry.{Entry}

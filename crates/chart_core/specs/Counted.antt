@@ -1,6 +1,6 @@
 -- The live hosts that are counted.
 use Rattle.std.specs.Prelude.{◌≡◌, ℕ, ◌+◌, ◌<◌, ◌^◌, ◌&&◌, nat_le, Bool, true, is_some, is_none, if◌then◌else◌, Result, MatchResult, Option, Some, None, List, [], ◌∷◌}
-use Rattle.cover.specs.Calculus.{Calculus}
+use Rattle.chart_model.specs.Calculus.{Calculus}
 use Rattle.chart_model.specs.Chart as model
 use Rattle.chart_model.specs.Limits.{LimitAnswer, UnaryChain, Edges, Within, IsLimitAnswer, IsClassCount}
 use Rattle.chart_model.specs.Below.{IsLeastSize, answer_by}

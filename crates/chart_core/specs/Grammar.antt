@@ -1,8 +1,8 @@
 -- What a core knows of a grammar.
 use Rattle.std.specs.Prelude.{ℕ}
-use Rattle.cover.specs.Calculus.{Calculus}
-use Rattle.cover.specs.declared.Shapes as of_shapes
-use Rattle.cover.specs.declared.Cover as of_cover
+use Rattle.chart_model.specs.Calculus.{Calculus}
+use Rattle.chart_model.specs.declared.covers.Shapes as of_shapes
+use Rattle.chart_model.specs.declared.covers.Cover as of_cover
 
 -- the numbers by which covers are found
 pub record Keys (C : Type 0) : Type 0 where

@@ -1,8 +1,8 @@
 -- What an outcome that was found stands for.
 use Rattle.std.specs.Prelude.{ℕ, map, length}
-use Rattle.cover.specs.Calculus.{Calculus}
-use Rattle.cover.specs.Tuples.{shapes_of, covers_of}
-use Rattle.cover.specs.declared.Tuple.{Tuple}
+use Rattle.chart_model.specs.Calculus.{Calculus}
+use Rattle.chart_model.specs.Tuples.{shapes_of, covers_of}
+use Rattle.chart_model.specs.declared.covers.Tuple.{Tuple}
 use Rattle.chart_model.specs.Chart as model
 use Rattle.chart_core.specs.declared.Outcome.{Outcome}
 use Rattle.chart_core.specs.declared.Outcome.TheVariants as outcomes

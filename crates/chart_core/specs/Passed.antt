@@ -1,6 +1,6 @@
 -- What the ordered pass answers.
 use Rattle.std.specs.Prelude.{◌≡◌, ℕ, List}
-use Rattle.cover.specs.Calculus.{Calculus}
+use Rattle.chart_model.specs.Calculus.{Calculus}
 use Rattle.chart_model.specs.Chart as model
 use Rattle.chart_model.specs.Finished.{IsComplete}
 use Rattle.chart_model.specs.Grown.{HoldsTrees}

@@ -1,8 +1,8 @@
 -- What a call for a task answers, and what it changes.
 use Rattle.std.specs.Prelude.{◌≡◌, ℕ, Bool, true, Option, Some, None, length, map, slice_get}
-use Rattle.cover.specs.Calculus.{Calculus}
-use Rattle.cover.specs.Tuples.{shapes_of, covers_of}
-use Rattle.cover.specs.declared.Tuple.{Tuple}
+use Rattle.chart_model.specs.Calculus.{Calculus}
+use Rattle.chart_model.specs.Tuples.{shapes_of, covers_of}
+use Rattle.chart_model.specs.declared.covers.Tuple.{Tuple}
 use Rattle.chart_model.specs.Chart as model
 use Rattle.chart_core.specs.declared.Entered.{Entered}
 use Rattle.chart_core.specs.declared.Entered.TheVariants as entered

@@ -1,7 +1,7 @@
 -- The tests that find hosts and partials, row by row.
 use Rattle.std.specs.Prelude.{◌≡◌, ℕ, ◌<◌, ◌≤◌, ◌&&◌, ◌||◌, nat_le, nat_eq, if◌then◌else◌, Bool, false, Option, Some, None, is_none, is_some, List, [], ◌∷◌, slice_get, length, MatchOption}
 use Rattle.std.specs.List.{list_any}
-use Rattle.cover.specs.Calculus.{Calculus}
+use Rattle.chart_model.specs.Calculus.{Calculus}
 use Rattle.chart_model.specs.Chart as model
 use Rattle.chart_core.specs.declared.Row.{Row}
 use Rattle.chart_core.specs.View.{row_of, list_of}

@@ -1,6 +1,6 @@
 -- What was found of the hosts before.
 use Rattle.std.specs.Prelude.{◌≡◌, ℕ, Some, List, [], map}
-use Rattle.cover.specs.Calculus.{Calculus}
+use Rattle.chart_model.specs.Calculus.{Calculus}
 use Rattle.chart_model.specs.At.{At}
 use Rattle.chart_core.specs.declared.Row.{Row}
 use Rattle.chart_core.specs.declared.Peer.{Peer}

@@ -4,7 +4,7 @@ use crate::rows::Candidate;
 use crate::tasks::Standing;
 use crate::tuples::level_over;
 use crate::{Caller, Core, Daughters, Entered, Outcome, RowKind, TaskId, Tested};
-use cover::Shapes;
+use chart_model::Shapes;
 use std::alloc::Global;
 
 impl<S: Shapes> Core<S> {

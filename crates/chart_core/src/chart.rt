@@ -5,7 +5,7 @@ use crate::places::Places;
 use crate::rows::Candidate;
 use crate::search::{all_under, first_over, freeze, host_pairs, partial_pairs, rule_pairs};
 use crate::{Caller, Daughters, Leaf, Row, RowId, RowKind, Verdict};
-use cover::{Cover, NoMemory, Shapes};
+use chart_model::{Cover, NoMemory, Shapes};
 use std::alloc::Global;
 
 /// A chart of packed edges over its leaves, with the tasks that are pending or done and the history of what was entered.

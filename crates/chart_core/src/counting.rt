@@ -5,7 +5,7 @@ ghost use Rattle.chart_model.specs.Below.{IsLeastSize};
 ghost use Rattle.chart_core.specs.Counted.{counts_row, tally, IsSmall, IsFoundBelow};
 
 use crate::{ChartFault, Row};
-use cover::{Cover, Shapes};
+use chart_model::{Cover, Shapes};
 
 // Whether the row is a live host of a level in this range and of a size below the bound.
 fn counts<S: Shapes>(row: &Row<S>, least: u32, most: u32, below: u64) -> bool

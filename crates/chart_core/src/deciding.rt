@@ -2,7 +2,7 @@
 
 use crate::counting::{count, fault_below};
 use crate::{ChartFault, Finished, Limits};
-use cover::Shapes;
+use chart_model::Shapes;
 
 impl<S: Shapes> Finished<S> {
     ghost use Rattle.std.specs.Prelude.{◌≡◌};

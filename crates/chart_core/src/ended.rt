@@ -1,7 +1,7 @@
 //! A chart with nothing pending.
 
 use crate::{Core, Row, RowId};
-use cover::Shapes;
+use chart_model::Shapes;
 
 /// A chart with nothing pending.
 #[derive(Drop)]

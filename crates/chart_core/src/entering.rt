@@ -2,7 +2,7 @@
 
 use crate::rows::Candidate;
 use crate::{Caller, Core, Daughters, Entered, RowId, TaskId, Tested, Verdict};
-use cover::{NoMemory, Shapes};
+use chart_model::{NoMemory, Shapes};
 use std::alloc::Global;
 
 impl<S: Shapes> Core<S> {

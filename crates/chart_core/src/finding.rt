@@ -1,11 +1,11 @@
 //! What a worker finds for a task.
 
 ghost use Rattle.std.specs.Prelude.{IfOk};
-ghost use Rattle.cover.specs.Tuples.{IsFor};
+ghost use Rattle.chart_model.specs.Tuples.{IsFor};
 ghost use Rattle.chart_core.specs.Outcomes.{IsRightFor, ShapeBelongs};
 
 use crate::Outcome;
-use cover::{NoMemory, Shapes, Tuple};
+use chart_model::{NoMemory, Shapes, Tuple};
 use std::alloc::Global;
 
 /// The outcome of a rule with these daughters, as a worker finds it outside the chart.

@@ -12,7 +12,7 @@ ghost use Rattle.std.specs.Prelude.{◌≡◌};
 ghost use Rattle.chart_core.specs.declared.ChartFault.TheVariants as faults;
 
 pub use chart::Core;
-use cover::{NoMemory, Shapes, Tuple};
+use chart_model::{NoMemory, Shapes, Tuple};
 pub use ended::Finished;
 pub use finding::outcome_of;
 pub use ordered::ordered_pass;

@@ -3,7 +3,7 @@
 ghost use Rattle.std.specs.Prelude.{◌≡◌, ◌<◌, MatchOption, OnOk, ◌+◌, length};
 ghost use Rattle.chart_core.specs.Noted.{tasks_at, SameNotes, IsEmpty, Adds, IsNext, IsAfter, Takes};
 
-use cover::NoMemory;
+use chart_model::NoMemory;
 use std::alloc::Global;
 use std::collections::{BTreeMap, VecDeque};
 

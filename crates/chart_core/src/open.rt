@@ -7,7 +7,7 @@ use crate::places::Places;
 use crate::rows::Candidate;
 use crate::tuples::no_daughters;
 use crate::{Core, Leaf, Limits, Row, RowKind};
-use cover::{NoMemory, Shapes};
+use chart_model::{NoMemory, Shapes};
 use std::alloc::Global;
 
 impl<S: Shapes> Core<S> {

@@ -12,7 +12,7 @@ use crate::counting::fault_below;
 use crate::noted::Notes;
 use crate::passing::Pass;
 use crate::{ChartFault, Core, Finished, Leaf, Limits};
-use cover::{NoMemory, Shapes};
+use chart_model::{NoMemory, Shapes};
 use std::alloc::Global;
 
 /// The finished chart over these leaves, where the limits allow it.

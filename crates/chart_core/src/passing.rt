@@ -5,7 +5,7 @@ use crate::noted::Notes;
 use crate::tasks::Standing;
 use crate::tuples::{level_over, tuple_of};
 use crate::{Caller, Core, Daughters, Entered, Outcome, TaskId, Tested};
-use cover::{Cover, NoMemory, Shapes};
+use chart_model::{Cover, NoMemory, Shapes};
 use std::alloc::Global;
 
 /// What is to be done with a task that is looked at.

@@ -2,7 +2,7 @@
 
 ghost use Rattle.std.specs.Prelude.{◌≡◌, ◌<◌, [], length, IfOk, OnOk, All};
 
-use cover::NoMemory;
+use chart_model::NoMemory;
 use std::alloc::Global;
 
 /// Lists of numbers, one for each remainder of a key.

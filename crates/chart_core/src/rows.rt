@@ -3,7 +3,7 @@
 ghost use Rattle.std.specs.Prelude.{◌≡◌, Some};
 
 use crate::{Daughters, Row, RowId, RowKind};
-use cover::Shapes;
+use chart_model::Shapes;
 
 /// A leaf or a whole row, before it is packed or becomes a host.
 #[derive(Drop)]

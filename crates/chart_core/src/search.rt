@@ -12,7 +12,7 @@ ghost use Rattle.chart_core.specs.Copies.{IsCopy};
 use crate::history::TaskRow;
 use crate::tuples::{any_among, first_frosted};
 use crate::{Peer, Row, RowId, RowKind, Verdict};
-use cover::{Cover, NoMemory, Shapes};
+use chart_model::{Cover, NoMemory, Shapes};
 use std::alloc::Global;
 
 // The first place from this one on of a verdict on this row or a later one. Verdicts and rows rise, so that a walk over rows

@@ -2,7 +2,7 @@
 
 use crate::tuples::{daughters_of, first_frosted};
 use crate::{Core, Daughters, RowId, TaskId};
-use cover::Shapes;
+use chart_model::Shapes;
 
 /// How a task stands: done at a place, with a first frosted daughter, or open, with its rule and its daughters.
 #[derive(Drop)]

@@ -4,7 +4,7 @@ use crate::search::peers_at;
 use crate::tasks::Standing;
 use crate::tuples::tuple_of;
 use crate::{Core, Peers, Ready, TaskId, TaskInfo};
-use cover::{Cover, NoMemory, Shapes};
+use chart_model::{Cover, NoMemory, Shapes};
 use std::alloc::Global;
 
 impl<S: Shapes> Core<S> {

@@ -8,7 +8,7 @@ ghost use Rattle.chart_core.specs.Tests.{any_in, IsLow, TaskFits};
 
 use crate::history::TaskRow;
 use crate::{Daughters, Row, RowId};
-use cover::{Cover, NoMemory, Part, Shapes, Tuple};
+use chart_model::{Cover, NoMemory, Part, Shapes, Tuple};
 use std::alloc::Global;
 
 /// These daughters with one more to their right.

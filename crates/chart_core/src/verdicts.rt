@@ -4,7 +4,7 @@ ghost use Rattle.std.specs.Prelude.{IfOk};
 ghost use Rattle.chart_core.specs.Verdicts.{StandsTo};
 
 use crate::{Outcome, Peer, Peers, Tested, Verdict};
-use cover::{NoMemory, Shapes};
+use chart_model::{NoMemory, Shapes};
 use std::alloc::Global;
 
 impl<S: Shapes> Peers<S> {

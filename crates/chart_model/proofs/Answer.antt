@@ -2,7 +2,7 @@
 use Rattle.std.specs.Prelude.{◌≡◌, ℕ, ◌+◌, ◌-◌, ◌<◌, ◌≤◌, nat_le, Bool, true, false, if◌then◌else◌, Option, Some, None, List, refl}
 use Rattle.std.proofs.Common.{zero, suc, ap, subst, arith, inl, inr, leb-true}
 use Rattle.std.proofs.lemmas.Bool.{leb-false}
-use Rattle.cover.specs.Calculus.{Calculus}
+use Rattle.chart_model.specs.Calculus.{Calculus}
 use Rattle.chart_model.specs.At.{At, at_below, to_get, from_get, at_found}
 use Rattle.chart_model.specs.Chart.{Chart, Leaf, Limits}
 use Rattle.chart_model.specs.Classes.{Class, Member, IsPacked, IsHost}

@@ -1,8 +1,8 @@
 -- Where nothing is pending, the live hosts are the packed classes.
 use Rattle.std.specs.Prelude.{◌≡◌, ℕ, ◌+◌, ◌<◌, ◌≤◌, true, Option, Some, None, List, [], ◌∷◌, ◌++◌, length, refl, is_some, slice_get}
 use Rattle.std.proofs.Common.{zero, suc, ap, subst, sym, ◌∙◌, arith, length-append, append_assoc, append-nil}
-use Rattle.cover.specs.Calculus.{Calculus, Laws, AllOver, none, more, NoneApplies}
-use Rattle.cover.specs.Tuples.{on_list}
+use Rattle.chart_model.specs.Calculus.{Calculus, Laws, AllOver, none, more, NoneApplies}
+use Rattle.chart_model.specs.Tuples.{on_list}
 use Rattle.chart_model.specs.Chart.{Kind, OfLeaf, OfPartial, OfWhole, Row, Task, Chart, Leaf, Limits, daughters, cover_of, shape_of, covers_at, shapes_at, level_of, levels_at, level_above}
 use Rattle.chart_model.specs.Classes.{Class, Member, of_leaf, of_rule, Members, no_members, more_members, IsPacked, IsHost, HostsAreClasses, class_covers, class_shapes, class_level}
 use Rattle.chart_model.specs.At.{At, here, there, at_below, at_one, to_get, from_get, at_found}

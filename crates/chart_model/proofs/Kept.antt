@@ -1,7 +1,7 @@
 -- What a step leaves as it was of the tasks that were made.
 use Rattle.std.specs.Prelude.{◌≡◌, ℕ, ◌<◌, ◌≤◌, Bool, true, false, if◌then◌else◌, Option, Some, None, List, [], ◌∷◌, ◌++◌, length, refl, slice_get}
 use Rattle.std.proofs.Common.{ap, subst, sym, ◌∙◌, arith, append-nil, length-append}
-use Rattle.cover.specs.Calculus.{Calculus, Laws}
+use Rattle.chart_model.specs.Calculus.{Calculus, Laws}
 use Rattle.chart_model.specs.At.{At, at_below, at_append}
 use Rattle.chart_model.specs.Chart.{Row, Task, Chart, Leaf, Limits, Entry, Outcome, Fails, Fits, Makes, with_done, with_outcome, with_whole, whole_row, peer_over, tasks_of_partial, step, step_at, is_free, daughters, all_free, covers_at, levels_at, level_above}
 use Rattle.chart_model.specs.Ordered.{GivesMother, IsLate}

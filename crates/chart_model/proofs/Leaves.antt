@@ -2,7 +2,7 @@
 use Rattle.std.specs.Prelude.{◌≡◌, ℕ, ◌<◌, Bool, true, false, Option, Some, None, List, [], ◌∷◌, ◌++◌, length, map, refl, slice_get, if◌then◌else◌}
 use Rattle.std.proofs.Common.{zero, suc, ap, subst, sym, ◌∙◌, arith, append_assoc, append-nil}
 use Rattle.std.proofs.lemmas.List.{length-map}
-use Rattle.cover.specs.Calculus.{Calculus}
+use Rattle.chart_model.specs.Calculus.{Calculus}
 use Rattle.chart_model.specs.Chart.{OfLeaf, Row, Task, Chart, Leaf, Limits, daughters, all_free, is_free, with_done, with_outcome, with_whole, whole_row, partial_row, peer_over, step, step_at, Entry, Outcome, Fails, Fits, Makes, leaf_row, opened, empty, replayed, Replay}
 use Rattle.chart_model.specs.Finished.{LeavesHaveRows}
 use Rattle.chart_model.specs.At.{At, here, there, at_below, at_append, at_snoc, Snoc, old, new}

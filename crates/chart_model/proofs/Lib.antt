@@ -19,3 +19,5 @@ pub mod Late
 pub mod Next
 pub mod Kept
 pub mod Order
+mod Within
+mod TableLemmas

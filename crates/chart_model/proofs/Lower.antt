@@ -1,7 +1,7 @@
 -- A chart whose pending tasks have whole tuples with large covers is complete below them.
 use Rattle.std.specs.Prelude.{◌≡◌, ℕ, ◌+◌, ◌<◌, Option, Some, None, List, [], ◌∷◌, ◌++◌, length, refl}
 use Rattle.std.proofs.Common.{ap, subst, sym, ◌∙◌, arith, length-append, append-nil}
-use Rattle.cover.specs.Calculus.{Calculus, Laws}
+use Rattle.chart_model.specs.Calculus.{Calculus, Laws}
 use Rattle.chart_model.specs.At.{At, at_below, at_found, to_get}
 use Rattle.chart_model.specs.Chart.{Task, Chart, Leaf, Limits, daughters, covers_at}
 use Rattle.chart_model.specs.Classes.{Class, Member, class_covers}

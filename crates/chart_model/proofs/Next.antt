@@ -2,7 +2,7 @@
 use Rattle.std.specs.Prelude.{◌≡◌, ℕ, ◌≤◌, nat_le, Bool, true, false, if◌then◌else◌, Option, Some, None, List, [], ◌∷◌, ◌++◌, length, map, refl, slice_set}
 use Rattle.std.proofs.Common.{ap, subst, sym, ◌∙◌, arith}
 use Rattle.std.proofs.lemmas.List.{length-set}
-use Rattle.cover.specs.Calculus.{Calculus}
+use Rattle.chart_model.specs.Calculus.{Calculus}
 use Rattle.chart_model.specs.At.{At, at_below, at_one, at_last, to_get}
 use Rattle.chart_model.specs.Chart.{Row, Task, Chart, Limits, Entry, Outcome, Fails, Fits, Makes, with_done, with_outcome, with_host, with_frost, whole_row, partial_row, peer_over, has_peer, frosted, tasks_of_host, tasks_of_partial, rule_tasks, gather, host_task, partial_task, step, before, daughters, daughters_of_row, all_free, levels_at, level_above}
 use Rattle.chart_model.specs.Below.{Follows}

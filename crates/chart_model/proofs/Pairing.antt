@@ -1,7 +1,7 @@
 -- The third fact: each pair of a live partial, or a rule, and a live host has one task.
 use Rattle.std.specs.Prelude.{◌≡◌, ℕ, ◌+◌, ◌<◌, ◌≤◌, ◌&&◌, Bool, true, false, Option, Some, None, List, [], ◌∷◌, ◌++◌, length, refl, is_some, nat_le, if◌then◌else◌}
 use Rattle.std.proofs.Common.{ap, subst, sym, ◌∙◌, arith, leb-true, le-leb, length-append}
-use Rattle.cover.specs.Calculus.{Calculus}
+use Rattle.chart_model.specs.Calculus.{Calculus}
 use Rattle.chart_model.specs.Chart.{Kind, OfLeaf, OfPartial, OfWhole, Row, Task, Limits, gather, rule_tasks, is_free, all_free, host_task, partial_task, tasks_of_partial}
 use Rattle.chart_model.specs.At.{At, at_below, at_one, at_append, at_last, Snoc, old, new, at_snoc}
 use Rattle.chart_model.proofs.Gather

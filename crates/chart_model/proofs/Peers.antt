@@ -2,7 +2,7 @@
 use Rattle.std.specs.Prelude.{◌≡◌, ℕ, ◌+◌, ◌<◌, ◌≤◌, Bool, true, false, Option, Some, None, List, [], ◌∷◌, length, refl, slice_set, if◌then◌else◌}
 use Rattle.std.specs.List.{find, filter}
 use Rattle.std.proofs.Common.{zero, suc, ap, subst, sym, ◌∙◌, arith, cond}
-use Rattle.cover.specs.Calculus.{Calculus}
+use Rattle.chart_model.specs.Calculus.{Calculus}
 use Rattle.chart_model.specs.Chart.{Row, first_peer, frosted}
 use Rattle.chart_model.specs.Picked.{Rises, next_is}
 use Rattle.chart_model.specs.At.{At, here, there, at_below, at_one, at_found}

@@ -2,7 +2,7 @@
 use Rattle.std.specs.Prelude.{◌≡◌, ℕ, ◌+◌, ◌<◌, Bool, true, false, Option, Some, None, List, [], ◌∷◌, ◌++◌, length, map, refl, slice_get, slice_set, nat_le, if◌then◌else◌}
 use Rattle.std.proofs.Common.{zero, suc, ap, subst, sym, ◌∙◌, arith, length-append, append_assoc, append-nil, inl, inr, leb-true, le-leb}
 use Rattle.std.proofs.lemmas.List.{length-set}
-use Rattle.cover.specs.Calculus.{Calculus, Laws}
+use Rattle.chart_model.specs.Calculus.{Calculus, Laws}
 use Rattle.chart_model.specs.Chart.{Kind, OfLeaf, OfPartial, OfWhole, Row, Task, Chart, Leaf, Limits, with_done, with_outcome, Fits, Makes, Fails, Outcome, tasks_of_partial, tasks_of_host, peer_over, whole_row, has_peer, frosted, rule_tasks, gather, host_task, with_host, with_frost, step, leaf_row, opened, empty, Replay, with_whole, Entry, IsRight, replayed, daughters, before, daughters_of_row, all_free, covers_at, shapes_at, levels_at, level_above}
 use Rattle.chart_model.specs.Below.{Follows, IsRun}
 use Rattle.chart_model.specs.Classes.{Class, Member, of_leaf, of_rule, Members, no_members, more_members, class_covers, class_shapes, class_level}

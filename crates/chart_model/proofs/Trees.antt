@@ -1,7 +1,7 @@
 -- Where nothing is pending, each tree with a full structure has a live host whose shape agrees with it.
 use Rattle.std.specs.Prelude.{◌≡◌, ℕ, ◌+◌, ◌≤◌, Bool, true, Option, List, [], ◌∷◌, length, refl}
 use Rattle.std.proofs.Common.{ap, subst, sym, ◌∙◌, arith}
-use Rattle.cover.specs.Calculus.{Calculus, Laws, AllOver, none, more, Along, along_none, along_more, Agreement, all_over_itself}
+use Rattle.chart_model.specs.Calculus.{Calculus, Laws, AllOver, none, more, Along, along_none, along_more, Agreement, all_over_itself}
 use Rattle.chart_model.specs.Chart.{Kind, OfLeaf, OfPartial, OfWhole, Chart, Leaf, Limits, shapes_at, leaf_row, all_free}
 use Rattle.chart_model.specs.Classes.{Class, class_covers, class_shapes, class_level}
 use Rattle.chart_model.specs.Grown.{Tree, phrase, Trees, more_trees, Grown, grown_leaf, grown_rule, AllGrown, no_grown, more_grown, LeadsTo, ends, goes, Stands, stands_leaf, stands_phrase, AllStand, none_stand, more_stand, Holds}

@@ -1,7 +1,7 @@
 -- No two rows have one rule and the same daughters.
 use Rattle.std.specs.Prelude.{◌≡◌, ℕ, ◌+◌, Bool, true, false, Option, Some, None, List, [], ◌∷◌, ◌++◌, length, refl, slice_set, if◌then◌else◌}
 use Rattle.std.proofs.Common.{zero, suc, ap, subst, sym, ◌∙◌, arith, length-append, append-nil}
-use Rattle.cover.specs.Calculus.{Calculus}
+use Rattle.chart_model.specs.Calculus.{Calculus}
 use Rattle.chart_model.specs.Chart.{Row, Task, Chart, Leaf, Limits, daughters, before, daughters_of_row, all_free, with_done, with_outcome, whole_row, partial_row, peer_over, step, Entry, Outcome, Fails, Fits, Makes}
 use Rattle.chart_model.proofs.Complete.{FactsOf, rule_of}
 use Rattle.chart_model.proofs.Steps.{daughters_more}

@@ -1,7 +1,7 @@
 -- After every history in which nothing is pending, the chart is complete over its leaves.
 use Rattle.std.specs.Prelude.{◌≡◌, ℕ, true, Option, Some, None, List, [], ◌∷◌, ◌++◌, length, refl}
 use Rattle.std.proofs.Common.{suc, ap, subst, sym, ◌∙◌, arith, append_assoc, append-nil}
-use Rattle.cover.specs.Calculus.{Calculus, Laws, Agreement}
+use Rattle.chart_model.specs.Calculus.{Calculus, Laws, Agreement}
 use Rattle.chart_model.specs.Chart.{Kind, OfLeaf, OfPartial, OfWhole, Row, Chart, Leaf, Limits, all_free, covers_at, shapes_at, levels_at, level_above, peer_over, with_whole, leaf_row, opened, empty, step, replayed, Replay, Entry, Adds, IsLegal}
 use Rattle.chart_model.specs.Below.{Follows, IsRun}
 use Rattle.chart_model.specs.Finished.{NothingPending, LeavesHaveRows, AreLow, IsMother, IsWhole, OneRow, RowsHaveHosts, IsComplete}

@@ -1,6 +1,6 @@
 -- Charts that are complete below a size, and the answer of the limits by their live hosts.
 use Rattle.std.specs.Prelude.{◌≡◌, ℕ, ◌+◌, ◌≤◌, ◌<◌, ◌^◌, ◌&&◌, ◌↔◌, nat_le, Bool, true, false, if◌then◌else◌, is_some, Option, Some, None, List, [], ◌∷◌, length, slice_get}
-use Rattle.cover.specs.Calculus.{Calculus}
+use Rattle.chart_model.specs.Calculus.{Calculus}
 use Rattle.chart_model.specs.At.{At}
 use Rattle.chart_model.specs.Chart.{Row, Task, Chart, Leaf, Limits, Entry, Fails, is_free, all_free, daughters, covers_at, shapes_at, IsRight, step, opened, empty, Replay}
 use Rattle.chart_model.specs.Classes.{Class, Member, IsPacked, IsHost}

@@ -2,8 +2,8 @@
 use Rattle.std.specs.Prelude.{◌≡◌, ℕ, ◌+◌, ◌*◌, ◌≤◌, ◌<◌, Bool, true, false, ◌&&◌, nat_le, ◌==◌, if◌then◌else◌, Option, Some, None, is_some, List, [], ◌∷◌, ◌++◌, length, map, slice_get, slice_set}
 use Rattle.std.specs.Prelude.{◌⊎◌}
 use Rattle.std.proofs.Common.{zero, suc}
-use Rattle.cover.specs.Calculus.{Calculus, NoneApplies}
-use Rattle.cover.specs.Tuples.{on_list}
+use Rattle.chart_model.specs.Calculus.{Calculus, NoneApplies}
+use Rattle.chart_model.specs.Tuples.{on_list}
 
 -- a leaf has its name, any other row its rule
 pub data Kind : Type 0 where

@@ -1,6 +1,6 @@
 -- The classes of a chart, and what a finished chart is.
 use Rattle.std.specs.Prelude.{◌≡◌, ℕ, ◌+◌, ◌≤◌, ◌<◌, true, Some, List, [], ◌∷◌, length, slice_get}
-use Rattle.cover.specs.Calculus.{Calculus}
+use Rattle.chart_model.specs.Calculus.{Calculus}
 use Rattle.chart_model.specs.At.{At}
 use Rattle.chart_model.specs.Chart.{Row, Chart, Leaf, Limits, is_free}
 

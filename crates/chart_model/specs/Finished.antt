@@ -1,6 +1,6 @@
 -- What a finished chart is.
 use Rattle.std.specs.Prelude.{◌≡◌, ℕ, ◌<◌, ◌≤◌, true, Some, List, length}
-use Rattle.cover.specs.Calculus.{Calculus}
+use Rattle.chart_model.specs.Calculus.{Calculus}
 use Rattle.chart_model.specs.At.{At}
 use Rattle.chart_model.specs.Chart.{OfLeaf, OfWhole, Row, Task, Chart, Leaf, Limits, Entry, IsLegal, opened, empty, Replay, all_free, covers_at, shapes_at, levels_at, level_above, leaf_row}
 use Rattle.chart_model.specs.Classes.{HostsAreClasses}

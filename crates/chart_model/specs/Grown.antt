@@ -1,6 +1,6 @@
 -- Trees over the leaves, and what stands in a chart for them.
 use Rattle.std.specs.Prelude.{◌≡◌, ℕ, ◌≤◌, ◌<◌, true, Option, Some, None, List, [], ◌∷◌, length, slice_get}
-use Rattle.cover.specs.Calculus.{Calculus}
+use Rattle.chart_model.specs.Calculus.{Calculus}
 use Rattle.chart_model.specs.At.{At}
 use Rattle.chart_model.specs.Chart.{OfWhole, Row, Chart, Leaf, Limits, is_free, all_free}
 use Rattle.chart_model.specs.Classes.{Class, class_covers, class_shapes, class_level}

@@ -7,3 +7,11 @@ pub mod Picked
 pub mod Limits
 pub mod Below
 pub mod Ordered
+pub mod Calculus
+pub mod Tuples
+pub mod Spans
+pub mod SpanLaws
+pub mod Lists
+pub mod Sums
+pub mod Tables
+pub mod inner

@@ -1,6 +1,6 @@
 -- The limits on packed classes and on unary chains, and the answer that they give.
 use Rattle.std.specs.Prelude.{◌≡◌, ℕ, ◌+◌, ◌≤◌, ◌<◌, ◌⊎◌, List, length}
-use Rattle.cover.specs.Calculus.{Calculus}
+use Rattle.chart_model.specs.Calculus.{Calculus}
 use Rattle.chart_model.specs.At.{At}
 use Rattle.chart_model.specs.Chart.{Leaf, Limits}
 use Rattle.chart_model.specs.Classes.{Class, Member, IsPacked}

@@ -1,6 +1,6 @@
 -- What pending tasks still have to give, in the order of size and, within a size, of level.
 use Rattle.std.specs.Prelude.{◌≡◌, ℕ, ◌+◌, ◌≤◌, ◌<◌, ◌⊎◌, None, Some, List, length}
-use Rattle.cover.specs.Calculus.{Calculus}
+use Rattle.chart_model.specs.Calculus.{Calculus}
 use Rattle.chart_model.specs.At.{At}
 use Rattle.chart_model.specs.Chart.{Row, Task, Chart, daughters, covers_at, levels_at, level_above}
 

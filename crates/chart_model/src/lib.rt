@@ -8,7 +8,18 @@ ghost use Rattle.chart_model.specs.Below.{ChartsDecide, ChartsDecideBelow, RunsH
 ghost use Rattle.chart_model.specs.Finished.{ChartsAreComplete, ForestsAreComplete};
 ghost use Rattle.chart_model.specs.Limits.{AnswersAreOne};
 
-use cover::Shapes;
+pub mod counts;
+mod covers;
+pub mod span;
+pub mod table;
+pub mod table_rule;
+
+pub use counts::{Counts, Numbers};
+pub use covers::{Cover, Part, Shapes, Tuple};
+pub use span::Span;
+pub use std::alloc::AllocError as NoMemory;
+pub use table::TableShapes;
+pub use table_rule::TableRule;
 
 /// The law of charts, over any grammar that meets the laws of shapes. It does nothing.
 ///

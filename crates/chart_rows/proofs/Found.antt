@@ -1,6 +1,6 @@
 -- What was found stays right.
 use Rattle.std.proofs.Common.{◌≡◌, ℕ, List, arith}
-use Rattle.cover.specs.Calculus.{Laws}
+use Rattle.chart_model.specs.Calculus.{Laws}
 use Rattle.chart_core.specs.declared.chart.Core.{Core}
 use Rattle.chart_core.specs.declared.Outcome.{Outcome}
 use Rattle.chart_core.specs.declared.Peer.{Peer}

@@ -10,7 +10,7 @@ use crate::steps::{front, long_number};
 use crate::told::{push_entered, push_number, push_rows};
 use crate::worker::{advance, advance_after, saturate};
 use chart_core::{Core, Leaf, Ready, TaskId};
-use cover::{NoMemory, Shapes};
+use chart_model::{NoMemory, Shapes};
 use std::alloc::Global;
 
 // The answers of the steps of a chart over these leaves, and then how many leaves it hands back, where the last step says so,

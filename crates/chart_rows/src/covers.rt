@@ -4,7 +4,7 @@ ghost use Rattle.std.specs.Prelude.{◌≤◌};
 
 use crate::steps::{front, number};
 use crate::told::push_number;
-use cover::{Counts, Cover, NoMemory, Numbers, Span};
+use chart_model::{Counts, Cover, NoMemory, Numbers, Span};
 use std::alloc::Global;
 
 // The span of two numbers.

@@ -2,12 +2,12 @@
 
 ghost use Rattle.std.specs.Prelude.{◌<◌, ◌≤◌, All, IfOk, length};
 ghost use Rattle.chart_core.specs.Kept.{InRange};
-ghost use Rattle.cover.specs.Spans.{is_span};
-ghost use Rattle.cover.specs.Tables.{IsSized};
+ghost use Rattle.chart_model.specs.Spans.{is_span};
+ghost use Rattle.chart_model.specs.Tables.{IsSized};
 
 use crate::steps::{front, number};
 use chart_core::{Leaf, Limits};
-use cover::{NoMemory, Shapes, Span, TableRule, TableShapes};
+use chart_model::{NoMemory, Shapes, Span, TableRule, TableShapes};
 use std::alloc::Global;
 
 // The default limits, but so many edges, from 1 to 20,000.

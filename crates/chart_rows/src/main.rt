@@ -15,7 +15,7 @@ mod watched;
 mod worker;
 mod workers;
 
-use cover::NoMemory;
+use chart_model::NoMemory;
 use covers::{counts, span, spans};
 use grammars::{grammar, leaves};
 use std::alloc::{AllocError, Global};

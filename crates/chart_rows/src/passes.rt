@@ -1,12 +1,12 @@
 //! Charts made by the ordered pass.
 
 ghost use Rattle.std.specs.Prelude.{All};
-ghost use Rattle.cover.specs.Spans.{is_span};
+ghost use Rattle.chart_model.specs.Spans.{is_span};
 
 use crate::grammars::limits;
 use crate::told::push_number;
 use chart_core::{ChartFault, Leaf, ordered_pass};
-use cover::{NoMemory, TableShapes};
+use chart_model::{NoMemory, TableShapes};
 use std::alloc::Global;
 
 // The number of classes over these leaves, or what the limits answer.

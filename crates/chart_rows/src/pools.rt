@@ -1,15 +1,15 @@
 //! Pools of tasks whose seats are called one by one.
 
 ghost use Rattle.std.specs.Prelude.{◌≡◌, map, IfOk};
-ghost use Rattle.task_pool.specs.Pools.{seat_post, pass_post};
+ghost use Rattle.chart_workers.specs.Pools.{seat_post, pass_post};
 
 use crate::steps::{front, long_number};
 use crate::told::push_number;
 use chart_core::TaskId;
-use cover::NoMemory;
+use chart_model::NoMemory;
+use chart_workers::{Over, Pass, Pool, PoolSeat, settle};
 use std::alloc::Global;
 use std::sync::Wait;
-use task_pool::{Over, Pass, Pool, PoolSeat, settle};
 
 // Whether the work is over.
 #[derive(Drop)]

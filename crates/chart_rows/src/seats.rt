@@ -13,7 +13,7 @@ use crate::steps::{front, long_number};
 use crate::told::{push_number, push_rows, push_told, push_unready};
 use crate::turns::{advance, advance_after};
 use chart_core::{Core, Leaf, Ready, TaskId};
-use cover::{NoMemory, Shapes};
+use chart_model::{NoMemory, Shapes};
 use shared_chart::{ChartSeat, SharedChart, Unready};
 use std::alloc::Global;
 use std::sync::Wait;

@@ -1,7 +1,7 @@
 //! What calls of charts answer, as texts.
 
 use chart_core::{Entered, Finished, RowId};
-use cover::{NoMemory, Shapes};
+use chart_model::{NoMemory, Shapes};
 use shared_chart::Unready;
 use std::alloc::Global;
 

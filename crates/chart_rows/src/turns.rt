@@ -7,7 +7,7 @@ ghost use Rattle.shared_chart.specs.Told.{AreRightSince};
 ghost use Rattle.chart_rows.specs.Sitting.{IsFound};
 
 use chart_core::{Entered, Outcome, Ready, TaskId, Tested, outcome_of};
-use cover::Shapes;
+use chart_model::Shapes;
 use shared_chart::{ChartSeat, SharedChart, Unready};
 use std::alloc::Global;
 use std::sync::Wait;

@@ -2,7 +2,7 @@
 
 ghost use Rattle.std.specs.Prelude.{◌≡◌};
 
-use cover::{NoMemory, Shapes, Span, TableShapes, Tuple};
+use chart_model::{NoMemory, Shapes, Span, TableShapes, Tuple};
 use std::alloc::Global;
 use std::sync::atomic::{AtomicBool, AtomicU64, Ordering};
 use worker_gate::Gate;
@@ -85,8 +85,8 @@ pub struct Watched<'a> {
 
 impl<'a> Shapes for Watched<'a> {
     ghost use Rattle.std.specs.Prelude.{ℕ, ◌≡◌, nat_le, true, refl};
-    ghost use Rattle.cover.specs.Tables.{table_calculus, table_full};
-    ghost use Rattle.cover.specs.inner.TableLaws.{table_laws, table_agreement};
+    ghost use Rattle.chart_model.specs.Tables.{table_calculus, table_full};
+    ghost use Rattle.chart_model.specs.inner.TableLaws.{table_laws, table_agreement};
 
     type Shape = u32;
 

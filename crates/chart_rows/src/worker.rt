@@ -8,7 +8,7 @@ ghost use Rattle.chart_core.specs.Outcomes.{ShapeBelongs};
 ghost use Rattle.chart_core.specs.Later.{IsLater};
 
 use chart_core::{Caller, Core, Entered, Outcome, Ready, TaskId, outcome_of};
-use cover::{NoMemory, Shapes};
+use chart_model::{NoMemory, Shapes};
 use std::alloc::Global;
 
 // The outcome of a task: `Fails` where it is done or skipped.

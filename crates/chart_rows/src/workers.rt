@@ -1,7 +1,7 @@
 //! Charts that workers make.
 
 ghost use Rattle.std.specs.Prelude.{All};
-ghost use Rattle.cover.specs.Spans.{is_span};
+ghost use Rattle.chart_model.specs.Spans.{is_span};
 ghost use Rattle.chart_workers.specs.Crews.{IsCrewSize};
 
 use crate::grammars::{grammar, leaves, limits};
@@ -9,8 +9,8 @@ use crate::steps::{long_number, number};
 use crate::told::push_number;
 use crate::watched::{Watch, Watched};
 use chart_core::{ChartFault, Leaf};
+use chart_model::NoMemory;
 use chart_workers::{BySize, Crew, saturate};
-use cover::NoMemory;
 use std::alloc::Global;
 use std::sync::Wait;
 use std::thread::Threads;

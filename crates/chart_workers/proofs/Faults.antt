@@ -1,6 +1,6 @@
 -- A decision is what a pass answers.
 use Rattle.std.proofs.Common.{subst, Some, List}
-use Rattle.cover.specs.Calculus.{Calculus}
+use Rattle.chart_model.specs.Calculus.{Calculus}
 use Rattle.chart_model.specs.Chart as model
 use Rattle.chart_model.specs.Limits.{LimitAnswer, IsLimitAnswer}
 use Rattle.chart_core.specs.declared.ChartFault.{ChartFault}

@@ -5,3 +5,13 @@ pub mod Firsts
 pub mod Seated
 pub mod Posted
 pub mod Ran
+pub mod Steps
+pub mod Tooks
+pub mod Pours
+pub mod Empties
+pub mod Known
+pub mod Makes
+pub mod Counts
+pub mod PostLemmas
+pub mod Pooled
+pub mod Taken

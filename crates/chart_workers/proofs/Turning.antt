@@ -1,7 +1,7 @@
 -- One turn after another.
 use Rattle.std.proofs.Common.{◌≡◌, ◌≢◌, ◌∙◌, ℕ, List, [], ◌||◌, ◌==◌, Bool, true, false, true≢false, refl, sym, subst, arith}
 use Rattle.std.proofs.lemmas.Bool.{eqb-true, eq-eqb}
-use Rattle.cover.specs.Calculus.{Laws}
+use Rattle.chart_model.specs.Calculus.{Laws}
 use Rattle.chart_core.specs.declared.chart.Core.{Core}
 use Rattle.chart_core.specs.declared.Entered.{Entered}
 use Rattle.chart_core.specs.declared.Entered.TheVariants as entered

@@ -4,3 +4,8 @@ pub mod Endings
 pub mod Posts
 pub mod Crews
 pub mod CrewViews
+pub mod Balance
+pub mod Seats
+pub mod Pools
+pub mod Whole
+pub mod Making

@@ -9,7 +9,7 @@ ghost use Rattle.chart_core.specs.Passed.{IsPassed, IsPassFault};
 ghost use Rattle.shared_chart.specs.Seats.{state_of, chart_shapes, chart_seats, IsSeat};
 
 use chart_core::{ChartFault, Core, Finished, Limits, ordered_pass};
-use cover::Shapes;
+use chart_model::Shapes;
 use shared_chart::{ChartSeat, SharedChart};
 use std::alloc::Global;
 

@@ -6,10 +6,10 @@ ghost use Rattle.shared_chart.specs.Seats.{shapes_of, state_of, seat_id, chart_i
 ghost use Rattle.chart_workers.specs.Turns.{GoesOn};
 ghost use Rattle.chart_workers.specs.Endings.{is_over};
 
-use cover::Shapes;
+use crate::Over;
+use chart_model::Shapes;
 use shared_chart::{ChartSeat, SharedChart};
 use std::sync::Wait;
-use task_pool::Over;
 
 // Whether the seat has seen the mark, or a history after which no task is pending.
 pub(crate) fn look<R: Wait, S: Shapes>(

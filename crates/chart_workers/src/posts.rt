@@ -2,12 +2,11 @@
 ghost use Rattle.std.specs.Prelude.{◌≡◌, length, map, IfOk};
 ghost use Rattle.chart_workers.specs.Posts.{post_seat};
 
-use crate::Ended;
+use crate::{Ended, PoolSeat};
 use chart_core::TaskId;
-use cover::{NoMemory, Shapes};
+use chart_model::{NoMemory, Shapes};
 use shared_chart::ChartSeat;
 use std::alloc::Global;
-use task_pool::PoolSeat;
 
 /// What one worker has for itself: its number, its seats, its scratch, the tasks that it keeps, and how it ended.
 #[derive(Drop)]

@@ -2,11 +2,11 @@
 ghost use Rattle.chart_core.specs.Grammar.{grammar_of};
 ghost use Rattle.chart_core.specs.Kept.{IsCore};
 
+use crate::PoolSeat;
 use crate::priority::Rank;
 use chart_core::{Core, TaskId, TaskInfo};
-use cover::{NoMemory, Shapes};
+use chart_model::{NoMemory, Shapes};
 use std::alloc::Global;
-use task_pool::PoolSeat;
 
 // The rank of a task, and its number.
 fn rank_of<P: Rank>(priority: &P, info: TaskInfo, number: u64) -> (u32, u64) {

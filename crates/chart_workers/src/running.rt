@@ -8,7 +8,7 @@ ghost use Rattle.chart_workers.specs.Endings.{EndsAs};
 use crate::posts::Post;
 use crate::priority::Rank;
 use crate::working::work;
-use cover::Shapes;
+use chart_model::Shapes;
 use shared_chart::SharedChart;
 use std::alloc::Global;
 use std::sync::Wait;

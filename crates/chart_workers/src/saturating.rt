@@ -5,6 +5,7 @@ ghost use Rattle.chart_core.specs.Kept.{InRange, limits_seen};
 ghost use Rattle.chart_core.specs.Leaves.{leaf_seen, LeafBelongs};
 ghost use Rattle.chart_core.specs.Passed.{IsPassed, IsPassFault};
 
+use crate::Pool;
 use crate::concluding::conclude;
 use crate::crew::Crew;
 use crate::posts::{posts, seats_of, wants_memory};
@@ -12,12 +13,11 @@ use crate::priority::Rank;
 use crate::pushing::{opening, push_all};
 use crate::running::run;
 use chart_core::{ChartFault, Core, Finished, Leaf, Limits};
-use cover::Shapes;
+use chart_model::Shapes;
 use shared_chart::SharedChart;
 use std::alloc::Global;
 use std::sync::Wait;
 use std::thread::Threads;
-use task_pool::Pool;
 use worker_gate::Gate;
 
 /// The finished chart over these leaves, where the limits allow it, and otherwise exactly the fault of the least size by which

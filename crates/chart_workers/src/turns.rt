@@ -11,7 +11,7 @@ ghost use Rattle.chart_workers.specs.Turns.{GoesOn};
 ghost use Rattle.chart_workers.specs.Endings.{EntersOn};
 
 use chart_core::{Outcome, Ready, TaskId, TaskInfo, Tested, outcome_of};
-use cover::{NoMemory, Shapes};
+use chart_model::{NoMemory, Shapes};
 use shared_chart::{Cell, ChartSeat, Informed, SharedChart, Unready};
 use std::alloc::Global;
 use std::sync::Wait;

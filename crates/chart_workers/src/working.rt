@@ -6,17 +6,16 @@ ghost use Rattle.shared_chart.specs.Seats.{shapes_of, state_of, seat_id, chart_i
 ghost use Rattle.chart_workers.specs.Turns.{GoesOn};
 ghost use Rattle.chart_workers.specs.Endings.{is_over, EntersOn, TurnsTo, GivesUp, EndsAs};
 
-use crate::Ended;
 use crate::over::{ChartOver, look};
 use crate::priority::Rank;
 use crate::pushing::{push_all, ranked};
 use crate::turns::turn;
+use crate::{Ended, PoolSeat};
 use chart_core::{Entered, TaskId, TaskInfo};
-use cover::{NoMemory, Shapes};
+use chart_model::{NoMemory, Shapes};
 use shared_chart::{ChartSeat, Informed, SharedChart, Unready};
 use std::alloc::Global;
 use std::sync::Wait;
-use task_pool::PoolSeat;
 use worker_gate::Gate;
 
 /// What came of one task.

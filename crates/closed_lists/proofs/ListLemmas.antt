@@ -2,7 +2,7 @@
 use Rattle.std.proofs.Common.{ℕ, zero, suc, ◌≡◌, ◌<◌, ◌≤◌, ◌+◌, ◌⊎◌, inl, inr, List, [], ◌∷◌, ◌++◌, length, map, take, get_or, Option, None, Some, refl, sym, ◌∙◌, ap, subst, arith, length-append, append_assoc}
 use Rattle.std.specs.Prelude.{All, slice_index_or}
 use Rattle.fs_graph.specs.declared.graph.Node.{Node}
-use Rattle.word_lists.specs.Words.{Each}
+use Rattle.lexicon.specs.Words.{Each}
 use Rattle.std.proofs.lemmas.List.{append-nil, take_more, map-append}
 use Rattle.type_hierarchy.specs.Table.{TypeTable}
 use Rattle.fs_model.specs.Claims.{Path}

@@ -4,13 +4,13 @@ use Rattle.std.specs.List.{AllZip, flat_map}
 use Rattle.std.specs.Prelude.{slice_get, slice_index_or}
 use Rattle.std.proofs.lemmas.Bool.{le-ltb, lt-ltb}
 use Rattle.std.proofs.lemmas.Bool.Decides.{Decides-eqb}
-use Rattle.word_lists.proofs.WordLemmas.{true_not_false}
+use Rattle.lexicon.proofs.WordLemmas.{true_not_false}
 use Rattle.std.proofs.lemmas.List.{append-nil}
 use Rattle.std.proofs.lemmas.Option.{slice_get-get_or}
 use Rattle.type_hierarchy.specs.Decls.{Name}
 use Rattle.type_hierarchy.specs.Table.{TypeTable, count_of, completed_count}
 use Rattle.fs_graph.specs.GraphMap.{GraphMap, type_at}
-use Rattle.word_lists.specs.Words.{Word}
+use Rattle.lexicon.specs.Words.{Word}
 use Rattle.closed_lists.specs.Names.{ListTree}
 use Rattle.closed_lists.specs.Lists.{HasList}
 use Rattle.closed_lists.specs.Strings.{string_of, words_of_string, AreSpoken, HasWords}

@@ -1,7 +1,7 @@
 -- What a grammar's lists are made of, and what is asked of a graph whose lists are read.
 use Rattle.std.specs.Prelude.{ℕ, ◌≡◌, ◌<◌, ◌≤◌, List, Vec, String, string_bytes, map, length, All, Option, Some, IfSome}
 use Rattle.std.specs.Global.{Global}
-pub use Rattle.word_lists.specs.Words.{words_in}
+pub use Rattle.lexicon.specs.Words.{words_in}
 use Rattle.std.specs.Option.{option_map}
 use Rattle.type_hierarchy.specs.Table.{TypeTable, count_of}
 use Rattle.fs_model.specs.Claims.{Path}

@@ -7,7 +7,7 @@ use Rattle.caseless.specs.Caseless.{default_case_fold}
 use Rattle.type_hierarchy.specs.Decls.{Name}
 use Rattle.type_hierarchy.specs.Table.{TypeTable, completed_count}
 use Rattle.fs_graph.specs.GraphMap.{GraphMap, type_at}
-use Rattle.word_lists.specs.Words.{Word}
+use Rattle.lexicon.specs.Words.{Word}
 use Rattle.closed_lists.specs.Names.{ListTree}
 use Rattle.closed_lists.specs.Lists.{HasList}
 

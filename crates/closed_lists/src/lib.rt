@@ -7,5 +7,5 @@ mod words;
 
 pub use lists::list_at;
 pub use names::ListNames;
-pub use word_lists::NoMemory;
+pub use std::alloc::AllocError as NoMemory;
 pub use words::words_at;

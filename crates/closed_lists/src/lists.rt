@@ -3,17 +3,16 @@
 ghost use Rattle.std.specs.Prelude.{◌≡◌, ◌<◌, ◌≤◌, ◌↔◌, ℕ, length, map, option_map, Some, Option, IfOk, IfSome, IsTrue};
 ghost use Rattle.type_hierarchy.specs.Table.{count_of};
 ghost use Rattle.fs_graph.specs.GraphMap.{arc_to};
-ghost use Rattle.fs_paths.specs.Facts.{path_of};
+ghost use Rattle.fs_graph.specs.Facts.{path_of};
 ghost use Rattle.closed_lists.specs.Lists.{IsAtOrBelow, arc_named, IsListAt};
 ghost use Rattle.closed_lists.specs.Names.{names_of, IsReadable};
 ghost use Rattle.closed_lists.specs.Inner.Walked.{IsReached, IsStep, AreElements, IsKnownPath};
 
 use crate::names::ListNames;
-use fs_graph::{Graph, GraphArc, Node};
-use fs_paths::Feat;
+use fs_graph::{Feat, Graph, GraphArc, Node};
+use lexicon::NoMemory;
 use std::alloc::Global;
 use type_hierarchy::{Ty, Types};
-use word_lists::NoMemory;
 
 /// What a node is to a list: its end, no list, or a cell with an item and the rest of the list.
 pub(crate) enum Step {

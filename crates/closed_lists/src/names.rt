@@ -1,6 +1,6 @@
 //! What lists are made of.
 
-use fs_paths::Feat;
+use fs_graph::Feat;
 use type_hierarchy::Ty;
 
 /// What a grammar's lists are made of. `None` stands for what the grammar doesn't have.

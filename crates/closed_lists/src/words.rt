@@ -10,11 +10,10 @@ ghost use Rattle.closed_lists.specs.Inner.Spoken.{AreWordsOf};
 use crate::lists::list_at;
 use crate::names::ListNames;
 use caseless::default_case_fold_str;
-use fs_graph::{Graph, Node};
-use fs_paths::Feat;
+use fs_graph::{Feat, Graph, Node};
+use lexicon::NoMemory;
 use std::alloc::{AllocError, Global};
 use type_hierarchy::{Ty, Types};
-use word_lists::NoMemory;
 
 // The words of letters, which stand between white space.
 fn words<'a>(alloc: Global, letters: &'a [char]) -> Result<Vec<&'a [char]>, AllocError>

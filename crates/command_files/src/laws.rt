@@ -1,6 +1,6 @@
 //! Laws of the texts of files: a told file has one text or one fault, and never both.
 
-ghost use Rattle.std.specs.Prelude.{◌≡◌, ◌≤◌, ℕ, List, Option, Some};
+ghost use Rattle.std.specs.Prelude.{◌≡◌, ◌≤◌, ℕ, Bool, List, [], Option, Some};
 ghost use Rattle.lkb_io.specs.Outside.{HasRisen};
 ghost use Rattle.grammar_settings.specs.Forms.{Name};
 ghost use Rattle.grammar_files.specs.Faults.{FoundFault};
@@ -20,13 +20,13 @@ pub fn text_laws()
     ensures not_both { (files : Name → Option (List ℕ)) (name : Name) (text : List ℕ) (f : FoundFault)
         → IsText (Some files) name text → IsTextFault (Some files) never name f → ⊥ }
     ensures calm { (h : Shelves) (name : Name) (f : FoundFault)
-        → IsTextFault h.files (has_failed h) name f → IsOfShelf h (told_of f) → (HasRisen h.faults_old h.faults_new → ⊥)
+        → IsTextFault h.files (has_failed h) name f → IsOfShelf h (told_of f []) → (HasRisen h.faults_old h.faults_new → ⊥)
         → IsTextFault h.files never name f }
 {}
 
 /// A file that is read late in a run has for the whole run the fault that it has then.
 pub fn late_text()
-    ensures { (part whole : Shelves) (name : Name) (fault : Fault)
+    ensures { (part whole : Shelves) (name : Name) (verbose : Bool) (fault : Fault)
         → part.files ≡ whole.files → whole.faults_old ≤ part.faults_old → part.faults_new ≡ whole.faults_new → part.asked_new ≡ whole.asked_new
-        → LacksText part name fault → LacksText whole name fault }
+        → LacksText part name verbose fault → LacksText whole name verbose fault }
 {}

@@ -49,7 +49,7 @@ places-good (v ∷ places) k = (inl refl, places-good places (suc k))
 
 rules-good : (places : List Value) → AreGood (rules_with places)
 unfolding AreGood IsGood
-rules-good places = (inl refl, (inl refl, (inl refl, (inl refl, (inl refl, (inl refl, (inl refl, (inr refl, (inr refl, places-good places 0)))))))))
+rules-good places = (inl refl, (inl refl, (inl refl, (inl refl, (inl refl, (inl refl, (inl refl, (inr refl, (inr refl, (inr refl, places-good places 0))))))))))
 
 no-entered : (places : List Value) (stop : Option (Text × List Text)) → (entered (built_with places) stop ≡ None) × (entered_fault (built_with places) stop ≡ [])
 no-entered places None = (refl, refl)

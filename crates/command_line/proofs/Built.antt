@@ -8,7 +8,7 @@ use Rattle.clap.specs.Faults.{is_simple_and_free}
 use Rattle.clap.specs.declared.builder.action.ArgAction.TheVariants.{Set}
 use Rattle.clap.specs.declared.builder.value_parser.ValueParser.{ValueParser}
 use Rattle.clap.specs.declared.builder.value_parser.ValueParser.TheVariants as vp
-use Rattle.command_line.specs.Words.{OptionName, Workers, Edges, Readings, Lexical, Unary, Empty, Settings, Mrs, Lattice, Value, in_range, name, nothing, option_id, word_of, value_of}
+use Rattle.command_line.specs.Words.{OptionName, Workers, Edges, Readings, Lexical, Unary, Empty, Settings, Mrs, Lattice, Verbose, Value, in_range, name, nothing, option_id, word_of, value_of}
 use Rattle.command_line.specs.Inner.Rules.{app_with, options_app, place_id}
 pub use Rattle.command_line.specs.Inner.Matches.{flag_rule}
 
@@ -43,7 +43,7 @@ place_rules k [] = []
 place_rules k (v ∷ places) = full_place k v ∷ place_rules (suc k) places
 
 abbrev pub rules_with : List Value → List Rule
-rules_with places = full_rule Workers ∷ full_rule Edges ∷ full_rule Readings ∷ full_rule Lexical ∷ full_rule Unary ∷ full_rule Empty ∷ full_rule Settings ∷ full_rule Mrs ∷ full_rule Lattice ∷ place_rules 0 places
+rules_with places = full_rule Workers ∷ full_rule Edges ∷ full_rule Readings ∷ full_rule Lexical ∷ full_rule Unary ∷ full_rule Empty ∷ full_rule Settings ∷ full_rule Mrs ∷ full_rule Lattice ∷ full_rule Verbose ∷ place_rules 0 places
 
 abbrev pub shape_with : List Value → Shape
 shape_with places = record (built options_app).top { rules = rules_with places }
@@ -86,6 +86,7 @@ long-is places Empty = refl
 long-is places Settings = refl
 long-is places Mrs = refl
 long-is places Lattice = refl
+long-is places Verbose = refl
 
 pub id-is : (places : List Value) (o : OptionName) → arg_by_id (rules_with places) (option_id o) ≡ Some (full_rule o)
 id-is places Workers = refl
@@ -97,6 +98,7 @@ id-is places Empty = refl
 id-is places Settings = refl
 id-is places Mrs = refl
 id-is places Lattice = refl
+id-is places Verbose = refl
 
 pub long-word : (o : OptionName) → long_of (word_of o) ≡ Some (option_id o, None)
 long-word Workers = refl
@@ -108,6 +110,7 @@ long-word Empty = refl
 long-word Settings = refl
 long-word Mrs = refl
 long-word Lattice = refl
+long-word Verbose = refl
 
 pub not-dashes : (o : OptionName) → bytes_eq (word_of o) (45 ∷ 45 ∷ []) ≡ false
 not-dashes Workers = refl
@@ -119,6 +122,7 @@ not-dashes Empty = refl
 not-dashes Settings = refl
 not-dashes Mrs = refl
 not-dashes Lattice = refl
+not-dashes Verbose = refl
 
 -- what stands at a place
 pub place-at : (places : List Value) (k : ℕ) (v : Value) → ArePlaces places → slice_get places k ≡ Some v → arg_by_index (rules_with places) (suc k) ≡ Some (full_place k v)

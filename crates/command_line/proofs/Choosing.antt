@@ -4,7 +4,7 @@ use Rattle.std.proofs.lemmas.Slice.Eq.{bytes_eq-Decides}
 use Rattle.std.proofs.lemmas.List.{take_all}
 use Rattle.std.specs.List.{list_all}
 use Rattle.std.specs.Str.{bytes_eq}
-use Rattle.command_line.specs.Words.{OptionName, Workers, Edges, Readings, Lexical, Unary, Empty, Settings, Mrs, Lattice, Value, in_range, name, nothing, is_name, word_of, value_of, IsValue, Item, positional, option as an_option, words_of, AreItems, Task, parse, chart, explain, generate, types, expand, check, self_test, scope, batch, transfer, name_word, command_word, places_of, HasNames}
+use Rattle.command_line.specs.Words.{OptionName, Workers, Edges, Readings, Lexical, Unary, Empty, Settings, Mrs, Lattice, Verbose, Value, in_range, name, nothing, is_name, word_of, value_of, IsValue, Item, positional, option as an_option, words_of, AreItems, Task, parse, chart, explain, generate, types, expand, check, self_test, scope, batch, transfer, name_word, command_word, places_of, HasNames}
 use Rattle.command_line.specs.declared.tasks.CommandName.{CommandName}
 use Rattle.command_line.specs.declared.tasks.CommandName.TheVariants as named
 use Rattle.command_line.specs.Inner.Reading.{IsWord, of_option, of_name, AreWords, no_word, a_word, is_option_word, is_word, command_named, places_by, places_in, names_in, task_by}
@@ -39,7 +39,10 @@ of-options w e = elim (or-parts (bytes_eq w (word_of Workers)) _ e) [
                                     elim (or-parts (bytes_eq w (word_of Settings)) _ e6) [
                                       | inl h ↦ option-word w Settings h
                                       | inr e7 ↦
-                                          elim (or-parts (bytes_eq w (word_of Mrs)) (bytes_eq w (word_of Lattice)) e7) [ inl h ↦ option-word w Mrs h | inr h ↦ option-word w Lattice h ]
+                                          elim (or-parts (bytes_eq w (word_of Mrs)) _ e7) [
+                                            | inl h ↦ option-word w Mrs h
+                                            | inr e8 ↦ elim (or-parts (bytes_eq w (word_of Lattice)) (bytes_eq w (word_of Verbose)) e8) [ inl h ↦ option-word w Lattice h | inr h ↦ option-word w Verbose h ]
+                                          ]
                                     ]
                               ]
                         ]
@@ -69,6 +72,7 @@ word-passes Empty = refl
 word-passes Settings = refl
 word-passes Mrs = refl
 word-passes Lattice = refl
+word-passes Verbose = refl
 
 name-passes : (w : List ℕ) → is_name w ≡ true → is_word w ≡ true
 name-passes w h = rw h refl

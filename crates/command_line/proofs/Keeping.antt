@@ -6,7 +6,7 @@ use Rattle.clap.specs.Walk.{Row, Text, one_of, first_of, row_text, rows_of}
 use Rattle.clap.specs.Matches.{one_text, first_value}
 use Rattle.clap.specs.declared.parser.matches.Found.{Found}
 use Rattle.clap.proofs.WalkLemmas.{one_text-rows, first_value-rows}
-use Rattle.command_line.specs.Words.{OptionName, Settings, Mrs, Lattice, in_range, option_id, value_of, number_of, number_or, only, IsValue, Item, positional, option as an_option, AreItems, positionals, value_in, FillPlaces}
+use Rattle.command_line.specs.Words.{OptionName, Settings, Mrs, Lattice, Verbose, in_range, option_id, value_of, number_of, number_or, only, IsValue, Item, positional, option as an_option, AreItems, positionals, value_in, FillPlaces}
 use Rattle.command_line.specs.declared.reading.Places.{Places}
 use Rattle.command_line.specs.declared.reading.Places.TheVariants.{NoPlace, OneName, TwoNames, TwoNumbers}
 use Rattle.command_line.specs.Inner.Matches.{final, item_rows}
@@ -14,7 +14,7 @@ use Rattle.command_line.specs.Inner.Rules.{place_id}
 use Rattle.command_line.specs.Inner.Reading.{places_in, names_in}
 use Rattle.command_line.proofs.Built.{ArePlaces, none, one, two, numbers}
 use Rattle.command_line.proofs.Uses.{option-bounded, IsBounded, ids-apart}
-use Rattle.command_line.proofs.Looking.{option_row, place_row, value-final, first-final, second-final, mrs-final, lattice-final, flag_text}
+use Rattle.command_line.proofs.Looking.{option_row, place_row, value-final, first-final, second-final, mrs-final, lattice-final, verbose-final, flag_text}
 
 pub places-are : (p : Places) → ArePlaces (places_in p)
 places-are NoPlace = none
@@ -35,19 +35,19 @@ value-fits o (an_option p ws ∷ items) vs are e = by_same (bytes_eq (option_id 
     by_same false s f g go = go g
 
 -- the text that `get_one` reads of an option
-option-text : (o : OptionName) (items : List Item) (f : Found) → rows_of f ≡ final (item_rows 0 items) → bytes_eq (option_id Lattice) (option_id o) ≡ false → bytes_eq (option_id Mrs) (option_id o) ≡ false
+option-text : (o : OptionName) (items : List Item) (f : Found) → rows_of f ≡ final (item_rows 0 items) → bytes_eq (option_id Verbose) (option_id o) ≡ false → bytes_eq (option_id Lattice) (option_id o) ≡ false → bytes_eq (option_id Mrs) (option_id o) ≡ false
     → one_text f (option_id o) ≡ option_and_then row_text (option_map (option_row o) (value_in o items))
-option-text o items f rows e g = one_text-rows f (option_id o) ∙ ap (one_of (option_id o)) rows ∙ ap (option_and_then row_text) (value-final o items e g)
+option-text o items f rows v e g = one_text-rows f (option_id o) ∙ ap (one_of (option_id o)) rows ∙ ap (option_and_then row_text) (value-final o items v e g)
 
 pub number-kept : (o : OptionName) (least greatest default r : ℕ) (items : List Item) (f : Found) → value_of o ≡ in_range least greatest → rows_of f ≡ final (item_rows 0 items) → AreItems items
-    → bytes_eq (option_id Lattice) (option_id o) ≡ false → bytes_eq (option_id Mrs) (option_id o) ≡ false
+    → bytes_eq (option_id Verbose) (option_id o) ≡ false → bytes_eq (option_id Lattice) (option_id o) ≡ false → bytes_eq (option_id Mrs) (option_id o) ≡ false
     → (one_text f (option_id o) ≡ None → r ≡ default)
     → ((t : Text) → one_text f (option_id o) ≡ Some t → IsNumeral 10 (without_leading_plus t) → number_of t < 2 ^ 64 → r ≡ number_of t)
     → r ≡ number_or default (value_in o items)
-number-kept o least greatest default r items f is rows are e g absent given = by_value (value_in o items) refl
+number-kept o least greatest default r items f is rows are v e g absent given = by_value (value_in o items) refl
   where
     text : one_text f (option_id o) ≡ option_and_then row_text (option_map (option_row o) (value_in o items))
-    text = option-text o items f rows e g
+    text = option-text o items f rows v e g
 
     by_number : (vs : List Text) → value_in o items ≡ Some vs → IsValue (in_range least greatest) vs → IsBounded (in_range least greatest) → r ≡ number_or default (Some vs)
     by_number (w ∷ []) there fits few = given w (text ∙ ap (λ v. option_and_then row_text (option_map (option_row o) v)) there ∙ rw is refl) fits.1.0 (omega (arith, few, fits))
@@ -59,7 +59,7 @@ number-kept o least greatest default r items f is rows are e g absent given = by
 
 pub settings-kept : (items : List Item) (f : Found) (r : Option Text) → rows_of f ≡ final (item_rows 0 items) → AreItems items → r ≡ first_value f (option_id Settings) → r ≡ only (value_in Settings items)
 settings-kept items f r rows are is = is ∙ first_value-rows f (option_id Settings) ∙ ap (first_of (option_id Settings)) rows
-    ∙ ap (option_and_then (λ (x : Row). slice_get x.values 0)) (value-final Settings items refl refl) ∙ by_value (value_in Settings items)
+    ∙ ap (option_and_then (λ (x : Row). slice_get x.values 0)) (value-final Settings items refl refl refl) ∙ by_value (value_in Settings items)
   where
     by_value : (v : Option (List Text)) → option_and_then (λ (x : Row). slice_get x.values 0) (option_map (option_row Settings) v) ≡ only v
     by_value None = refl
@@ -75,6 +75,9 @@ mrs-kept items f r rows = flag-kept (is_some (value_in Mrs items)) r f (option_i
 
 pub lattice-kept : (items : List Item) (f : Found) (r : Bool) → rows_of f ≡ final (item_rows 0 items) → (one_text f (option_id Lattice) ≡ Some (codes "true") → r ≡ true) → (one_text f (option_id Lattice) ≡ Some (codes "false") → r ≡ false) → r ≡ is_some (value_in Lattice items)
 lattice-kept items f r rows = flag-kept (is_some (value_in Lattice items)) r f (option_id Lattice) (one_text-rows f (option_id Lattice) ∙ ap (one_of (option_id Lattice)) rows ∙ lattice-final items)
+
+pub verbose-kept : (items : List Item) (f : Found) (r : Bool) → rows_of f ≡ final (item_rows 0 items) → (one_text f (option_id Verbose) ≡ Some (codes "true") → r ≡ true) → (one_text f (option_id Verbose) ≡ Some (codes "false") → r ≡ false) → r ≡ is_some (value_in Verbose items)
+verbose-kept items f r rows = flag-kept (is_some (value_in Verbose items)) r f (option_id Verbose) (one_text-rows f (option_id Verbose) ∙ ap (one_of (option_id Verbose)) rows ∙ verbose-final items)
 
 -- the positional words
 place-text : (o : Option Text) (k : ℕ) → option_and_then (λ (x : Row). slice_get x.values 0) (option_map (place_row k) o) ≡ o

@@ -9,3 +9,7 @@ pub mod Choosing
 pub mod Telling
 pub mod Unique
 pub mod Ranges
+pub mod Items
+pub mod Forms
+pub mod Steps
+pub mod Ends

@@ -7,7 +7,7 @@ use Rattle.clap.specs.declared.builder.value_parser.Reading.TheVariants.{AsWritt
 use Rattle.clap.specs.declared.builder.value_parser.ValueParser.{ValueParser}
 use Rattle.clap.specs.declared.builder.value_parser.ValueParser.TheVariants as vp
 use Rattle.clap.specs.declared.parser.matches.ValueSource.TheVariants.{DefaultValue}
-use Rattle.command_line.specs.Words.{OptionName, Workers, Edges, Readings, Lexical, Unary, Empty, Settings, Mrs, Lattice, Value, option_id, value_of, Item, positional, option as an_option, positionals, value_in}
+use Rattle.command_line.specs.Words.{OptionName, Workers, Edges, Readings, Lexical, Unary, Empty, Settings, Mrs, Lattice, Verbose, Value, nothing, option_id, value_of, Item, positional, option as an_option, positionals, value_in}
 use Rattle.command_line.specs.Inner.Rules.{place_id}
 pub use Rattle.command_line.specs.Inner.Matches.{with_flag, final}
 use Rattle.command_line.proofs.Built.{full_rule, one_rule, place_rules, rules_with}
@@ -81,9 +81,9 @@ places-default (v ∷ places) k rows = ap (λ x. fold with_default x (place_rule
 skip-one : (a : Rule) (rest : List Rule) (rows : List Row) → with_default rows a ≡ rows → fold with_default rows (a ∷ rest) ≡ fold with_default rows rest
 skip-one a rest rows e = ap (λ x. fold with_default x rest) e
 
-pub finished-is : (places : List Value) (rows : List Row) → fold with_default rows (rules_with places) ≡ with_flag (option_id Lattice) (with_flag (option_id Mrs) rows)
+pub finished-is : (places : List Value) (rows : List Row) → fold with_default rows (rules_with places) ≡ with_flag (option_id Verbose) (with_flag (option_id Lattice) (with_flag (option_id Mrs) rows))
 finished-is places rows =
-    let from_flags = full_rule Mrs ∷ full_rule Lattice ∷ place_rules 0 places in
+    let from_flags = full_rule Mrs ∷ full_rule Lattice ∷ full_rule Verbose ∷ place_rules 0 places in
     let from_settings = full_rule Settings ∷ from_flags in
     let from_empty = full_rule Empty ∷ from_settings in
     let from_unary = full_rule Unary ∷ from_empty in
@@ -97,7 +97,7 @@ finished-is places rows =
     ∙ skip-one (full_rule Unary) from_empty rows (one-default (vp.Unsigned 0 32) (codes "unary") rows)
     ∙ skip-one (full_rule Empty) from_settings rows (one-default (vp.Unsigned 0 16) (codes "empty") rows)
     ∙ skip-one (full_rule Settings) from_flags rows (one-default vp.String (codes "settings") rows)
-    ∙ places-default places 0 (with_flag (option_id Lattice) (with_flag (option_id Mrs) rows))
+    ∙ places-default places 0 (with_flag (option_id Verbose) (with_flag (option_id Lattice) (with_flag (option_id Mrs) rows)))
 
 found-end : (id other : Text) (rows : List Row) → bytes_eq other id ≡ false → found id (rows ++ default_row other ∷ []) ≡ found id rows
 found-end id other [] e = rw e refl
@@ -140,37 +140,48 @@ flag-default : (id : Text) (rows : List Row) → found id rows ≡ None → foun
 flag-default id rows e = let none_there : has_row id rows ≡ false = found-row id rows ∙ ap is_some e in rw none_there (ap (found id) (flag-row id rows none_there) ∙ found-last id rows none_there)
 
 -- ---- what stands in the end
-final-skip : (id : Text) (rows : List Row) → bytes_eq (option_id Lattice) id ≡ false → bytes_eq (option_id Mrs) id ≡ false → found id (final rows) ≡ found id rows
-final-skip id rows e f = flag-skip id (option_id Lattice) (with_flag (option_id Mrs) rows) e ∙ flag-skip id (option_id Mrs) rows f
+final-skip : (id : Text) (rows : List Row) → bytes_eq (option_id Verbose) id ≡ false → bytes_eq (option_id Lattice) id ≡ false → bytes_eq (option_id Mrs) id ≡ false → found id (final rows) ≡ found id rows
+final-skip id rows v e f = flag-skip id (option_id Verbose) (with_flag (option_id Lattice) (with_flag (option_id Mrs) rows)) v ∙ flag-skip id (option_id Lattice) (with_flag (option_id Mrs) rows) e ∙ flag-skip id (option_id Mrs) rows f
 
 -- an option with a value
-pub value-final : (o : OptionName) (items : List Item) → bytes_eq (option_id Lattice) (option_id o) ≡ false → bytes_eq (option_id Mrs) (option_id o) ≡ false
+pub value-final : (o : OptionName) (items : List Item) → bytes_eq (option_id Verbose) (option_id o) ≡ false → bytes_eq (option_id Lattice) (option_id o) ≡ false → bytes_eq (option_id Mrs) (option_id o) ≡ false
     → found (option_id o) (final (item_rows 0 items)) ≡ option_map (option_row o) (value_in o items)
-value-final o items e f = final-skip (option_id o) (item_rows 0 items) e f ∙ option-found o items 0
+value-final o items v e f = final-skip (option_id o) (item_rows 0 items) v e f ∙ option-found o items 0
 
 pub first-final : (items : List Item) → found (place_id 0) (final (item_rows 0 items)) ≡ option_map (place_row 0) (slice_get (positionals items) 0)
-first-final items = final-skip (place_id 0) (item_rows 0 items) refl refl ∙ first-found items
+first-final items = final-skip (place_id 0) (item_rows 0 items) refl refl refl ∙ first-found items
 
 pub second-final : (items : List Item) → found (place_id 1) (final (item_rows 0 items)) ≡ option_map (place_row 1) (slice_get (positionals items) 1)
-second-final items = final-skip (place_id 1) (item_rows 0 items) refl refl ∙ second-found items
+second-final items = final-skip (place_id 1) (item_rows 0 items) refl refl refl ∙ second-found items
 
 -- the text of a flag
 abbrev pub flag_text : Bool → Text
 flag_text true = codes "true"
 flag_text false = codes "false"
 
-pub mrs-final : (items : List Item) → one_of (option_id Mrs) (final (item_rows 0 items)) ≡ Some (flag_text (is_some (value_in Mrs items)))
-mrs-final items = ap (option_and_then row_text) (flag-skip (option_id Mrs) (option_id Lattice) (with_flag (option_id Mrs) (item_rows 0 items)) refl) ∙ by_value (value_in Mrs items) (option-found Mrs items 0)
+-- what is read of a flag whose default was given after that of others
+flag-final : (o : OptionName) (items : List Item) (rows : List Row) → value_of o ≡ nothing → found (option_id o) rows ≡ option_map (option_row o) (value_in o items)
+    → option_and_then row_text (found (option_id o) (with_flag (option_id o) rows)) ≡ Some (flag_text (is_some (value_in o items)))
+flag-final o items rows is e = by_value (value_in o items) e
   where
-    by_value : (v : Option (List (List ℕ))) → found (option_id Mrs) (item_rows 0 items) ≡ option_map (option_row Mrs) v
-        → option_and_then row_text (found (option_id Mrs) (with_flag (option_id Mrs) (item_rows 0 items))) ≡ Some (flag_text (is_some v))
-    by_value (Some vs) e = ap (option_and_then row_text) (flag-found (option_id Mrs) (item_rows 0 items) (option_row Mrs vs) e)
-    by_value None e = ap (option_and_then row_text) (flag-default (option_id Mrs) (item_rows 0 items) e)
+    by_value : (v : Option (List (List ℕ))) → found (option_id o) rows ≡ option_map (option_row o) v → option_and_then row_text (found (option_id o) (with_flag (option_id o) rows)) ≡ Some (flag_text (is_some v))
+    by_value (Some vs) e = ap (option_and_then row_text) (flag-found (option_id o) rows (option_row o vs) e) ∙ rw is refl
+    by_value None e = ap (option_and_then row_text) (flag-default (option_id o) rows e)
+
+pub mrs-final : (items : List Item) → one_of (option_id Mrs) (final (item_rows 0 items)) ≡ Some (flag_text (is_some (value_in Mrs items)))
+mrs-final items =
+    let rows = item_rows 0 items in
+    ap (option_and_then row_text) (flag-skip (option_id Mrs) (option_id Verbose) (with_flag (option_id Lattice) (with_flag (option_id Mrs) rows)) refl ∙ flag-skip (option_id Mrs) (option_id Lattice) (with_flag (option_id Mrs) rows) refl)
+    ∙ flag-final Mrs items rows refl (option-found Mrs items 0)
 
 pub lattice-final : (items : List Item) → one_of (option_id Lattice) (final (item_rows 0 items)) ≡ Some (flag_text (is_some (value_in Lattice items)))
-lattice-final items = by_value (value_in Lattice items) (flag-skip (option_id Lattice) (option_id Mrs) (item_rows 0 items) refl ∙ option-found Lattice items 0)
-  where
-    by_value : (v : Option (List (List ℕ))) → found (option_id Lattice) (with_flag (option_id Mrs) (item_rows 0 items)) ≡ option_map (option_row Lattice) v
-        → option_and_then row_text (found (option_id Lattice) (final (item_rows 0 items))) ≡ Some (flag_text (is_some v))
-    by_value (Some vs) e = ap (option_and_then row_text) (flag-found (option_id Lattice) (with_flag (option_id Mrs) (item_rows 0 items)) (option_row Lattice vs) e)
-    by_value None e = ap (option_and_then row_text) (flag-default (option_id Lattice) (with_flag (option_id Mrs) (item_rows 0 items)) e)
+lattice-final items =
+    let rows = item_rows 0 items in
+    ap (option_and_then row_text) (flag-skip (option_id Lattice) (option_id Verbose) (with_flag (option_id Lattice) (with_flag (option_id Mrs) rows)) refl)
+    ∙ flag-final Lattice items (with_flag (option_id Mrs) rows) refl (flag-skip (option_id Lattice) (option_id Mrs) rows refl ∙ option-found Lattice items 0)
+
+pub verbose-final : (items : List Item) → one_of (option_id Verbose) (final (item_rows 0 items)) ≡ Some (flag_text (is_some (value_in Verbose items)))
+verbose-final items =
+    let rows = item_rows 0 items in
+    flag-final Verbose items (with_flag (option_id Lattice) (with_flag (option_id Mrs) rows)) refl
+    (flag-skip (option_id Verbose) (option_id Lattice) (with_flag (option_id Mrs) rows) refl ∙ flag-skip (option_id Verbose) (option_id Mrs) rows refl ∙ option-found Verbose items 0)

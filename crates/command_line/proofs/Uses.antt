@@ -15,7 +15,7 @@ use Rattle.clap.specs.declared.builder.value_parser.Reading.TheVariants.{AsWritt
 use Rattle.clap.specs.declared.parser.matches.ValueSource.TheVariants.{CommandLine}
 use Rattle.clap.specs.declared.builder.value_parser.ValueParser.{ValueParser}
 use Rattle.clap.specs.declared.builder.value_parser.ValueParser.TheVariants as vp
-use Rattle.command_line.specs.Words.{OptionName, Workers, Edges, Readings, Lexical, Unary, Empty, Settings, Mrs, Lattice, Value, in_range, name, nothing, option_id, value_of, is_name, number_of, IsNumber, IsValue, Item, positional, option as an_option, AreItems, IsNotIn, AreOnce, positionals}
+use Rattle.command_line.specs.Words.{OptionName, Workers, Edges, Readings, Lexical, Unary, Empty, Settings, Mrs, Lattice, Verbose, Value, in_range, name, nothing, option_id, value_of, is_name, number_of, IsNumber, IsValue, Item, positional, option as an_option, AreItems, IsNotIn, AreOnce, positionals}
 use Rattle.command_line.specs.Inner.Rules.{place_id}
 pub use Rattle.command_line.specs.Inner.Matches.{row_by, values_given, item_rows}
 use Rattle.command_line.proofs.Built.{ArePlaces, none, one, two, numbers, full_rule_by, full_place, full_parser, flag_rule}
@@ -143,6 +143,7 @@ option-bounded Empty = omega arith
 option-bounded Settings = tt
 option-bounded Mrs = tt
 option-bounded Lattice = tt
+option-bounded Verbose = tt
 
 pub ids-apart : (p o : OptionName) → (p ≡ o) ⊎ (bytes_eq (option_id p) (option_id o) ≡ false)
 ids-apart Workers Workers = inl refl
@@ -154,6 +155,7 @@ ids-apart Empty Empty = inl refl
 ids-apart Settings Settings = inl refl
 ids-apart Mrs Mrs = inl refl
 ids-apart Lattice Lattice = inl refl
+ids-apart Verbose Verbose = inl refl
 ids-apart p o = inr refl
 
 pub place-apart : (k : ℕ) (o : OptionName) → (bytes_eq (place_id k) (option_id o) ≡ false) × (bytes_eq (option_id o) (place_id k) ≡ false)

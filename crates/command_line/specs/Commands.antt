@@ -11,7 +11,7 @@ use Rattle.command_line.specs.Words.{Options, Task, parse, chart, explain, gener
 
 -- the options that options of the program stand for
 abbrev pub options_in : CodeOptions → Options
-options_in o = record { workers = o.workers; edges = o.edges; readings = o.readings; lexical = o.lexical; unary = o.unary; empty = o.empty; settings = option_map (λ s. s.now) o.settings; mrs = o.mrs; lattice = o.lattice }
+options_in o = record { workers = o.workers; edges = o.edges; readings = o.readings; lexical = o.lexical; unary = o.unary; empty = o.empty; settings = option_map (λ s. s.now) o.settings; mrs = o.mrs; lattice = o.lattice; verbose = o.verbose }
 
 -- the task that a task of the program stands for
 abbrev pub task : CodeTask → Task

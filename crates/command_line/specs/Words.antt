@@ -22,6 +22,7 @@ pub data OptionName : Type 0 where
   Settings : OptionName
   Mrs : OptionName
   Lattice : OptionName
+  Verbose : OptionName
 
 -- an option's word, without the `--` before it
 abbrev pub option_id : OptionName → List ℕ
@@ -34,6 +35,7 @@ option_id Empty = codes "empty"
 option_id Settings = codes "settings"
 option_id Mrs = codes "mrs"
 option_id Lattice = codes "lattice"
+option_id Verbose = codes "verbose"
 
 -- an option's word
 abbrev pub word_of : OptionName → List ℕ
@@ -56,6 +58,7 @@ value_of Empty = in_range 0 16
 value_of Settings = name
 value_of Mrs = nothing
 value_of Lattice = nothing
+value_of Verbose = nothing
 
 -- the number that a word writes in decimal digits
 abbrev pub number_of : List ℕ → ℕ
@@ -130,6 +133,7 @@ pub record Options : Type 0 where
   pub settings : Option (List ℕ)
   pub mrs : Bool
   pub lattice : Bool
+  pub verbose : Bool
 
 -- the one word of a value
 abbrev pub only : Option (List (List ℕ)) → Option (List ℕ)
@@ -152,6 +156,7 @@ options_of items = record {
   settings = only (value_in Settings items);
   mrs = is_some (value_in Mrs items);
   lattice = is_some (value_in Lattice items);
+  verbose = is_some (value_in Verbose items);
 }
 
 -- These words are what stands after a command: positional words that fill these places, in this order, and options that give these

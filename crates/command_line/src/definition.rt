@@ -67,5 +67,6 @@ pub fn with_options<'a>(alloc: Global) -> Result<Command<'a>, AllocError>
         .arg(number_option(alloc, "empty", 0, 16))?
         .arg(name_option(alloc, "settings"))?
         .arg(flag(alloc, "mrs"))?
-        .arg(flag(alloc, "lattice"))
+        .arg(flag(alloc, "lattice"))?
+        .arg(flag(alloc, "verbose"))
 }

@@ -23,4 +23,6 @@ pub struct Options<'a> {
     pub mrs: bool,
     /// `--lattice`, a flag: each line is a lattice of words.
     pub lattice: bool,
+    /// `--verbose`, a flag: more is told on the error stream, of faults of files and of lines without a reading.
+    pub verbose: bool,
 }

@@ -118,6 +118,7 @@ fn options_of<'a>(matches: &ArgMatches<'a>) -> Options<'a>
         settings: matches.get_str("settings"),
         mrs: matches.get_flag("mrs"),
         lattice: matches.get_flag("lattice"),
+        verbose: matches.get_flag("verbose"),
     }
 }
 

@@ -36,6 +36,7 @@ fn is_option_word(word: &str) -> bool
         || word == "--settings"
         || word == "--mrs"
         || word == "--lattice"
+        || word == "--verbose"
 }
 
 // Whether the word is an option's or a name.

@@ -5,8 +5,8 @@ use Rattle.type_hierarchy.specs.Decls.{Name, texts}
 use Rattle.type_hierarchy.specs.Table.{TypeTable, count_of, completed_count}
 use Rattle.fs_unify.specs.Rules.{Grammar, IsGrammar, system_of}
 use Rattle.constraint_expand.specs.declared.books.Book.{Book}
-use Rattle.placed_statements.specs.declared.fault.ExpandFault.{ExpandFault}
-use Rattle.placed_statements.specs.Placings.{PlacedTree}
+use Rattle.grammar_files.specs.declared.expand_fault.ExpandFault.{ExpandFault}
+use Rattle.grammar_files.specs.Placings.{PlacedTree}
 use Rattle.constraint_expand.specs.Statements.{statement_at, defines_instance}
 use Rattle.constraint_expand.specs.Conditions.{AreTypesFor, IsDefined, HasLesserBelow, HasNoneAbove}
 use Rattle.constraint_expand.specs.Systems.{Settled, IsSystemOf, words_of, instance_claims}

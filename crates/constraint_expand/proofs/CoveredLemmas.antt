@@ -8,7 +8,7 @@ use Rattle.type_hierarchy.specs.Laws.{HasTypeLaws}
 use Rattle.type_hierarchy.specs.Table.{TypeTable, is_below}
 use Rattle.fs_unify.specs.Rules.{Grammar, facts_in, system_of}
 use Rattle.fs_unify.specs.Given.{facts_source}
-use Rattle.placed_statements.specs.Placings.{PlacedTree}
+use Rattle.grammar_files.specs.Placings.{PlacedTree}
 use Rattle.constraint_expand.specs.Conditions.{IsDefined, HasLesserBelow, HasNoneAbove}
 use Rattle.constraint_expand.specs.Systems.{constraint_claims}
 use Rattle.constraint_expand.specs.Shaped.{HasNoConstraint, AreFactsDefined}

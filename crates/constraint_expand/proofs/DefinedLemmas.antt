@@ -6,8 +6,8 @@ use Rattle.std.specs.Str.{bytes_eq}
 use Rattle.std.specs.String.{string_bytes, string_eq}
 use Rattle.std.proofs.lemmas.List.Folds.{list_any-append}
 use Rattle.type_hierarchy.specs.Decls.{Name}
-use Rattle.placed_statements.specs.declared.Placed.{Placed}
-use Rattle.placed_statements.specs.Placings.{PlacedTree, placed_of}
+use Rattle.grammar_files.specs.declared.placed.Placed.{Placed}
+use Rattle.grammar_files.specs.Placings.{PlacedTree, placed_of}
 use Rattle.constraint_expand.specs.Statements.{name_of, defines_type}
 use Rattle.constraint_expand.specs.Unknowns.{is_defined}
 use Rattle.constraint_expand.specs.Found.{has_text_key, defines_named}

@@ -23,9 +23,9 @@ use Rattle.body_facts.specs.Claimed.{WordTable}
 use Rattle.body_facts.specs.Numbers.{type_number, strings_of, text_number}
 use Rattle.body_facts.specs.BracketUses.{Used}
 use Rattle.body_facts.specs.Writing.{ListNames}
-use Rattle.placed_statements.specs.Placings.{PlacedTree}
+use Rattle.grammar_files.specs.Placings.{PlacedTree}
 use Rattle.constraint_expand.specs.Statements.{no_statement, statement_at, name_of, body_of, defines_type, adds_to_type, adds_to, addenda_to, type_definitions, speaks_of_type, defines_instance}
-use Rattle.placed_statements.specs.BodyStrings.{strings_of_body}
+use Rattle.grammar_files.specs.BodyStrings.{strings_of_body}
 use Rattle.constraint_expand.specs.Conditions.{AreTypesFor}
 use Rattle.constraint_expand.specs.Features.{uses_in, all_uses, features_used, writers_of, AreFeatures}
 use Rattle.constraint_expand.specs.Introducers.{IsIntroducer, numbers_of}

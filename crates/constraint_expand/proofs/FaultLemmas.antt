@@ -10,39 +10,46 @@ use Rattle.fs_model.specs.Claims.{Has}
 use Rattle.type_hierarchy.specs.declared.types.Ty.{Ty}
 use Rattle.type_hierarchy.specs.Decls.{Name}
 use Rattle.type_hierarchy.specs.Table.{TypeTable, count_of, completed_count}
-use Rattle.placed_statements.specs.declared.fault.ExpandFault.{ExpandFault}
-use Rattle.placed_statements.specs.declared.fault.ExpandFault.TheVariants.{UnknownName, NoIntro, Intro, NoStructure, NoMemory}
-use Rattle.placed_statements.specs.Placings.{PlacedTree}
+use Rattle.grammar_files.specs.declared.expand_fault.ExpandFault.{ExpandFault}
+use Rattle.grammar_files.specs.declared.expand_fault.ExpandFault.TheVariants.{UnknownName, NoIntro, Intro, NoStructure, NoMemory}
+use Rattle.grammar_files.specs.Placings.{PlacedTree}
 use Rattle.constraint_expand.specs.Conditions.{AreTypesFor, IsDefined}
 use Rattle.constraint_expand.specs.Features.{features_used, writers_of}
 use Rattle.constraint_expand.specs.Introducers.{IsIntroducer}
 use Rattle.constraint_expand.specs.Systems.{Settled}
 use Rattle.constraint_expand.specs.Faults.{AreKnown, AreWritten, IsFaultOf}
-use Rattle.constraint_expand.specs.Found.{numbers_noted, with_each, AreNoted, HasNoted, IsUnknownFault, IsUnwrittenFault, IsSplitFault, IsSplitAmong, IsStructureFault, IsIntroduced}
+use Rattle.constraint_expand.specs.Found.{numbers_noted, with_each, AreNoted, HasNoted, IsUnknownFault, IsUnwrittenFault, IsSplitFault, IsSplitAmong, IsStructureFault, IsEarlyFault, IsIntroduced}
 use Rattle.constraint_expand.proofs.NameLemmas.{with_each-only, moved_has}
 use Rattle.constraint_expand.proofs.SplitLemmas.{are_noted, writers_defined, split_is, zip_moved}
 use Rattle.constraint_expand.proofs.ExpandLemmas.{features_are}
 
-pub fault_unknown : (types : TypeTable) (s : Settled) (ps : List PlacedTree) (e : ExpandFault) → IsUnknownFault types s ps e → IsFaultOf types s ps e
+pub fault_unknown : (types : TypeTable) (s : Settled) (ps : List PlacedTree) (e : ExpandFault) → IsUnknownFault types s ps e → IsEarlyFault types s ps e
 fault_unknown types s ps (UnknownName name at k) h = h
 fault_unknown types s ps (NoIntro f at k) h = absurd h
 fault_unknown types s ps (Intro f a b k) h = absurd h
 fault_unknown types s ps (NoStructure name k) h = absurd h
 fault_unknown types s ps NoMemory h = tt
 
-pub fault_unwritten : (types : TypeTable) (s : Settled) (ps : List PlacedTree) (e : ExpandFault) → AreKnown types s ps → IsUnwrittenFault types s ps e → IsFaultOf types s ps e
+pub fault_unwritten : (types : TypeTable) (s : Settled) (ps : List PlacedTree) (e : ExpandFault) → AreKnown types s ps → IsUnwrittenFault types s ps e → IsEarlyFault types s ps e
 fault_unwritten types s ps (UnknownName name at k) known h = absurd h
 fault_unwritten types s ps (NoIntro f at k) known h = (known, h)
 fault_unwritten types s ps (Intro f a b k) known h = absurd h
 fault_unwritten types s ps (NoStructure name k) known h = absurd h
 fault_unwritten types s ps NoMemory known h = tt
 
-fault_split : (types : TypeTable) (s : Settled) (ps : List PlacedTree) (e : ExpandFault) → AreKnown types s ps → AreWritten types s ps → IsSplitFault types s ps e → IsFaultOf types s ps e
+fault_split : (types : TypeTable) (s : Settled) (ps : List PlacedTree) (e : ExpandFault) → AreKnown types s ps → AreWritten types s ps → IsSplitFault types s ps e → IsEarlyFault types s ps e
 fault_split types s ps (UnknownName name at k) known written h = absurd h
 fault_split types s ps (NoIntro f at k) known written h = absurd h
 fault_split types s ps (Intro f a b k) known written h = (known, written, h)
 fault_split types s ps (NoStructure name k) known written h = absurd h
 fault_split types s ps NoMemory known written h = tt
+
+pub early_fault : (types : TypeTable) (s : Settled) (ps : List PlacedTree) (e : ExpandFault) → IsEarlyFault types s ps e → IsFaultOf types s ps e
+early_fault types s ps (UnknownName name at k) h = h
+early_fault types s ps (NoIntro f at k) h = h
+early_fault types s ps (Intro f a b k) h = h
+early_fault types s ps (NoStructure name k) h = absurd h
+early_fault types s ps NoMemory h = h
 
 pub fault_structure : (types : TypeTable) (s : Settled) (ps : List PlacedTree) (e : ExpandFault) → AreKnown types s ps → IsStructureFault types s ps e → IsFaultOf types s ps e
 fault_structure types s ps (UnknownName name at k) known h = absurd h
@@ -69,7 +76,7 @@ module _ (types : TypeTable) (s : Settled) (ps : List PlacedTree) (entries : Lis
   pub keys_defined : (f : Name) (t : ℕ) → Has f keys → Has t (numbers_noted entries f) → IsDefined types ps t
   keys_defined f t _ h = writers_defined types s ps f types_for known t (subst (Has t) (noted_are f) h)
 
-  pub keys_fault : (e : ExpandFault) → IsSplitAmong types ps (numbers_noted entries) keys e → IsFaultOf types s ps e
+  pub keys_fault : (e : ExpandFault) → IsSplitAmong types ps (numbers_noted entries) keys e → IsEarlyFault types s ps e
   keys_fault e h = fault_split types s ps e known written (split_is types s ps (numbers_noted entries) keys e noted_are keys_are h)
 
   pub feats_noted : (feats : List Name) → IsPermutation keys feats → (f : Name) → Has f feats → AreNoted (count_of types) (numbers_noted entries f)

@@ -7,7 +7,7 @@ use Rattle.body_facts.specs.Writing.{ListNames}
 use Rattle.body_facts.specs.BracketUses.{Used}
 use Rattle.constraint_expand.specs.declared.kinds.Kind.{Kind}
 use Rattle.constraint_expand.specs.declared.kinds.Kind.TheVariants.{Types, Instances}
-use Rattle.placed_statements.specs.Placings.{PlacedTree}
+use Rattle.grammar_files.specs.Placings.{PlacedTree}
 use Rattle.constraint_expand.specs.Kinds.{picks}
 use Rattle.constraint_expand.specs.Features.{uses_in, features_used}
 use Rattle.constraint_expand.specs.Found.{with_each}

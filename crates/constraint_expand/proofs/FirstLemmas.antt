@@ -2,8 +2,8 @@
 use Rattle.std.proofs.Common.{ℕ, ◌≡◌, ◌<◌, ◌≤◌, ◌+◌, ◌⊎◌, inl, inr, Bool, true, List, length, map, get_or, sym, ◌∙◌, ap, subst, arith}
 use Rattle.std.proofs.lemmas.Bool.{cases_lt}
 use Rattle.std.proofs.lemmas.List.{get_or-map, length-map}
-use Rattle.placed_statements.specs.declared.Placed.{Placed}
-use Rattle.placed_statements.specs.Placings.{PlacedTree, placed_of}
+use Rattle.grammar_files.specs.declared.placed.Placed.{Placed}
+use Rattle.grammar_files.specs.Placings.{PlacedTree, placed_of}
 use Rattle.constraint_expand.specs.Statements.{no_statement, statement_at, IsFirstAmong, HoldsOfNone}
 use Rattle.constraint_expand.specs.Found.{HasNoneBefore}
 

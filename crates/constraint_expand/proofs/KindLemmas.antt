@@ -2,8 +2,8 @@
 use Rattle.std.proofs.Common.{◌≡◌, false}
 use Rattle.constraint_expand.specs.declared.kinds.Kind.{Kind}
 use Rattle.constraint_expand.specs.declared.kinds.Kind.TheVariants.{Types, Instances}
-use Rattle.placed_statements.specs.Placings.{PlacedTree}
-use Rattle.placed_statements.specs.Statements.{DefinesNothing}
+use Rattle.grammar_files.specs.Placings.{PlacedTree}
+use Rattle.grammar_files.specs.Statements.{DefinesNothing}
 use Rattle.constraint_expand.specs.Kinds.{picks}
 
 pub no_kind : (kind : Kind) (p : PlacedTree) → DefinesNothing p → picks kind p ≡ false

@@ -17,3 +17,4 @@ pub mod NumberLemmas
 pub mod BookLemmas
 pub mod FeatureLemmas
 pub mod KindLemmas
+pub mod DefinitionLemmas

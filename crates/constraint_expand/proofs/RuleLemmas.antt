@@ -12,12 +12,12 @@ use Rattle.fs_unify.specs.Rules.{Rule}
 use Rattle.fs_unify.specs.Systems.{rule_of as rule_kept, rules_of}
 use Rattle.fs_closing.specs.declared.facts.TypeFacts.{TypeFacts}
 use Rattle.body_facts.specs.Claimed.{WordTable}
-use Rattle.placed_statements.specs.declared.Placed.{Placed}
-use Rattle.placed_statements.specs.Placings.{PlacedTree, placed_of}
+use Rattle.grammar_files.specs.declared.placed.Placed.{Placed}
+use Rattle.grammar_files.specs.Placings.{PlacedTree, placed_of}
 use Rattle.constraint_expand.specs.Statements.{no_statement, statement_at, adds_to, addenda_to, defines_type, type_definitions, name_of}
 use Rattle.constraint_expand.specs.Systems.{said_by, rule_of, rules_in}
 use Rattle.constraint_expand.specs.Found.{place_by, addenda_places}
-use Rattle.fs_paths.specs.Facts.{claims_of}
+use Rattle.fs_graph.specs.Facts.{claims_of}
 use Rattle.body_facts.specs.Numbers.{type_number}
 use Rattle.constraint_expand.proofs.ListLemmas.{bools, flat_map-if, flat_map-map, Has-either, Has-one, Has-at}
 use Rattle.constraint_expand.proofs.NameLemmas.{bytes_eq-same, bytes_eq-swap}

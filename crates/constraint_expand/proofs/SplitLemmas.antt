@@ -14,9 +14,9 @@ use Rattle.type_hierarchy.specs.Table.{TypeTable, count_of, completed_count}
 use Rattle.body_facts.specs.Numbers.{type_number}
 use Rattle.body_facts.specs.Writing.{ListNames}
 use Rattle.body_facts.specs.BracketUses.{Used}
-use Rattle.placed_statements.specs.declared.fault.ExpandFault.{ExpandFault}
-use Rattle.placed_statements.specs.declared.fault.ExpandFault.TheVariants.{UnknownName, NoIntro, Intro, NoStructure, NoMemory}
-use Rattle.placed_statements.specs.Placings.{PlacedTree}
+use Rattle.grammar_files.specs.declared.expand_fault.ExpandFault.{ExpandFault}
+use Rattle.grammar_files.specs.declared.expand_fault.ExpandFault.TheVariants.{UnknownName, NoIntro, Intro, NoStructure, NoMemory}
+use Rattle.grammar_files.specs.Placings.{PlacedTree}
 use Rattle.constraint_expand.specs.Statements.{no_statement, statement_at, name_of, body_of, place_of, speaks_of_type, defines_type, adds_to_type, defines_instance}
 use Rattle.constraint_expand.specs.Conditions.{AreTypesFor, IsDefined}
 use Rattle.constraint_expand.specs.Unknowns.{is_defined, own_unknown, NamesUnknown}

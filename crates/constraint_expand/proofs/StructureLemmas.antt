@@ -19,9 +19,9 @@ use Rattle.body_facts.specs.Numbers.{type_number}
 use Rattle.tdl_reader.specs.declared.Status.{Status}
 use Rattle.tdl_reader.specs.declared.Status.TheVariants.{TypeDef, Entry, LexRule, Rule, Root, Other}
 use Rattle.tdl_reader.specs.Trees.{StatementTree, defines, adds, begins, ends, includes, letters}
-use Rattle.placed_statements.specs.declared.fault.ExpandFault.{ExpandFault}
-use Rattle.placed_statements.specs.declared.fault.ExpandFault.TheVariants.{UnknownName, NoIntro, Intro, NoStructure, NoMemory}
-use Rattle.placed_statements.specs.Placings.{PlacedTree}
+use Rattle.grammar_files.specs.declared.expand_fault.ExpandFault.{ExpandFault}
+use Rattle.grammar_files.specs.declared.expand_fault.ExpandFault.TheVariants.{UnknownName, NoIntro, Intro, NoStructure, NoMemory}
+use Rattle.grammar_files.specs.Placings.{PlacedTree}
 use Rattle.constraint_expand.specs.Statements.{no_statement, statement_at, name_of, is_define, is_addendum, is_of_types, is_of_instances, defines_type, adds_to_type, defines_instance, speaks_of_type, instances_in, HoldsOfNone, first_of_types, first_of_instances}
 use Rattle.constraint_expand.specs.Conditions.{AreTypesFor}
 use Rattle.constraint_expand.specs.Systems.{Settled, words_of, constraint_claims, instance_claims, IsSystemOf}

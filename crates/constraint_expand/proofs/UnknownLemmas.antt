@@ -6,9 +6,9 @@ use Rattle.body_facts.specs.Writing.{ListNames}
 use Rattle.body_facts.specs.Mentions.{mention}
 use Rattle.constraint_expand.specs.declared.kinds.Kind.{Kind}
 use Rattle.constraint_expand.specs.declared.kinds.Kind.TheVariants.{Types, Instances}
-use Rattle.placed_statements.specs.declared.fault.ExpandFault.{ExpandFault}
-use Rattle.placed_statements.specs.declared.fault.ExpandFault.TheVariants.{UnknownName, NoIntro, Intro, NoStructure, NoMemory}
-use Rattle.placed_statements.specs.Placings.{PlacedTree}
+use Rattle.grammar_files.specs.declared.expand_fault.ExpandFault.{ExpandFault}
+use Rattle.grammar_files.specs.declared.expand_fault.ExpandFault.TheVariants.{UnknownName, NoIntro, Intro, NoStructure, NoMemory}
+use Rattle.grammar_files.specs.Placings.{PlacedTree}
 use Rattle.constraint_expand.specs.Statements.{statement_at, HoldsOfNone, first_of_types, first_of_instances}
 use Rattle.constraint_expand.specs.Kinds.{picks}
 use Rattle.constraint_expand.specs.Systems.{Settled}

@@ -8,8 +8,8 @@ use Rattle.type_hierarchy.specs.Table.{TypeTable}
 use Rattle.body_facts.specs.declared.brackets.Use.{Use}
 use Rattle.body_facts.specs.Writing.{ListNames}
 use Rattle.body_facts.specs.BracketUses.{Used, used_of}
-use Rattle.placed_statements.specs.declared.Placed.{Placed}
-use Rattle.placed_statements.specs.Placings.{placed_of}
+use Rattle.grammar_files.specs.declared.placed.Placed.{Placed}
+use Rattle.grammar_files.specs.Placings.{placed_of}
 use Rattle.constraint_expand.specs.Statements.{speaks_of_type}
 use Rattle.constraint_expand.specs.Features.{is_writing, writings_in, writers_of}
 use Rattle.constraint_expand.specs.Found.{writings_by}

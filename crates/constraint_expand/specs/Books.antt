@@ -16,7 +16,7 @@ use Rattle.body_facts.specs.Claimed.{WordTable}
 use Rattle.constraint_expand.specs.declared.books.Book.{Book}
 use Rattle.constraint_expand.specs.declared.books.BookNames.{BookNames}
 use Rattle.constraint_expand.specs.declared.books.Instance.{Instance}
-use Rattle.placed_statements.specs.Placings.{PlacedTree}
+use Rattle.grammar_files.specs.Placings.{PlacedTree}
 use Rattle.constraint_expand.specs.Statements.{instances_in, IsNowhere}
 use Rattle.constraint_expand.specs.Systems.{Settled, IsSystemOf, constraint_claims, instance_claims, words_of}
 use Rattle.constraint_expand.specs.Unknowns.{NamesUnknown}

@@ -5,9 +5,9 @@ use Rattle.type_hierarchy.specs.Decls.{Name}
 use Rattle.type_hierarchy.specs.Named.{type_named}
 use Rattle.type_hierarchy.specs.Table.{TypeTable, completed_count, is_below}
 use Rattle.body_facts.specs.Numbers.{strings_of}
-use Rattle.placed_statements.specs.Placings.{PlacedTree}
+use Rattle.grammar_files.specs.Placings.{PlacedTree}
 use Rattle.constraint_expand.specs.Statements.{name_of, body_of, statement_at, defines_type, speaks_of_type, defines_instance}
-use Rattle.placed_statements.specs.BodyStrings.{strings_of_body}
+use Rattle.grammar_files.specs.BodyStrings.{strings_of_body}
 
 -- a statement defines the type of this number
 abbrev pub IsDefined : TypeTable → List PlacedTree → ℕ → Type 0

@@ -11,9 +11,9 @@ use Rattle.body_facts.specs.Writing.{ListNames}
 use Rattle.body_facts.specs.BracketUses.{Used, used}
 use Rattle.body_facts.specs.Mentions.{mention}
 use Rattle.body_facts.specs.Numbers.{type_number}
-use Rattle.placed_statements.specs.declared.fault.ExpandFault.{ExpandFault}
-use Rattle.placed_statements.specs.declared.fault.ExpandFault.TheVariants.{UnknownName, NoIntro, Intro, NoStructure, NoMemory}
-use Rattle.placed_statements.specs.Placings.{PlacedTree}
+use Rattle.grammar_files.specs.declared.expand_fault.ExpandFault.{ExpandFault}
+use Rattle.grammar_files.specs.declared.expand_fault.ExpandFault.TheVariants.{UnknownName, NoIntro, Intro, NoStructure, NoMemory}
+use Rattle.grammar_files.specs.Placings.{PlacedTree}
 use Rattle.constraint_expand.specs.Statements.{name_of, defines_type, is_define, statement_at, IsFirst, IsFirstAmong, IsNowhere}
 use Rattle.constraint_expand.specs.Features.{uses_in, features_used, writers_of}
 use Rattle.constraint_expand.specs.Introducers.{IsIntroducer, AreFirstTwo}

@@ -10,7 +10,7 @@ use Rattle.type_hierarchy.specs.Table.{TypeTable, IsDistinct}
 use Rattle.body_facts.specs.Writing.{ListNames}
 use Rattle.body_facts.specs.BracketUses.{Used, body_uses}
 use Rattle.body_facts.specs.Numbers.{type_number}
-use Rattle.placed_statements.specs.Placings.{PlacedTree}
+use Rattle.grammar_files.specs.Placings.{PlacedTree}
 use Rattle.constraint_expand.specs.Statements.{name_of, body_of, speaks_of_type, defines_instance}
 
 -- the uses of a statement's body, in order of writing

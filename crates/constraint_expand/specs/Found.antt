@@ -10,16 +10,16 @@ use Rattle.type_hierarchy.specs.declared.types.Ty.{Ty}
 use Rattle.body_facts.specs.Writing.{ListNames}
 use Rattle.body_facts.specs.Mentions.{mention}
 use Rattle.constraint_expand.specs.declared.kinds.Kind.{Kind}
-use Rattle.placed_statements.specs.declared.fault.ExpandFault.{ExpandFault}
-use Rattle.placed_statements.specs.declared.fault.ExpandFault.TheVariants.{UnknownName, NoIntro, Intro, NoStructure, NoMemory}
-use Rattle.placed_statements.specs.Placings.{PlacedTree}
-pub use Rattle.placed_statements.specs.Names.{has_name, with_each}
+use Rattle.grammar_files.specs.declared.expand_fault.ExpandFault.{ExpandFault}
+use Rattle.grammar_files.specs.declared.expand_fault.ExpandFault.TheVariants.{UnknownName, NoIntro, Intro, NoStructure, NoMemory}
+use Rattle.grammar_files.specs.Placings.{PlacedTree}
+pub use Rattle.grammar_files.specs.Names.{has_name, with_each}
 use Rattle.constraint_expand.specs.Statements.{name_of, adds_to, speaks_of_type, defines_type, statement_at, IsFirstAmong}
 use Rattle.constraint_expand.specs.Kinds.{picks}
 use Rattle.constraint_expand.specs.Features.{uses_in, writings_in, writers_of, AreFeatures}
 use Rattle.constraint_expand.specs.Systems.{Settled}
 use Rattle.constraint_expand.specs.Unknowns.{unknown_of, NamesUnknown}
-use Rattle.constraint_expand.specs.Faults.{type_name, NamesFirstUse, AreKnown, IsUnknownName, IsNoIntro, IsIntro, IsNoStructure}
+use Rattle.constraint_expand.specs.Faults.{type_name, NamesFirstUse, AreKnown, IsUnknownName, IsNoIntro, IsIntro, IsNoStructure, IsFaultOf}
 use Rattle.constraint_expand.specs.Notes.{noted}
 use Rattle.body_facts.specs.BracketUses.{Used}
 use Rattle.fs_model.specs.Claims.{Has}
@@ -71,6 +71,11 @@ abbrev pub IsStructureFault : TypeTable → Settled → List PlacedTree → Expa
 IsStructureFault types s ps (NoStructure name k) = IsNoStructure types s ps (string_bytes name) k
 IsStructureFault types s ps NoMemory = Unit {0}
 IsStructureFault types s ps _ = ⊥
+
+-- a fault of names or of features
+abbrev pub IsEarlyFault : TypeTable → Settled → List PlacedTree → ExpandFault → Type 0
+IsEarlyFault types s ps (NoStructure name k) = ⊥
+IsEarlyFault types s ps fault = IsFaultOf types s ps fault
 
 -- the numbers of the writers that are noted for a feature
 abbrev pub numbers_noted : List (String Global × Vec Ty Global) → Name → List ℕ

@@ -2,7 +2,7 @@
 use Rattle.std.specs.Prelude.{Bool}
 use Rattle.constraint_expand.specs.declared.kinds.Kind.{Kind}
 use Rattle.constraint_expand.specs.declared.kinds.Kind.TheVariants.{Types, Instances}
-use Rattle.placed_statements.specs.Placings.{PlacedTree}
+use Rattle.grammar_files.specs.Placings.{PlacedTree}
 use Rattle.constraint_expand.specs.Statements.{speaks_of_type, defines_instance}
 
 abbrev pub picks : Kind → PlacedTree → Bool

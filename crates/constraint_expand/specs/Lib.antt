@@ -1,5 +1,5 @@
-pub use Rattle.placed_statements.specs.Placings
-pub use Rattle.placed_statements.specs.BodyStrings
+pub use Rattle.grammar_files.specs.Placings
+pub use Rattle.grammar_files.specs.BodyStrings
 pub mod Statements
 pub mod Conditions
 pub mod Features

@@ -10,9 +10,9 @@ use Rattle.fs_unify.specs.Rules.{Grammar, facts_in, system_of, IsClaimIn}
 use Rattle.fs_unify.specs.Given.{facts_source}
 use Rattle.fs_unify.specs.Placing.{IsAnswerIn}
 use Rattle.body_facts.specs.Claimed.{WordTable}
-use Rattle.placed_statements.specs.declared.fault.ExpandFault.{ExpandFault}
-use Rattle.placed_statements.specs.declared.fault.ExpandFault.TheVariants.{NoStructure, NoMemory}
-use Rattle.placed_statements.specs.Placings.{PlacedTree}
+use Rattle.grammar_files.specs.declared.expand_fault.ExpandFault.{ExpandFault}
+use Rattle.grammar_files.specs.declared.expand_fault.ExpandFault.TheVariants.{NoStructure, NoMemory}
+use Rattle.grammar_files.specs.Placings.{PlacedTree}
 use Rattle.constraint_expand.specs.Statements.{name_of, statement_at, defines_type, defines_instance, instances_in, IsFirstAmong}
 use Rattle.constraint_expand.specs.Conditions.{IsDefined}
 use Rattle.constraint_expand.specs.Systems.{constraint_claims, instance_claims}

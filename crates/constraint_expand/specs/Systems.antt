@@ -9,7 +9,7 @@ use Rattle.body_facts.specs.declared.settled_names.Names.{Names}
 use Rattle.body_facts.specs.Writing.{ListNames, list_names}
 use Rattle.body_facts.specs.Claimed.{WordTable, claims_said}
 use Rattle.body_facts.specs.Numbers.{type_number}
-use Rattle.placed_statements.specs.Placings.{PlacedTree}
+use Rattle.grammar_files.specs.Placings.{PlacedTree}
 use Rattle.constraint_expand.specs.Statements.{name_of, body_of, type_definitions, addenda_to}
 use Rattle.constraint_expand.specs.Features.{AreFeatures, writers_of}
 use Rattle.constraint_expand.specs.Introducers.{IsIntroducer}

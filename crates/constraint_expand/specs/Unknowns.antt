@@ -7,7 +7,7 @@ use Rattle.type_hierarchy.specs.Decls.{Name}
 use Rattle.type_hierarchy.specs.Table.{TypeTable}
 use Rattle.body_facts.specs.Writing.{ListNames}
 use Rattle.body_facts.specs.Mentions.{Mention, mention, unknown_in}
-use Rattle.placed_statements.specs.Placings.{PlacedTree}
+use Rattle.grammar_files.specs.Placings.{PlacedTree}
 use Rattle.constraint_expand.specs.Statements.{name_of, place_of, body_of, defines_type, adds_to_type}
 
 -- some statement defines a type of this name

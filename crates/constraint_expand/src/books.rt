@@ -1,7 +1,6 @@
 //! What a grammar's statements expand to.
 
-use fs_graph::Graph;
-use fs_paths::Feat;
+use fs_graph::{Feat, Graph};
 use fs_unify::TypeSystem;
 use tdl_reader::Status;
 use type_hierarchy::Ty;

@@ -8,18 +8,18 @@ ghost use Rattle.fs_unify.specs.Rules.{IsGrammar, system_of};
 ghost use Rattle.fs_unify.specs.Systems.{rules_of};
 ghost use Rattle.body_facts.specs.Writing.{list_names};
 ghost use Rattle.body_facts.specs.WordTables.{table_of};
-ghost use Rattle.placed_statements.specs.Placings.{placed_of};
+ghost use Rattle.grammar_files.specs.Placings.{placed_of};
 ghost use Rattle.constraint_expand.specs.Statements.{statement_at, defines_instance};
 ghost use Rattle.constraint_expand.specs.Conditions.{AreTypesFor};
 ghost use Rattle.constraint_expand.specs.Introducers.{numbers_of};
 ghost use Rattle.constraint_expand.specs.Systems.{settled_of, words_of, rules_in, instance_claims, IsSystemOf};
 ghost use Rattle.constraint_expand.specs.Books.{instance_of, IsBookOf};
 ghost use Rattle.constraint_expand.specs.Faults.{IsFaultOf};
-ghost use Rattle.constraint_expand.specs.Found.{IsIntroduced};
+ghost use Rattle.constraint_expand.specs.Found.{IsIntroduced, IsEarlyFault};
 ghost use Rattle.constraint_expand.specs.Shaped.{HaveClaimsIn, AreShaped, IsFaultyAmongInstances};
 
+use crate::OutOfMemory;
 use crate::books::{Book, Instance};
-use crate::fault::OutOfMemory;
 use crate::features::{features_written, in_order};
 use crate::missing::check_written;
 use crate::numbers::book_names;
@@ -30,19 +30,19 @@ use crate::unknown::check_names;
 use crate::writers::writers_by_feature;
 use body_facts::{Names, Words};
 use fs_unify::{Scratch, TypeFacts, TypeSystem};
-use placed_statements::{ExpandFault, Placed};
+use grammar_files::{ExpandFault, Placed};
 use std::alloc::Global;
 use type_hierarchy::{Ty, Types};
 
-// The features of a grammar and their introducers.
+/// The features of a grammar and their introducers.
 #[derive(Drop)]
-struct Introductions {
-    feats: Vec<String>,
-    introducers: Vec<Ty>,
+pub(crate) struct Introductions {
+    pub(crate) feats: Vec<String>,
+    pub(crate) introducers: Vec<Ty>,
 }
 
-// The features and their introducers, or the first fault that names or features have.
-fn introduce(
+/// The features and their introducers, or the first fault that names or features have.
+pub(crate) fn introduce(
     alloc: Global,
     types: &Types,
     statements: &[Placed],
@@ -50,7 +50,7 @@ fn introduce(
 ) -> Result<Introductions, ExpandFault>
     requires { AreTypesFor types.now (map placed_of statements.now) }
     ensures introduced { IfOk result (λ i. IsIntroduced types.now (settled_of names.now) (map placed_of statements.now) (texts i.feats.items) (numbers_of i.introducers.items)) }
-    ensures fault { IfErr result (IsFaultOf types.now (settled_of names.now) (map placed_of statements.now)) }
+    ensures fault { IfErr result (IsEarlyFault types.now (settled_of names.now) (map placed_of statements.now)) }
 {
     let _counts = types.counts();
     check_names(alloc, types, names, statements)?;
@@ -77,8 +77,8 @@ fn type_facts(
     rules_in(alloc, &words, statements)
 }
 
-// The type system of introductions and the facts of types.
-fn system_with(
+/// The type system of introductions and the facts of types.
+pub(crate) fn system_with(
     alloc: Global,
     types: Types,
     statements: &[Placed],
@@ -100,8 +100,8 @@ fn system_with(
     Ok(system)
 }
 
-// The words of bodies over these types, names and features.
-fn words_over<'a>(
+/// The words of bodies over these types, names and features.
+pub(crate) fn words_over<'a>(
     alloc: Global,
     types: &'a Types,
     names: &'a Names,

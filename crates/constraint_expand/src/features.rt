@@ -8,16 +8,16 @@ ghost use Rattle.tdl_reader.specs.Views.{body_in};
 ghost use Rattle.type_hierarchy.specs.Decls.{texts};
 ghost use Rattle.body_facts.specs.Writing.{list_names};
 ghost use Rattle.body_facts.specs.BracketUses.{body_uses};
-ghost use Rattle.placed_statements.specs.Placings.{placed_of};
+ghost use Rattle.grammar_files.specs.Placings.{placed_of};
 ghost use Rattle.constraint_expand.specs.Kinds.{picks};
 ghost use Rattle.constraint_expand.specs.Features.{uses_in, features_used, AreFeatures};
 ghost use Rattle.constraint_expand.specs.Found.{with_each, features_under};
 
-use crate::fault::OutOfMemory;
+use crate::OutOfMemory;
 use crate::kinds::{Kind, body_under};
 use body_facts::{Names, uses};
+use grammar_files::Placed;
 use indexmap::IndexSet;
-use placed_statements::Placed;
 use std::alloc::Global;
 use tdl_reader::Body;
 

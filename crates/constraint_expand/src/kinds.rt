@@ -2,12 +2,14 @@
 
 ghost use Rattle.std.specs.Prelude.{◌≡◌, MatchOption, true, false};
 ghost use Rattle.tdl_reader.specs.Views.{body_in};
-ghost use Rattle.placed_statements.specs.Placings.{placed_of};
+ghost use Rattle.grammar_files.specs.Placings.{placed_of};
 ghost use Rattle.constraint_expand.specs.Statements.{body_of};
 ghost use Rattle.constraint_expand.specs.Kinds.{picks};
 
-use placed_statements::Placed;
-use placed_statements::statements::{adds_to_type, body_written, defines_instance, defines_type};
+use grammar_files::Placed;
+use grammar_files::placed_statements::{
+    adds_to_type, body_written, defines_instance, defines_type,
+};
 use tdl_reader::Body;
 
 /// Which statements are looked at: definitions of types and addenda to them, or definitions of instances.

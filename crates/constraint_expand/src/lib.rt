@@ -2,8 +2,8 @@
 #![tactic(auto)]
 
 mod books;
+mod definitions;
 mod expansion;
-mod fault;
 mod features;
 mod introducers;
 mod kinds;
@@ -18,5 +18,7 @@ mod writers;
 
 pub use body_facts::Names;
 pub use books::{Book, BookNames, Instance};
+pub use definitions::{Typed, definition_claims, type_system};
 pub use expansion::expand;
-pub use placed_statements::{ExpandFault, Placed};
+pub use grammar_files::{ExpandFault, Placed};
+pub use std::alloc::AllocError as OutOfMemory;

@@ -5,7 +5,7 @@ ghost use Rattle.std.specs.Str.{bytes_eq};
 ghost use Rattle.type_hierarchy.specs.Decls.{Name};
 ghost use Rattle.constraint_expand.specs.Notes.{noted};
 
-use crate::fault::OutOfMemory;
+use crate::OutOfMemory;
 use indexmap::IndexMap;
 use std::alloc::Global;
 

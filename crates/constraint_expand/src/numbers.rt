@@ -6,10 +6,10 @@ ghost use Rattle.type_hierarchy.specs.Named.{type_named};
 ghost use Rattle.constraint_expand.specs.Systems.{settled_of};
 ghost use Rattle.constraint_expand.specs.Books.{feature_named, numbered_of, numbered_in};
 
+use crate::OutOfMemory;
 use crate::books::BookNames;
-use crate::fault::OutOfMemory;
 use body_facts::Names;
-use fs_paths::Feat;
+use fs_graph::Feat;
 use std::alloc::Global;
 use type_hierarchy::{Ty, Types};
 

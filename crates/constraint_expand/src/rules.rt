@@ -4,23 +4,23 @@ ghost use Rattle.std.specs.Prelude.{◌≡◌, ◌<◌, ◌++◌, ◌∷◌, [],
 ghost use Rattle.tdl_reader.specs.Trees.{no_terms};
 ghost use Rattle.tdl_reader.specs.Views.{body_in};
 ghost use Rattle.type_hierarchy.specs.Decls.{Name};
-ghost use Rattle.fs_paths.specs.Facts.{claims_of};
+ghost use Rattle.fs_graph.specs.Facts.{claims_of};
 ghost use Rattle.fs_unify.specs.Systems.{rules_of};
 ghost use Rattle.body_facts.specs.WordTables.{table_of};
-ghost use Rattle.placed_statements.specs.Placings.{placed_of};
+ghost use Rattle.grammar_files.specs.Placings.{placed_of};
 ghost use Rattle.constraint_expand.specs.Statements.{statement_at, defines_type};
 ghost use Rattle.constraint_expand.specs.Systems.{said_by, rule_of, rules_in};
 ghost use Rattle.constraint_expand.specs.Notes.{noted};
 ghost use Rattle.constraint_expand.specs.Found.{place_by, addenda_places};
 
-use crate::fault::OutOfMemory;
+use crate::OutOfMemory;
 use crate::notes::{note, noted};
 use body_facts::{Words, facts};
-use fs_paths::Fact;
+use fs_graph::Fact;
 use fs_unify::TypeFacts;
+use grammar_files::Placed;
+use grammar_files::placed_statements::{adds_to_type, body_written, defines_type, name_of};
 use indexmap::IndexMap;
-use placed_statements::Placed;
-use placed_statements::statements::{adds_to_type, body_written, defines_type, name_of};
 use std::alloc::Global;
 use type_hierarchy::Ty;
 

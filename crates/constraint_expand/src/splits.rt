@@ -6,18 +6,18 @@ ghost use Rattle.fs_model.specs.Claims.{Has};
 ghost use Rattle.type_hierarchy.specs.Decls.{Name, texts};
 ghost use Rattle.type_hierarchy.specs.Named.{type_named};
 ghost use Rattle.type_hierarchy.specs.Table.{count_of};
-ghost use Rattle.placed_statements.specs.Placings.{placed_of};
+ghost use Rattle.grammar_files.specs.Placings.{placed_of};
 ghost use Rattle.constraint_expand.specs.Statements.{name_of, defines_type, IsFirstAmong, HoldsOfNone};
 ghost use Rattle.constraint_expand.specs.Conditions.{IsDefined};
 ghost use Rattle.constraint_expand.specs.Introducers.{numbers_of, IsIntroducer};
 ghost use Rattle.constraint_expand.specs.Found.{numbers_noted, AreNoted, HasNoted, IsSplitOf, IsSplitHere, IsSplitAmong};
 
-use crate::fault::OutOfMemory;
+use crate::OutOfMemory;
 use crate::introducers::{Introduced, find_introducer};
 use crate::notes::noted;
+use grammar_files::placed_statements::{defines_type, name_of};
+use grammar_files::{ExpandFault, Placed};
 use indexmap::{IndexMap, IndexSet};
-use placed_statements::statements::{defines_type, name_of};
-use placed_statements::{ExpandFault, Placed};
 use std::alloc::Global;
 use type_hierarchy::{Ty, Types};
 

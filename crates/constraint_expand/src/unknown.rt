@@ -5,7 +5,7 @@ ghost use Rattle.type_hierarchy.specs.Decls.{Name};
 ghost use Rattle.body_facts.specs.Writing.{list_names};
 ghost use Rattle.body_facts.specs.Mentions.{mention_of, unknown_in};
 ghost use Rattle.tdl_reader.specs.Views.{body_in};
-ghost use Rattle.placed_statements.specs.Placings.{PlacedTree, placed_of};
+ghost use Rattle.grammar_files.specs.Placings.{PlacedTree, placed_of};
 ghost use Rattle.constraint_expand.specs.Statements.{HoldsOfNone, body_of};
 ghost use Rattle.constraint_expand.specs.Kinds.{picks};
 ghost use Rattle.constraint_expand.specs.Unknowns.{is_defined, own_unknown, unknown_of, NamesUnknown};
@@ -13,12 +13,12 @@ ghost use Rattle.constraint_expand.specs.Found.{has_text_key, defines_named, IsU
 ghost use Rattle.constraint_expand.specs.Faults.{AreKnown};
 ghost use Rattle.constraint_expand.specs.Systems.{settled_of};
 
-use crate::fault::OutOfMemory;
+use crate::OutOfMemory;
 use crate::kinds::{Kind, body_under};
 use body_facts::{Names, Unknown, first_unknown};
+use grammar_files::placed_statements::{adds_to_type, defines_type, name_of, place_of};
+use grammar_files::{ExpandFault, Placed};
 use indexmap::IndexSet;
-use placed_statements::statements::{adds_to_type, defines_type, name_of, place_of};
-use placed_statements::{ExpandFault, Placed};
 use std::alloc::Global;
 use tdl_reader::Body;
 use type_hierarchy::Types;

@@ -15,25 +15,10 @@ mod text;
 use counts::count_of_all;
 pub use names::is_named;
 pub use order::{compare, compare_counted, order_is_total};
-use std::alloc::{AllocError, AllocFailed, Global};
+pub use std::alloc::AllocError as NoMemory;
+use std::alloc::Global;
 use std::sync::Arc;
 pub use text::write;
-
-/// Memory was wanting.
-#[derive(Clone, Copy, Debug, PartialEq, Eq)]
-pub struct NoMemory;
-
-impl From<AllocError> for NoMemory {
-    fn from(_error: AllocError) -> NoMemory {
-        NoMemory
-    }
-}
-
-impl<T: Drop> From<AllocFailed<T>> for NoMemory {
-    fn from(_error: AllocFailed<T>) -> NoMemory {
-        NoMemory
-    }
-}
 
 /// A derivation of some words (Copestake 2002: the parse tree of a sentence).
 /// An instance of the grammar, an entry or a rule, is named by its place: its number in order of reading, from 0.

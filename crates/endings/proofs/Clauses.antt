@@ -164,7 +164,7 @@ module _ (m : Meaning) (h : Shelves) (o : Streams) (idle untouched : Type 0) whe
   no-usage (Err (Stopped Gaps)) s e = cc
   no-usage (Err (Stopped NoMemory)) s e = cc
 
-  pub grammar-so : (end : Result Bool Fault) → Ended m h o idle untouched end → status_of end ≡ GrammarStatus → (fault : FileFault) × Fails m h fault × (fault_text end ≡ fault.text) × untouched
+  pub grammar-so : (end : Result Bool Fault) → Ended m h o idle untouched end → status_of end ≡ GrammarStatus → (fault : FileFault) × Fails m h fault × (fault_text end ≡ fault.text ++ fault.details) × untouched
   grammar-so (Ok true) s e = cc
   grammar-so (Ok false) s e = cc
   grammar-so (Err (Usage text)) s e = absurd s
@@ -195,7 +195,7 @@ module _ (m : Meaning) (h : Shelves) (o : Streams) (idle untouched : Type 0) whe
   no-grammar (Err (Stopped NoMemory)) laws s n = inr refl
 
   abbrev Told : Result Bool Fault → FileFault → Type 0
-  Told end fault = (status_of end ≡ NoMemoryStatus) ⊎ ((status_of end ≡ GrammarStatus) × (fault_text end ≡ fault.text))
+  Told end fault = (status_of end ≡ NoMemoryStatus) ⊎ ((status_of end ≡ GrammarStatus) × (told : FileFault) × m.first h.files (λ name. false) told × (told.text ≡ fault.text) × (fault_text end ≡ told.text ++ told.details))
 
   no-run : (files : List ℕ → Option (List ℕ)) (fault : FileFault) (end : Result Bool Stop) → Lawful m → h.files ≡ Some files → m.first (Some files) (λ name. false) fault → Ran m h o idle end → ⊥
   no-run files fault end laws e first s = laws.not_both files fault (subst m.loadable e (loaded laws end s)) first
@@ -205,8 +205,8 @@ module _ (m : Meaning) (h : Shelves) (o : Streams) (idle untouched : Type 0) whe
   first-so (Ok refused) files fault laws s e first calm = absurd (no-run files fault (Ok refused) laws e first s)
   first-so (Err (Usage text)) files fault laws s e first calm = absurd s
   first-so (Err (FilesFault text)) files fault laws s e first calm =
-      let own = subst (λ x. m.first x (λ name. false) s.0) e (laws.calm h s.0 s.1 calm) in
-      inr (refl, s.2 ∙ laws.one_first files s.0 fault own first)
+      let own = laws.calm h s.0 s.1 calm in
+      inr (refl, s.0, own, laws.one_first files s.0 fault (subst (λ x. m.first x (λ name. false) s.0) e own) first, s.2)
   first-so (Err (Stopped NoMemory)) files fault laws s e first calm = inl refl
   first-so (Err (Stopped Read)) files fault laws s e first calm = absurd (no-run files fault (Err Read) laws e first s)
   first-so (Err (Stopped TooLong)) files fault laws s e first calm = absurd (no-run files fault (Err TooLong) laws e first s)

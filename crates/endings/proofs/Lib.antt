@@ -8,3 +8,5 @@ pub mod Flushing
 pub mod Batching
 pub mod ToldLines
 pub mod Served
+pub mod NoteLemmas
+pub mod NotedClauses

@@ -5,7 +5,7 @@ use Rattle.std.proofs.lemmas.List.Folds.{concat-append}
 use Rattle.lkb_io.specs.Outside.{Adds, AddsFront}
 use Rattle.lkb_io.proofs.Told.{Adds-more}
 use Rattle.side_by_side.specs.Works.{AreGiven, no_thing, a_thing}
-use Rattle.endings.specs.declared.pieces.Report.{Report}
+use Rattle.endings.specs.declared.lines.Answer.{Answer}
 use Rattle.endings.specs.declared.Stop.{Stop}
 use Rattle.endings.specs.declared.Stop.TheVariants.{Read, TooLong, TooMany, Write, Gaps, NoMemory}
 use Rattle.endings.specs.Reports.{AreAnswers, no_line, a_line, OrNoMemory, answered, no_memory, no_memory_line}
@@ -21,16 +21,19 @@ items v = v.items
 
 -- ---- what was given of lines is told of them
 
-pub given-told : (answers : Answers) (number place n : ℕ) (lines : List (Vec ℕ Global)) (told : List (Option Report)) → n ≡ number + place
-    → AreGiven (λ k line a. IsTold answers (number + k) line.items a) place lines told → AreTold answers n (map items lines) (lines_of_all n told) (is_one_refused told) (is_one_wanting told)
-given-told answers number _ n _ _ e (no_thing place) = none_told n
-given-told answers number _ n _ _ e (a_thing place line lines (Some report) told h rest) =
-    one_told n line.items (map items lines) (map items report.lines.items) (lines_of_all (suc n) told) report.refused (is_one_refused told) (is_one_wanting told)
-    (subst (λ k. answers k line.items (map items report.lines.items) report.refused) (sym e) h)
-    (given-told answers number (suc place) (suc n) lines told (omega (arith, e)) rest)
-given-told answers number _ n _ _ e (a_thing place line lines None told h rest) =
+abbrev Notes : Type 1
+Notes = ℕ → List ℕ → List ℕ → Type 0
+
+pub given-told : (answers : Answers) (notes : Notes) (number place n : ℕ) (lines : List (Vec ℕ Global)) (told : List (Option Answer)) → n ≡ number + place
+    → AreGiven (λ k line a. IsTold answers notes (number + k) line.items a) place lines told → AreTold answers n (map items lines) (lines_of_all n told) (is_one_refused told) (is_one_wanting told)
+given-told answers notes number _ n _ _ e (no_thing place) = none_told n
+given-told answers notes number _ n _ _ e (a_thing place line lines (Some a) told h rest) =
+    one_told n line.items (map items lines) (map items a.report.lines.items) (lines_of_all (suc n) told) a.report.refused (is_one_refused told) (is_one_wanting told)
+    (subst (λ k. answers k line.items (map items a.report.lines.items) a.report.refused) (sym e) h.0)
+    (given-told answers notes number (suc place) (suc n) lines told (omega (arith, e)) rest)
+given-told answers notes number _ n _ _ e (a_thing place line lines None told h rest) =
     one_gap n line.items (map items lines) (lines_of_all (suc n) told) (is_one_refused told) (is_one_wanting told)
-    (given-told answers number (suc place) (suc n) lines told (omega (arith, e)) rest)
+    (given-told answers notes number (suc place) (suc n) lines told (omega (arith, e)) rest)
 
 -- ---- what is told of some lines and then of others
 
@@ -80,7 +83,7 @@ gaps-only answers n (line ∷ lines) = let r = gaps-only answers (suc n) lines i
 
 -- ---- the lines that are written, up to a place
 
-split : (n m : ℕ) (told : List (Option Report)) (i : ℕ) (a : Option Report) → i < length told → get_or told i a ≡ a → m ≡ n + i
+split : (n m : ℕ) (told : List (Option Answer)) (i : ℕ) (a : Option Answer) → i < length told → get_or told i a ≡ a → m ≡ n + i
     → lines_of_all n told ≡ lines_of_all n (take i told) ++ (told_lines m a ++ lines_of_all (suc m) (drop (suc i) told))
 split n m [] i a h e k = absurd (omega (arith, h))
 split n m (b ∷ told) zero a h e k =
@@ -90,7 +93,7 @@ split n m (b ∷ told) (suc i) a h e k =
     ap (λ t. told_lines n b ++ t) (split (suc n) m told i a (omega (arith, h)) e (omega (arith, k)))
     ∙ sym (append_assoc (told_lines n b) (lines_of_all (suc n) (take i told)) (told_lines m a ++ lines_of_all (suc m) (drop (suc i) told)))
 
-more : (n m : ℕ) (told : List (Option Report)) (i : ℕ) (a : Option Report) → i < length told → get_or told i a ≡ a → m ≡ n + i → lines_of_all n (take (suc i) told) ≡ lines_of_all n (take i told) ++ told_lines m a
+more : (n m : ℕ) (told : List (Option Answer)) (i : ℕ) (a : Option Answer) → i < length told → get_or told i a ≡ a → m ≡ n + i → lines_of_all n (take (suc i) told) ≡ lines_of_all n (take i told) ++ told_lines m a
 more n m [] i a h e k = absurd (omega (arith, h))
 more n m (b ∷ told) zero a h e k =
     let same : m ≡ n = omega (arith, k) in
@@ -100,14 +103,14 @@ more n m (b ∷ told) (suc i) a h e k =
     ∙ sym (append_assoc (told_lines n b) (lines_of_all (suc n) (take i told)) (told_lines m a))
 
 -- one line more is told
-pub told-more : (n m : ℕ) (told : List (Option Report)) (i : ℕ) (a : Option Report) (x y z : Option (List ℕ)) → i < length told → get_or told i a ≡ a → m ≡ n + i
+pub told-more : (n m : ℕ) (told : List (Option Answer)) (i : ℕ) (a : Option Answer) (x y z : Option (List ℕ)) → i < length told → get_or told i a ≡ a → m ≡ n + i
     → Adds x y (concat (lines_of_all n (take i told))) → Adds y z (concat (told_lines m a)) → Adds x z (concat (lines_of_all n (take (suc i) told)))
 told-more n m told i a x y z h e k before own =
     subst (Adds x z) (sym (ap concat (more n m told i a h e k) ∙ concat-append (lines_of_all n (take i told)) (told_lines m a)))
     (Adds-more x y z (concat (lines_of_all n (take i told))) (concat (told_lines m a)) before own)
 
 -- all lines before this one were told, and a front of this one
-pub told-front : (n m : ℕ) (told : List (Option Report)) (i : ℕ) (a : Option Report) (x y z : Option (List ℕ)) → i < length told → get_or told i a ≡ a → m ≡ n + i
+pub told-front : (n m : ℕ) (told : List (Option Answer)) (i : ℕ) (a : Option Answer) (x y z : Option (List ℕ)) → i < length told → get_or told i a ≡ a → m ≡ n + i
     → Adds x y (concat (lines_of_all n (take i told))) → AddsFront y z (concat (told_lines m a)) → AddsFront x z (concat (lines_of_all n told))
 told-front n m told i a x y z h e k before front =
     let rest = lines_of_all (suc m) (drop (suc i) told) in
@@ -158,7 +161,7 @@ put-as X text old new faults_old faults_new Gaps p = p
 put-as X text old new faults_old faults_new NoMemory p = p
 
 -- a stop at one line
-pub put-front : (n : ℕ) (told : List (Option Report)) (i : ℕ) (a : Option Report) (x y z : Option (List ℕ)) (faults_old faults_mid faults_new : ℕ) (stop : Stop) → i < length told → get_or told i a ≡ a
+pub put-front : (n : ℕ) (told : List (Option Answer)) (i : ℕ) (a : Option Answer) (x y z : Option (List ℕ)) (faults_old faults_mid faults_new : ℕ) (stop : Stop) → i < length told → get_or told i a ≡ a
     → Adds x y (concat (lines_of_all n (take i told))) → faults_old ≤ faults_mid → IsToldPut {X = Unit {0}} (concat (told_lines (n + i) a)) y z faults_mid faults_new (Err stop) → IsToldPut {X = Unit {0}} (concat (lines_of_all n told)) x z faults_old faults_new (Err stop)
 put-front n told i a x y z faults_old faults_mid faults_new Read h e before le p = absurd p
 put-front n told i a x y z faults_old faults_mid faults_new TooLong h e before le p = absurd p

@@ -54,7 +54,7 @@ IsReadThrough m left = m.reads ≡ true → IsAtEnd left
 abbrev pub Ended : Meaning → Shelves → Streams → (idle untouched : Type 0) → Result Bool Fault → Type 0
 Ended m h o idle untouched (Ok refused) = Ran m h o idle (Ok refused)
 Ended m h o idle untouched (Err (Usage text)) = ⊥
-Ended m h o idle untouched (Err (FilesFault text)) = (fault : FileFault) × Fails m h fault × (text.items ≡ fault.text) × untouched
+Ended m h o idle untouched (Err (FilesFault text)) = (fault : FileFault) × Fails m h fault × (text.items ≡ fault.text ++ fault.details) × untouched
 Ended m h o idle untouched (Err (Stopped NoMemory)) = untouched ⊎ Ran m h o idle (Err NoMemory)
 Ended m h o idle untouched (Err (Stopped stop)) = Ran m h o idle (Err stop)
 
@@ -121,7 +121,7 @@ Tells old new faults_old faults_new text = AddsFront old new text × ((HasRisen 
 
 -- Why nothing came of a command's files: their first fault, or want of memory.
 abbrev pub NotCome : Meaning → Shelves → Fault → Type 0
-NotCome m h (FilesFault text) = (fault : FileFault) × Fails m h fault × (text.items ≡ fault.text)
+NotCome m h (FilesFault text) = (fault : FileFault) × Fails m h fault × (text.items ≡ fault.text ++ fault.details)
 NotCome m h (Stopped NoMemory) = Unit {0}
 NotCome m h fault = ⊥
 

@@ -1,6 +1,6 @@
 -- The commands that write one text.
 use Rattle.std.specs.Prelude.{◌≡◌, ℕ, List, [], ◌∷◌, false}
-use Rattle.endings.specs.Meanings.{Meaning, gapless}
+use Rattle.endings.specs.Meanings.{Meaning, gapless, no_notes}
 
 -- a command that writes this text: its report has one line, whatever files and lines are
 abbrev pub plain_meaning : List ℕ → Meaning
@@ -11,4 +11,5 @@ plain_meaning text = record {
   first = λ files fails fault. ⊥;
   report = λ files lines pieces refused. (pieces ≡ text ∷ []) × (refused ≡ false);
   with_gaps = gapless (λ files lines pieces refused. (pieces ≡ text ∷ []) × (refused ≡ false));
+  notes = no_notes;
 }

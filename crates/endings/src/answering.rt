@@ -3,8 +3,7 @@ ghost use Rattle.std.specs.Prelude.{ℕ, ◌+◌, ◌<◌, ◌≤◌, ◌^◌, L
 ghost use Rattle.side_by_side.specs.Works.{AreGiven};
 ghost use Rattle.endings.specs.Inner.Batches.{IsTold};
 
-use crate::lines::{Answers, NoMemory, Share};
-use crate::pieces::Report;
+use crate::lines::{Answer, Answers, NoMemory, Share};
 use side_by_side::{Work, each_by};
 use std::alloc::{AllocError, Global};
 use std::sync::Wait;
@@ -19,13 +18,13 @@ struct LineWork<'c, C> {
     number: u64,
 }
 
-impl<'c, C: Answers> Work<Vec<u8>, Option<Report>> for LineWork<'c, C> {
+impl<'c, C: Answers> Work<Vec<u8>, Option<Answer>> for LineWork<'c, C> {
     ghost use Rattle.std.specs.Prelude.{◌+◌, ◌<◌, ◌^◌};
     ghost use Rattle.endings.specs.Inner.Batches.{IsTold};
 
     ghost ready = { λ w place line. C.ready w.command.now × (w.number + place < 2 ^ 64) };
 
-    ghost Gives = { λ w place line told. IsTold (C.IsAnswer w.command.now) (w.number + place) line.items told };
+    ghost Gives = { λ w place line told. IsTold (C.IsAnswer w.command.now) (C.IsNote w.command.now) (w.number + place) line.items told };
 
     fn perform<Rt: Threads + Wait + Sync>(
         &self,
@@ -33,7 +32,7 @@ impl<'c, C: Answers> Work<Vec<u8>, Option<Report>> for LineWork<'c, C> {
         alloc: Global,
         place: u64,
         line: &Vec<u8>,
-    ) -> Result<Option<Report>, AllocError> {
+    ) -> Result<Option<Answer>, AllocError> {
         // (the gate was told of the line, and isn't told of what is done within it)
         let number = self.number + place;
         Ok(told_by(
@@ -57,12 +56,12 @@ fn told_by<C: Answers, Rt: Threads + Wait + Sync>(
     line: &[u8],
     share: Share,
     gate: &dyn Gate,
-) -> Option<Report>
+) -> Option<Answer>
     requires ready { C.ready command.now }
-    ensures { IsTold (C.IsAnswer command.now) number line.now result }
+    ensures { IsTold (C.IsAnswer command.now) (C.IsNote command.now) number line.now result }
 {
     match command.answer(rt, alloc, number, line, share, gate) {
-        Ok(report) => Some(report),
+        Ok(answer) => Some(answer),
         Err(NoMemory) => None,
     }
 }
@@ -74,9 +73,9 @@ fn told_by_one<C: Answers, Rt: Threads + Wait + Sync>(
     command: &C,
     number: u64,
     line: &[u8],
-) -> Option<Report>
+) -> Option<Answer>
     requires ready { C.ready command.now }
-    ensures { IsTold (C.IsAnswer command.now) number line.now result }
+    ensures { IsTold (C.IsAnswer command.now) (C.IsNote command.now) number line.now result }
 {
     told_by(rt, alloc, command, number, line, Share::Single, &OpenGate)
 }
@@ -89,9 +88,9 @@ fn told_alone<C: Answers, Rt: Threads + Wait + Sync>(
     number: u64,
     line: &[u8],
     gate: &dyn Gate,
-) -> Option<Report>
+) -> Option<Answer>
     requires ready { C.ready command.now }
-    ensures { IsTold (C.IsAnswer command.now) number line.now result }
+    ensures { IsTold (C.IsAnswer command.now) (C.IsNote command.now) number line.now result }
 {
     let told = told_by(rt, alloc, command, number, line, Share::Whole, gate);
     if told.is_some() || command.workers() == 1 {
@@ -107,12 +106,12 @@ fn answer_again<C: Answers, Rt: Threads + Wait + Sync>(
     command: &C,
     number: u64,
     lines: &[Vec<u8>],
-    told: &mut Vec<Option<Report>>,
+    told: &mut Vec<Option<Answer>>,
 )
     requires ready { C.ready command.now }
     requires room { number + length lines.now ≤ 2 ^ 64 }
-    requires told { AreGiven (λ place line a. IsTold (C.IsAnswer command.now) (number + place) line.items a) 0 lines.now told.old.items }
-    ensures { AreGiven (λ place line a. IsTold (C.IsAnswer command.now) (number + place) line.items a) 0 lines.now told.new.items }
+    requires told { AreGiven (λ place line a. IsTold (C.IsAnswer command.now) (C.IsNote command.now) (number + place) line.items a) 0 lines.now told.old.items }
+    ensures { AreGiven (λ place line a. IsTold (C.IsAnswer command.now) (C.IsNote command.now) (number + place) line.items a) 0 lines.now told.new.items }
 {
     for place in 0..lines.len() {
         if told[place].is_none() {
@@ -130,10 +129,10 @@ pub(crate) fn answer_in_turn<C: Answers, Rt: Threads + Wait + Sync>(
     number: u64,
     lines: &[Vec<u8>],
     gate: &dyn Gate,
-) -> Result<Vec<Option<Report>>, NoMemory>
+) -> Result<Vec<Option<Answer>>, NoMemory>
     requires ready { C.ready command.now }
     requires room { number + length lines.now ≤ 2 ^ 64 }
-    ensures { IfOk result (λ told. AreGiven (λ place line a. IsTold (C.IsAnswer command.now) (number + place) line.items a) 0 lines.now told.items) }
+    ensures { IfOk result (λ told. AreGiven (λ place line a. IsTold (C.IsAnswer command.now) (C.IsNote command.now) (number + place) line.items a) 0 lines.now told.items) }
 {
     let mut told = Vec::with_capacity(alloc, lines.len())?;
     for place in 0..lines.len() {
@@ -158,10 +157,10 @@ pub(crate) fn answer_apart<C: Answers + Sync, Rt: Threads + Wait + Sync>(
     number: u64,
     lines: &[Vec<u8>],
     gate: &dyn Gate,
-) -> Result<Vec<Option<Report>>, NoMemory>
+) -> Result<Vec<Option<Answer>>, NoMemory>
     requires ready { C.ready command.now }
     requires room { number + length lines.now ≤ 2 ^ 64 }
-    ensures { IfOk result (λ told. AreGiven (λ place line a. IsTold (C.IsAnswer command.now) (number + place) line.items a) 0 lines.now told.items) }
+    ensures { IfOk result (λ told. AreGiven (λ place line a. IsTold (C.IsAnswer command.now) (C.IsNote command.now) (number + place) line.items a) 0 lines.now told.items) }
 {
     if lines.len() > 1 {
         let work = LineWork { command, number };

@@ -16,6 +16,8 @@ pub(crate) struct Kept {
     pub(crate) pace: Pace,
     pub(crate) wanting: bool,
     pub(crate) note: Vec<u8>,
+    // whether the error stream has failed
+    pub(crate) failed: bool,
 }
 
 // How many bytes the longest line has that tells that memory was wanting for an item.
@@ -23,12 +25,14 @@ const NOTE_BYTES: usize = 40;
 
 /// What is kept before the first line.
 pub(crate) fn nothing_kept(alloc: Global, workers: u32) -> Result<Kept, NoMemory>
-    ensures { IfOk result (λ k. k.wanting ≡ false) }
+    ensures wanting { IfOk result (λ k. k.wanting ≡ false) }
+    ensures failed { IfOk result (λ k. k.failed ≡ false) }
 {
     Ok(Kept {
         pace: Pace::new(workers),
         wanting: false,
         note: Vec::with_capacity(alloc, NOTE_BYTES)?,
+        failed: false,
     })
 }
 

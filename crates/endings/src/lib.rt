@@ -1,7 +1,7 @@
 //! How a run of the program ends: over any command, that reads lines or none.
 #![tactic(auto)]
 
-ghost use Rattle.std.specs.Prelude.{◌≡◌, ◌++◌, ◌⊎◌, ℕ, List, Bool, Option, Some, Result, Ok, true, false};
+ghost use Rattle.std.specs.Prelude.{◌≡◌, ◌++◌, ◌⊎◌, ◌≤◌, ℕ, List, Bool, Option, Some, Result, Ok, true, false};
 ghost use Rattle.std.specs.List.{concat};
 ghost use Rattle.std.specs.Thread.{IsSync};
 ghost use Rattle.lkb_io.specs.Outside.{HasRisen};
@@ -10,6 +10,7 @@ ghost use Rattle.endings.specs.Meanings.{Meaning, Lawful, FileFault, Fails, shel
 ghost use Rattle.endings.specs.Readings.{AreReadable};
 ghost use Rattle.endings.specs.Reports.{IsPut, output, streams};
 ghost use Rattle.endings.specs.Endings.{Ended, RanInPart, RanWithGaps, StopsReading, IsFaultless, IsWhole, IsReadThrough, Tells, word_text, fault_text, status_of, is_items};
+ghost use Rattle.endings.specs.Notes.{AreNoted, IsNoted, TellsBoth};
 ghost use Rattle.endings.specs.declared.Fault.{Fault};
 
 mod answering;
@@ -18,6 +19,7 @@ mod gathering;
 pub mod in_turn;
 mod kept;
 pub mod lines;
+mod noting;
 mod pace;
 pub mod pieces;
 pub mod plain;
@@ -55,7 +57,7 @@ pub enum Stop {
 pub enum Fault {
     /// The words of the command line are outside the form. This text follows the usage text.
     Usage(Vec<u8>),
-    /// The command's files have a fault, which is told by this line.
+    /// The command's files have a fault, which is told by this line, and by the lines that follow it where they are asked for.
     Files(Vec<u8>),
     /// The run stopped, at a line or for want of memory.
     Stopped(Stop),
@@ -120,19 +122,21 @@ pub trait Command {
     fn lawful(&self)
         ensures { Lawful (meaning self.now) };
 
-    /// Does what the command says. `Ok` tells whether something is refused.
-    fn perform<S: Shelf, I: Source, O: Sink, Rt: Threads + Wait + Sync>(
+    /// Does what the command says, and tells on `err` the notes on lines, if it has any. `Ok` tells whether something is refused.
+    fn perform<S: Shelf, I: Source, O: Sink, X: Sink, Rt: Threads + Wait + Sync>(
         &self,
         rt: &Rt,
         alloc: Global,
         shelf: &mut S,
         input: &mut I,
         out: &mut O,
+        err: &mut X,
         gate: &dyn Gate,
     ) -> Result<bool, Fault>
         requires { IsSync Rt.row }
         ensures ended { Ended (meaning self.now) (shelves S.files S.faults S.asked shelf.old shelf.new) (streams I.left I.faults O.written O.flushed O.faults input.old input.new out.old out.new)
             (input.new ≡ input.old) ((input.new ≡ input.old) × (out.new ≡ out.old)) result }
+        ensures noted { IsNoted (meaning self.now) (S.files shelf.old) (I.left input.old) (I.left input.new) (output X.written X.flushed X.faults err.old err.new) result }
         ensures unopened { (meaning self.now).opens ≡ false → shelf.new ≡ shelf.old };
 }
 
@@ -195,6 +199,7 @@ pub fn conclude<X: Sink>(err: &mut X, end: &Result<bool, Fault>) -> Status
     ensures status { result ≡ status_of end.now }
     ensures tells { Tells (X.written err.old) (X.written err.new) (X.faults err.old) (X.faults err.new) (fault_text end.now) }
     ensures silent { (refused : _) → end.now ≡ Ok refused → err.new ≡ err.old }
+    ensures no_fall { X.faults err.old ≤ X.faults err.new }
 {
     if end.is_err() {
         let _told = tell(err, end);
@@ -202,7 +207,7 @@ pub fn conclude<X: Sink>(err: &mut X, end: &Result<bool, Fault>) -> Status
     status_at(end)
 }
 
-/// Does what the command says, tells a fault on `err` by its text, and ends with the command's status. A fault of
+/// Does what the command says, tells on `err` its notes on lines and then a fault by its text, and ends with the command's status. A fault of
 /// `err` itself changes nothing. What the workers are, and when the gate lets them go on, no clause names.
 pub fn run_command<C: Command, S: Shelf, I: Source, O: Sink, X: Sink, Rt: Threads + Wait + Sync>(
     rt: &Rt,
@@ -214,11 +219,12 @@ pub fn run_command<C: Command, S: Shelf, I: Source, O: Sink, X: Sink, Rt: Thread
     err: &mut X,
     gate: &dyn Gate,
 ) -> Status
-    // How the run ended. The status, and what was told of a fault, are those of this end.
+    // How the run ended. The status, the notes, and what was told of a fault, are those of this end.
     ensures ended { let h = shelves S.files S.faults S.asked shelf.old shelf.new in
         let o = streams I.left I.faults O.written O.flushed O.faults input.old input.new out.old out.new in
         (end : Result Bool Fault) × Ended (C.meaning command.now) h o (input.new ≡ input.old) ((input.new ≡ input.old) × (out.new ≡ out.old)) end
-        × (result ≡ status_of end) × Tells (X.written err.old) (X.written err.new) (X.faults err.old) (X.faults err.new) (fault_text end) }
+        × (result ≡ status_of end) × (notes : List ℕ) × AreNoted (C.meaning command.now) (S.files shelf.old) (I.left input.old) (I.left input.new) notes end
+        × TellsBoth (X.written err.old) (X.written err.new) (X.faults err.old) (X.faults err.new) notes (fault_text end) }
 
     // The headline: after `Done` and `Items` the bytes written are the report over all lines of the input, which was
     // read to its end. It is `Items` where something is refused, and `Done` where nothing is.
@@ -227,7 +233,11 @@ pub fn run_command<C: Command, S: Shelf, I: Source, O: Sink, X: Sink, Rt: Thread
         → (pieces : List (List ℕ)) × (C.meaning command.now).report (S.files shelf.old) (lines_of bytes) pieces (is_items result)
         × (after ≡ before ++ concat pieces) × IsReadThrough (C.meaning command.now) (I.left input.new) }
     ensures flushed { (result ≡ Status.Done) ⊎ (result ≡ Status.Items) → O.flushed out.new ≡ O.written out.new }
-    ensures silent { (result ≡ Status.Done) ⊎ (result ≡ Status.Items) → err.new ≡ err.old }
+
+    // Then exactly the notes on all lines are told, which are none for most commands.
+    ensures noted { (bytes : List ℕ) → (result ≡ Status.Done) ⊎ (result ≡ Status.Items) → I.left input.old ≡ Some bytes
+        → (notes : List ℕ) × (C.meaning command.now).notes (S.files shelf.old) false (lines_of bytes) notes
+        × Tells (X.written err.old) (X.written err.new) (X.faults err.old) (X.faults err.new) notes }
 
     // A command is never outside the form of the words. One that has no files leaves the shelf as it was.
     ensures no_usage { result ≡ Status.Usage → ⊥ }
@@ -237,15 +247,15 @@ pub fn run_command<C: Command, S: Shelf, I: Source, O: Sink, X: Sink, Rt: Thread
     // Nothing is read of the input, and nothing written to `out`.
     ensures grammar { let h = shelves S.files S.faults S.asked shelf.old shelf.new in
         result ≡ Status.Grammar → (fault : FileFault) × Fails (C.meaning command.now) h fault
-        × Tells (X.written err.old) (X.written err.new) (X.faults err.old) (X.faults err.new) fault.text
+        × Tells (X.written err.old) (X.written err.new) (X.faults err.old) (X.faults err.new) (fault.text ++ fault.details)
         × (input.new ≡ input.old) × (out.new ≡ out.old) }
     ensures no_grammar { ((C.meaning command.now).loadable (S.files shelf.old) → ⊥) → (result ≡ Status.Grammar) ⊎ (result ≡ Status.NoMemory) }
 
-    // Where the shelf tells its files and counts no fault, it is their first fault that is told.
+    // Where the shelf tells its files and counts no fault, it is their first fault that is told: its line, and then what may follow it.
     ensures first_fault { (files : List ℕ → Option (List ℕ)) (fault : FileFault) → S.files shelf.old ≡ Some files
         → (C.meaning command.now).first (Some files) (λ name. false) fault → (HasRisen (S.faults shelf.old) (S.faults shelf.new) → ⊥)
-        → (result ≡ Status.NoMemory) ⊎ ((result ≡ Status.Grammar)
-        × Tells (X.written err.old) (X.written err.new) (X.faults err.old) (X.faults err.new) fault.text) }
+        → (result ≡ Status.NoMemory) ⊎ ((result ≡ Status.Grammar) × (told : FileFault) × (C.meaning command.now).first (Some files) (λ name. false) told
+        × (told.text ≡ fault.text) × Tells (X.written err.old) (X.written err.new) (X.faults err.old) (X.faults err.new) (told.text ++ told.details)) }
 
     // `ReadFault` only where the source failed, a line is too long, or a line has no number; and always where a line
     // can't be read. Exactly the report over the lines before was written.
@@ -283,8 +293,10 @@ pub fn run_command<C: Command, S: Shelf, I: Source, O: Sink, X: Sink, Rt: Thread
     ensures one_report { (files : List ℕ → Option (List ℕ)) (lines pieces others : List (List ℕ)) (refused may : Bool)
         → (C.meaning command.now).report (Some files) lines pieces refused → (C.meaning command.now).report (Some files) lines others may
         → (pieces ≡ others) × (refused ≡ may) }
+    ensures one_notes { (files : List ℕ → Option (List ℕ)) (lines : List (List ℕ)) (text other : List ℕ)
+        → (C.meaning command.now).notes (Some files) false lines text → (C.meaning command.now).notes (Some files) false lines other → text ≡ other }
 {
     command.lawful();
-    let end = command.perform(rt, alloc, shelf, input, out, gate);
+    let end = command.perform(rt, alloc, shelf, input, out, err, gate);
     conclude(err, &end)
 }

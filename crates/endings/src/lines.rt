@@ -1,37 +1,24 @@
 //! The run over lines: each line of a source is answered, and the answer written.
-ghost use Rattle.std.specs.Prelude.{◌≡◌, ℕ, ◌+◌, ◌<◌, ◌≤◌, ◌^◌, ◌||◌, List, [], Bool, false, length, map, IfOk, OnErr};
+ghost use Rattle.std.specs.Prelude.{◌≡◌, ℕ, ◌+◌, ◌<◌, ◌≤◌, ◌^◌, ◌||◌, List, [], Bool, true, false, length, map, IfOk, OnErr};
 ghost use Rattle.std.specs.Thread.{IsSync};
 ghost use Rattle.lkb_io.specs.Outside.{HasRisen, Adds};
-ghost use Rattle.endings.specs.Reports.{AreAnswers, OrNoMemory, Served, streams};
-ghost use Rattle.endings.specs.Inner.Batches.{Ends, IsFlag, ServedBatch, Told};
+ghost use Rattle.endings.specs.Reports.{AreAnswers, OrNoMemory, Served, output, streams};
+ghost use Rattle.endings.specs.Notes.{AreNotes, no_note, OrNone, AreAllNotes, Noted};
+ghost use Rattle.endings.specs.Inner.Batches.{Ends, EndNotes, IsFlag, IsNotedSoFar, ServedBatch, TellsMore, Told};
 
 use crate::Stop;
 use crate::answering::answer_apart;
 use crate::gathering::read_batch;
 use crate::kept::{Kept, either, ended, flush_before_read, nothing_kept};
+use crate::noting::{Nobody, put_notes};
 use crate::pieces::{Report, flush_at_stop};
 use crate::telling::{is_one_refused, is_one_wanting, put_told};
 use lkb_io::{Failed, Held, LineFault, Sink, Source};
-use std::alloc::{AllocError, AllocFailed, Global};
+pub use std::alloc::AllocError as NoMemory;
+use std::alloc::Global;
 use std::sync::Wait;
 use std::thread::Threads;
 use worker_gate::Gate;
-
-/// Memory was wanting.
-#[derive(Clone, Copy, Debug, PartialEq, Eq)]
-pub struct NoMemory;
-
-impl From<AllocError> for NoMemory {
-    fn from(_: AllocError) -> NoMemory {
-        NoMemory
-    }
-}
-
-impl<T: Drop> From<AllocFailed<T>> for NoMemory {
-    fn from(_: AllocFailed<T>) -> NoMemory {
-        NoMemory
-    }
-}
 
 /// What a line has of the workers.
 #[derive(Clone, Copy, Debug, PartialEq, Eq)]
@@ -42,6 +29,13 @@ pub enum Share {
     Single,
 }
 
+/// The answer to a line: its report, and the note on it, which is told on the error stream with its end, or empty.
+#[derive(Drop)]
+pub struct Answer {
+    pub report: Report,
+    pub note: Vec<u8>,
+}
+
 /// What answers lines.
 pub trait Answers {
     /// What is known of an object that answers: a fact that is no proposition can't stand in a field of it.
@@ -49,6 +43,9 @@ pub trait Answers {
 
     /// The report lines that answer the line of this number, and whether the line is refused.
     ghost IsAnswer: { Self → ℕ → List ℕ → List (List ℕ) → Bool → Type 0 };
+
+    /// The note on the line of this number, which is told on the error stream where notes are.
+    ghost IsNote: { Self → ℕ → List ℕ → List ℕ → Type 0 } = { λ _. no_note };
 
     /// How many workers there are, at least one. It changes no answer.
     fn workers(&self) -> u32
@@ -63,10 +60,11 @@ pub trait Answers {
         line: &[u8],
         share: Share,
         gate: &dyn Gate,
-    ) -> Result<Report, NoMemory>
+    ) -> Result<Answer, NoMemory>
         requires sync { IsSync Rt.row }
         requires ready { ready self.now }
-        ensures { IfOk result (λ a. IsAnswer self.now number line.now (map (λ l. l.items) a.lines.items) a.refused) };
+        ensures report { IfOk result (λ a. IsAnswer self.now number line.now (map (λ l. l.items) a.report.lines.items) a.report.refused) }
+        ensures note { IfOk result (λ a. IsNote self.now number line.now a.note.items) };
 }
 
 impl From<LineFault> for Stop {
@@ -104,7 +102,7 @@ impl From<NoMemory> for Stop {
 }
 
 // Answers some lines, the first of this number, and sets the pace by it. `Ok` tells whether one is refused.
-fn serve_batch<C: Answers + Sync, O: Sink, Rt: Threads + Wait + Sync>(
+fn serve_batch<C: Answers + Sync, O: Sink, X: Sink, Rt: Threads + Wait + Sync>(
     rt: &Rt,
     alloc: Global,
     command: &C,
@@ -112,6 +110,7 @@ fn serve_batch<C: Answers + Sync, O: Sink, Rt: Threads + Wait + Sync>(
     lines: &[Vec<u8>],
     kept: &mut Kept,
     out: &mut O,
+    err: &mut X,
     gate: &dyn Gate,
 ) -> Result<bool, Stop>
     requires ready { C.ready command.now }
@@ -119,28 +118,37 @@ fn serve_batch<C: Answers + Sync, O: Sink, Rt: Threads + Wait + Sync>(
     ensures outcome { ServedBatch (C.IsAnswer command.now) number (map (λ l. l.items) lines.now) (O.written out.old) (O.written out.new) (O.faults out.old) (O.faults out.new)
         kept.old.wanting kept.new.wanting result }
     ensures no_fall { O.faults out.old ≤ O.faults out.new }
+    ensures held { kept.old.wanting ≡ true → kept.new.wanting ≡ true }
+    ensures noted { IfOk result (λ _. (text : List ℕ) × AreNotes (OrNone kept.new.wanting (C.IsNote command.now)) number (map (λ l. l.items) lines.now) text
+        × TellsMore kept.old.failed kept.new.failed (X.written err.old) (X.written err.new) (X.faults err.old) (X.faults err.new) text) }
+    ensures unnoted { OnErr result ((err.new ≡ err.old) × (kept.new.failed ≡ kept.old.failed)) }
 {
     let told = answer_apart(rt, alloc, command, number, lines, gate)?;
     kept.pace.heed(&told);
     kept.wanting = either(kept.wanting, is_one_wanting(&told));
     put_told(out, number, &told, &mut kept.note)?;
+    put_notes(err, &told, &mut kept.failed);
     Ok(is_one_refused(&told))
 }
 
 // Answers all lines of the source, and flushes the sink at the end and before the source is asked for more.
-fn serve_lines<C: Answers + Sync, I: Source, O: Sink, Rt: Threads + Wait + Sync>(
+fn serve_lines<C: Answers + Sync, I: Source, O: Sink, X: Sink, Rt: Threads + Wait + Sync>(
     rt: &Rt,
     alloc: Global,
     command: &C,
     input: &mut I,
     out: &mut O,
+    err: &mut X,
     kept: &mut Kept,
     gate: &dyn Gate,
 ) -> Result<bool, Stop>
     requires ready { C.ready command.now }
     requires none_yet { kept.old.wanting ≡ false }
-    ensures { (wanting : Bool) × IsFlag result false wanting kept.new.wanting
+    requires calm { kept.old.failed ≡ false }
+    ensures ends { (wanting : Bool) × IsFlag result false wanting kept.new.wanting
         × Ends (Told (C.IsAnswer command.now) wanting) (streams I.left I.faults O.written O.flushed O.faults input.old input.new out.old out.new) result }
+    ensures noted { (text : List ℕ) × EndNotes (AreNotes (OrNone kept.new.wanting (C.IsNote command.now)) 1) (I.left input.old) (I.left input.new) text result
+        × IsNotedSoFar kept.new.failed (X.written err.old) (X.written err.new) (X.faults err.old) (X.faults err.new) text }
 {
     let mut held = Held::new(alloc);
     let mut refused = false;
@@ -156,7 +164,17 @@ fn serve_lines<C: Answers + Sync, I: Source, O: Sink, Rt: Threads + Wait + Sync>
             kept.pace.lines().min(u64::MAX - count),
             &mut lines,
         );
-        let batch_refused = serve_batch(rt, alloc, command, count + 1, &lines, kept, out, gate)?;
+        let batch_refused = serve_batch(
+            rt,
+            alloc,
+            command,
+            count + 1,
+            &lines,
+            kept,
+            out,
+            err,
+            gate,
+        )?;
         refused = refused || batch_refused;
         let came = read?;
         if came == 0 {
@@ -170,7 +188,34 @@ fn serve_lines<C: Answers + Sync, I: Source, O: Sink, Rt: Threads + Wait + Sync>
 
 /// Answers all lines of the source by an object that is ready. `Ok` tells whether a line was refused. A line for which memory is wanting is
 /// told to be so, and the next one is answered; the run then ends with `Gaps`. The sink is flushed at the end, where the run stops, and
-/// before the source is asked for more.
+/// before the source is asked for more. The notes on lines are told on `err`, those of a batch after its reports; a fault of `err` changes
+/// nothing, and no note is told after it.
+pub fn serve_noted<C: Answers + Sync, I: Source, O: Sink, X: Sink, Rt: Threads + Wait + Sync>(
+    rt: &Rt,
+    alloc: Global,
+    command: &C,
+    input: &mut I,
+    out: &mut O,
+    err: &mut X,
+    gate: &dyn Gate,
+) -> Result<bool, Stop>
+    requires { C.ready command.now }
+    ensures served { Served (AreAnswers (C.IsAnswer command.now) 1) (AreAnswers (OrNoMemory (C.IsAnswer command.now)) 1)
+        (streams I.left I.faults O.written O.flushed O.faults input.old input.new out.old out.new) result }
+    ensures noted { Noted (AreAllNotes (C.IsNote command.now)) (I.left input.old) (I.left input.new) (output X.written X.flushed X.faults err.old err.new) result }
+{
+    let mut kept = nothing_kept(alloc, command.workers())?;
+    let end = serve_lines(rt, alloc, command, input, out, err, &mut kept, gate);
+    match end {
+        Ok(refused) => ended(Ok(refused), kept.wanting),
+        Err(stop) => {
+            flush_at_stop(out);
+            ended(Err(stop), kept.wanting)
+        }
+    }
+}
+
+/// The same where nobody is told of notes.
 pub fn serve<C: Answers + Sync, I: Source, O: Sink, Rt: Threads + Wait + Sync>(
     rt: &Rt,
     alloc: Global,
@@ -183,13 +228,5 @@ pub fn serve<C: Answers + Sync, I: Source, O: Sink, Rt: Threads + Wait + Sync>(
     ensures { Served (AreAnswers (C.IsAnswer command.now) 1) (AreAnswers (OrNoMemory (C.IsAnswer command.now)) 1)
         (streams I.left I.faults O.written O.flushed O.faults input.old input.new out.old out.new) result }
 {
-    let mut kept = nothing_kept(alloc, command.workers())?;
-    let end = serve_lines(rt, alloc, command, input, out, &mut kept, gate);
-    match end {
-        Ok(refused) => ended(Ok(refused), kept.wanting),
-        Err(stop) => {
-            flush_at_stop(out);
-            ended(Err(stop), kept.wanting)
-        }
-    }
+    serve_noted(rt, alloc, command, input, out, &mut Nobody, gate)
 }

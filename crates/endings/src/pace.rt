@@ -1,6 +1,7 @@
 //! How many lines a batch has.
 ghost use Rattle.std.specs.Prelude.{◌<◌};
 
+use crate::lines::Answer;
 use crate::pieces::Report;
 
 // How many lines the first batch has for each worker, and a later one at the most. Starting a thread takes some 45 microseconds and a
@@ -31,10 +32,10 @@ fn bytes_of(report: &Report) -> u64 {
 }
 
 // How many bytes the reports on some lines have.
-fn bytes_of_all(told: &[Option<Report>]) -> u64 {
+fn bytes_of_all(told: &[Option<Answer>]) -> u64 {
     let mut bytes: u64 = 0;
-    for report in told.iter().flatten() {
-        bytes = bytes.saturating_add(bytes_of(report));
+    for answer in told.iter().flatten() {
+        bytes = bytes.saturating_add(bytes_of(&answer.report));
     }
     bytes
 }
@@ -58,7 +59,7 @@ impl Pace {
     }
 
     /// This came of the lines of a batch.
-    pub(crate) fn heed(&mut self, told: &[Option<Report>]) {
+    pub(crate) fn heed(&mut self, told: &[Option<Answer>]) {
         if self.workers <= 1 {
             return;
         }

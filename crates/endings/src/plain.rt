@@ -22,13 +22,14 @@ impl Command for Plain {
 
     fn lawful(&self) {}
 
-    fn perform<S: Shelf, I: Source, O: Sink, Rt: Threads + Wait + Sync>(
+    fn perform<S: Shelf, I: Source, O: Sink, X: Sink, Rt: Threads + Wait + Sync>(
         &self,
         _rt: &Rt,
         _alloc: Global,
         _shelf: &mut S,
         _input: &mut I,
         out: &mut O,
+        _err: &mut X,
         _gate: &dyn Gate,
     ) -> Result<bool, Fault> {
         Ok(say(out, self.text)?)

@@ -5,23 +5,23 @@ ghost use Rattle.endings.specs.Reports.{no_memory_line};
 ghost use Rattle.endings.specs.Inner.Batches.{IsToldPut, told_lines, lines_of_all, is_one_refused, is_one_wanting};
 
 use crate::Stop;
-use crate::lines::NoMemory;
-use crate::pieces::{Report, put_lines};
+use crate::lines::{Answer, NoMemory};
+use crate::pieces::put_lines;
 use itoa::Buffer;
 use lkb_io::{Sink, put_all};
 
 /// Whether an answer tells that something is refused.
-pub(crate) fn is_one_refused(told: &[Option<Report>]) -> bool
+pub(crate) fn is_one_refused(told: &[Option<Answer>]) -> bool
     ensures { result ≡ is_one_refused told.now }
 {
     told.iter().any(|a| match a {
-        Some(report) => report.refused,
+        Some(answer) => answer.report.refused,
         None => false,
     })
 }
 
 /// Whether an answer is lacking.
-pub(crate) fn is_one_wanting(told: &[Option<Report>]) -> bool
+pub(crate) fn is_one_wanting(told: &[Option<Answer>]) -> bool
     ensures { result ≡ is_one_wanting told.now }
 {
     told.iter().any(|a| a.is_none())
@@ -53,14 +53,14 @@ fn put_note<O: Sink>(out: &mut O, number: u64, note: &mut Vec<u8>) -> Result<(),
 fn put_one<O: Sink>(
     out: &mut O,
     number: u64,
-    told: &Option<Report>,
+    told: &Option<Answer>,
     note: &mut Vec<u8>,
 ) -> Result<(), Stop>
     ensures put { IsToldPut (concat (told_lines number told.now)) (O.written out.old) (O.written out.new) (O.faults out.old) (O.faults out.new) result }
     ensures no_fall { O.faults out.old ≤ O.faults out.new }
 {
     match told {
-        Some(report) => Ok(put_lines(out, &report.lines)?),
+        Some(answer) => Ok(put_lines(out, &answer.report.lines)?),
         None => put_note(out, number, note),
     }
 }
@@ -70,7 +70,7 @@ fn put_one<O: Sink>(
 pub(crate) fn put_told<O: Sink>(
     out: &mut O,
     number: u64,
-    told: &[Option<Report>],
+    told: &[Option<Answer>],
     note: &mut Vec<u8>,
 ) -> Result<(), Stop>
     requires room { number + length told.now ≤ 2 ^ 64 }

@@ -4,12 +4,12 @@ use Rattle.std.specs.Prelude.{filter}
 use Rattle.std.specs.List.{AllZip, range_with_len}
 use Rattle.tdl_reader.specs.declared.Status.{Status}
 use Rattle.tdl_reader.specs.declared.Status.TheVariants.{TypeDef, Entry, LexRule, Rule, Root, Other}
-use Rattle.placed_statements.specs.Statements.{is_status}
+use Rattle.grammar_files.specs.Statements.{is_status}
 use Rattle.constraint_expand.specs.declared.books.Book.{Book}
 use Rattle.constraint_expand.specs.Books.{InstanceMap}
 use Rattle.book_shapes.specs.Shapes.{instances_of, entries_in}
 use Rattle.book_shapes.specs.Shapes as shapes
-use Rattle.item_model.specs.Signs.{Kind, Instance, Signs}
+use Rattle.tree_model.specs.Signs.{Kind, Instance, Signs}
 use Rattle.book_signs.specs.Signed.{kind_of, IsSignOf, IsSignsOf}
 use Rattle.book_signs.specs.Trees.{is_entry, is_lexical_rule, places_where, entries_of, lexical_rules_of}
 use Rattle.book_signs.proofs.SignLemmas.{zip_lengths}

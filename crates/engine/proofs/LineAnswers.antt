@@ -3,9 +3,9 @@ use Rattle.std.specs.Prelude.{ℕ, ◌≡◌}
 use Rattle.std.proofs.Common.{subst}
 use Rattle.chart_core.specs.declared.Limits.{Limits}
 use Rattle.morph_analysis.specs.Lattices.{LatticeTree}
-use Rattle.item_model.specs.Items.{Answer}
+use Rattle.tree_model.specs.Items.{Answer}
 use Rattle.lexical_items.specs.Seen.{lattice_seen}
-use Rattle.parse_items.specs.Answers.{IsParseAnswer}
+use Rattle.tree_model.specs.Answers.{IsParseAnswer}
 use Rattle.packed_items.specs.Answers.{limits_in}
 use Rattle.book_signs.specs.Trees.{signs_of}
 use Rattle.grammar_rules.specs.LineLeaves.{AreLineLeaves}

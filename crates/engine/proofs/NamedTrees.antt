@@ -9,13 +9,13 @@ use Rattle.chart_core.specs.declared.Limits as declared
 use Rattle.chart_core.specs.Kept.{InRange}
 use Rattle.derivation.specs.Trees.{Derivation, Daughters, lexical, phrase, no_more, first}
 use Rattle.derivation.specs.Text.{IsNamed, AreNamed}
-use Rattle.rule_model.specs.Structures.{Structure}
-use Rattle.item_model.specs.Signs.{Signs}
-use Rattle.item_model.specs.Lexical.{Words, FullUnder, under_next}
-use Rattle.item_model.specs.Trees.{Full, Fulls, full_lexical, full_phrase, more_fulls}
-use Rattle.item_model.specs.Items.{Limits, Answer, LexicalDepth, ByUnaryChain, ByEdges, Readings, Trees}
-use Rattle.parse_items.specs.Lattices.{Lattice}
-use Rattle.parse_items.specs.Answers.{IsParseAnswer}
+use Rattle.tree_model.specs.Structures.{Structure}
+use Rattle.tree_model.specs.Signs.{Signs}
+use Rattle.tree_model.specs.Lexical.{Words, FullUnder, under_next}
+use Rattle.tree_model.specs.Trees.{Full, Fulls, full_lexical, full_phrase, more_fulls}
+use Rattle.tree_model.specs.Items.{Limits, Answer, LexicalDepth, ByUnaryChain, ByEdges, Readings, Trees}
+use Rattle.tree_model.specs.Lattices.{Lattice}
+use Rattle.tree_model.specs.Answers.{IsParseAnswer}
 use Rattle.packed_items.specs.Answers.{limits_in}
 use Rattle.engine.specs.Named as inner
 

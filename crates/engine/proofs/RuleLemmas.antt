@@ -4,8 +4,8 @@ use Rattle.std.specs.Prelude.{All, slice_get}
 use Rattle.std.proofs.lemmas.List.Elements.{All-nil, All-cons}
 use Rattle.fs_model.specs.Claims.{Path, Has, here, there}
 use Rattle.fs_model.specs.Sources.{Source}
-use Rattle.rule_model.specs.Mothers.{Rule}
-use Rattle.item_model.specs.Signs.{Kind, an_entry, a_lexical_rule, a_phrase_rule, a_root, another, Instance, Signs, is_phrase_rule, phrase_rules, placed_rules}
+use Rattle.tree_model.specs.Mothers.{Rule}
+use Rattle.tree_model.specs.Signs.{Kind, an_entry, a_lexical_rule, a_phrase_rule, a_root, another, Instance, Signs, is_phrase_rule, phrase_rules, placed_rules}
 use Rattle.book_signs.specs.Trees.{rule_at, facts_at, places_at, places_where, phrase_rules_of, HasArity, HaveArities}
 use Rattle.engine.specs.Inner.Ruled.{IsPhraseRuleAt}
 

@@ -6,14 +6,14 @@ use Rattle.fs_model.specs.Claims.{Path}
 use Rattle.fs_model.specs.Sources.{IsSameStructure}
 use Rattle.fs_graph.specs.GraphMap.{GraphMap, type_at, reader_of}
 use Rattle.fs_unify.specs.Rules.{Grammar, system_of}
-use Rattle.rule_model.specs.Said.{SameViews, source_said}
+use Rattle.tree_model.specs.Said.{SameViews, source_said}
 use Rattle.closed_lists.specs.Names.{ListTree}
 use Rattle.closed_lists.specs.Lists.{IsAtOrBelow, arc_named, Elements, ends, goes_on, HasList}
-use Rattle.instance_shapes.specs.Shapes.{is_rule}
+use Rattle.book_shapes.specs.Daughters.{is_rule}
 use Rattle.constraint_expand.specs.declared.books.Book.{Book}
 use Rattle.constraint_expand.specs.Books.{Numbered, numbered_of, InstanceMap}
 use Rattle.book_shapes.specs.Shapes.{lists_of, instances_of}
-use Rattle.item_model.specs.Signs.{Instance, Signs}
+use Rattle.tree_model.specs.Signs.{Instance, Signs}
 use Rattle.book_signs.specs.Signed.{kind_of, known_of, paths_in, facts_of, element_path, AreDaughters, ArePlaces, of_rule, of_other, IsSignOf, IsSignsOf}
 use Rattle.grammar_load.specs.Outcomes.{IsSameInstance, IsSameBook}
 use Rattle.grammar_load.proofs.SameLists.{walk_on, Meets}

@@ -5,29 +5,29 @@ use Rattle.fs_unify.specs.Rules.{system_of}
 use Rattle.fs_unify.proofs.GivenLemmas.{order_of_laws}
 use Rattle.type_hierarchy.specs.Laws.{HasTypeLaws}
 use Rattle.type_hierarchy.specs.Table.{TypeTable}
-use Rattle.placed_statements.specs.Placings.{PlacedTree}
+use Rattle.grammar_files.specs.Placings.{PlacedTree}
 use Rattle.constraint_expand.specs.declared.books.Book.{Book}
 use Rattle.constraint_expand.specs.Systems.{Settled}
 use Rattle.constraint_expand.specs.Books.{IsBookOf}
-use Rattle.word_lists.specs.Words.{Each}
+use Rattle.lexicon.specs.Words.{Each}
 use Rattle.lexicon.specs.Entries.{EntryTree}
 use Rattle.spelling_rules.specs.Trees.{SpellingTree}
-use Rattle.rule_model.specs.Said.{SameViews}
-use Rattle.item_model.specs.Signs.{Signs}
+use Rattle.tree_model.specs.Said.{SameViews}
+use Rattle.tree_model.specs.Signs.{Signs}
 use Rattle.lexical_items.specs.Said.{words_said}
 use Rattle.book_shapes.specs.Shapes.{instances_of, HasItsDaughters}
 use Rattle.book_signs.specs.Signed.{IsSignsOf, IsOnly}
 use Rattle.book_signs.specs.Conditions.{IsWhole}
 use Rattle.book_signs.specs.Trees.{entries_of, lexical_rules_of}
-use Rattle.grammar_model.specs.Expanding.{names_by}
-use Rattle.grammar_reading.specs.Reads.{ReadTree}
+use Rattle.grammar_load.specs.Expanding.{names_by}
+use Rattle.grammar_files.specs.Reads.{ReadTree}
 use Rattle.grammar_load.specs.Loaded.{GrammarTree, IsGrammarOf}
 use Rattle.grammar_load.specs.Loads.{Makes, makes, loads}
 use Rattle.grammar_load.specs.Outcomes.{IsSameGrammar}
 use Rattle.grammar_load.proofs.OneSystem.{tree-laws}
-use Rattle.command_grammars.specs.Grammars.{HasGrammar}
+use Rattle.command_files.specs.Grammars.{HasGrammar}
 use Rattle.endings.specs.Meanings.{Files}
-use Rattle.mrs_paths.specs.Settled.{paths_said}
+use Rattle.mrs_places.specs.Settled.{paths_said}
 use Rattle.mrs_lines.specs.Lines.{Semantics}
 use Rattle.grammar_names.specs.Fitting.{mrs_paths_of}
 use Rattle.engine.specs.Speeches.{Speech, IsSpeechOf}

@@ -1,10 +1,10 @@
 -- What is known of the trees of an answer.
 use Rattle.std.specs.Prelude.{ℕ, ◌<◌, ◌^◌, All, length}
 use Rattle.derivation.specs.Text.{IsNamed}
-use Rattle.rule_model.specs.Structures.{Structure}
-use Rattle.item_model.specs.Signs.{Signs}
-use Rattle.item_model.specs.Items.{Answer, Trees}
-use Rattle.item_model.specs.Trees.{Full}
+use Rattle.tree_model.specs.Structures.{Structure}
+use Rattle.tree_model.specs.Signs.{Signs}
+use Rattle.tree_model.specs.Items.{Answer, Trees}
+use Rattle.tree_model.specs.Trees.{Full}
 
 -- each place in the trees of an answer is that of one of so many names
 abbrev pub AreNamed : ℕ → Answer → Type 0

@@ -1,7 +1,7 @@
 -- A grammar as whoever answers lines with it sees it.
 use Rattle.std.specs.Prelude.{ℕ, ◌≡◌, List, Option, length}
-use Rattle.item_model.specs.Signs.{Signs}
-use Rattle.item_model.specs.Lexical.{Words}
+use Rattle.tree_model.specs.Signs.{Signs}
+use Rattle.tree_model.specs.Lexical.{Words}
 use Rattle.morph_analysis.specs.Lattices.{LatticeTree, steps_from}
 use Rattle.item_reports.specs.Sentences.{words_of_line}
 use Rattle.mrs_lines.specs.Lines.{Semantics}
@@ -10,7 +10,7 @@ use Rattle.book_signs.specs.Signed.{IsSignsOf}
 use Rattle.book_signs.specs.Trees.{entries_of, lexical_rules_of}
 use Rattle.lexical_items.specs.Said.{words_said}
 use Rattle.endings.specs.Meanings.{Files}
-use Rattle.command_grammars.specs.Grammars.{HasGrammar}
+use Rattle.command_files.specs.Grammars.{HasGrammar}
 use Rattle.grammar_names.specs.Fitting.{mrs_paths_of}
 
 -- its signs, what is said of words, the names of its instances, and where MRSs stand

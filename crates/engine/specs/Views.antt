@@ -2,7 +2,7 @@
 use Rattle.std.specs.Prelude.{ℕ, List, map, string_bytes}
 use Rattle.lexicon.specs.Entries.{EntryTree}
 use Rattle.spelling_rules.specs.Trees.{SpellingTree}
-use Rattle.item_model.specs.Signs.{Signs}
+use Rattle.tree_model.specs.Signs.{Signs}
 use Rattle.lexical_items.specs.Said.{words_said}
 use Rattle.book_signs.specs.Trees.{signs_of, entries_of, lexical_rules_of}
 use Rattle.mrs_places.specs.Paths.{paths_of}

@@ -1,11 +1,11 @@
 //! The paths at which types are compared.
 
 ghost use Rattle.std.specs.Prelude.{◌≡◌, map, option_map, IfOk};
-ghost use Rattle.fs_paths.specs.Facts.{path_of};
+ghost use Rattle.fs_graph.specs.Facts.{path_of};
 ghost use Rattle.engine.specs.Checks.{path_known, paths_known};
 
 use crate::NoMemory;
-use fs_paths::Feat;
+use fs_graph::Feat;
 use std::alloc::Global;
 
 // A path of features that the grammar has; none where it lacks one.

@@ -2,7 +2,7 @@
 
 use crate::NoMemory;
 use book_signs::Cut;
-use fs_paths::{Feat, PathList};
+use fs_graph::{Feat, PathList};
 use grammar_shapes::PhraseRule;
 use std::alloc::Global;
 

@@ -7,9 +7,9 @@ ghost use Rattle.morph_analysis.specs.LatticeViews.{lattice_of};
 ghost use Rattle.engine.specs.Speeches.{lattice_of_words};
 
 use item_reports::words_of_line;
+use lexicon::NoMemory;
 use morph_analysis::Lattice;
 use std::alloc::Global;
-use word_lists::NoMemory;
 
 /// The lattice of the words of a line. More words than a `u32` can number count as want of memory.
 pub fn lattice_of_words(alloc: Global, line: &str) -> Result<Lattice, NoMemory>

@@ -5,7 +5,7 @@ ghost use Rattle.chart_core.specs.Kept.{InRange};
 ghost use Rattle.morph_analysis.specs.Lattices.{IsValid};
 ghost use Rattle.morph_analysis.specs.LatticeViews.{lattice_of};
 ghost use Rattle.lexical_items.specs.Seen.{lattice_seen};
-ghost use Rattle.parse_items.specs.Answers.{IsParseAnswer};
+ghost use Rattle.tree_model.specs.Answers.{IsParseAnswer};
 ghost use Rattle.packed_items.specs.Answers.{limits_in};
 ghost use Rattle.grammar_load.specs.Views.{grammar_of};
 ghost use Rattle.book_signs.specs.Trees.{signs_of};

@@ -21,19 +21,18 @@ use grammar_load::Grammar;
 use grammar_rules::{RunMemory, run_shapes};
 use grammar_shapes::GrammarShapes;
 use morph_analysis::Feeds;
-use mrs_paths::mrs_paths;
-use mrs_places::MrsPaths;
+use mrs_places::{MrsPaths, mrs_paths};
 use std::alloc::Global;
 use std::sync::Wait;
 use std::thread::Threads;
 use worker_gate::Gate;
 
-/// What is done with an engine, and with two things that it changes.
-pub trait Use<A, B> {
+/// What is done with an engine, and with three things that it changes.
+pub trait Use<A, B, C> {
     type Out;
 
-    /// What is given, by the grammar and as its lines see it, of two things as they were and as they are left.
-    ghost Gives: { Self → GrammarTree → Speech → A → A → B → B → Self.Out → Type 0 };
+    /// What is given, by the grammar and as its lines see it, of three things as they were and as they are left.
+    ghost Gives: { Self → GrammarTree → Speech → A → A → B → B → C → C → Self.Out → Type 0 };
 
     /// Does it, with an engine that is ready.
     fn run<Rt: Threads + Wait + Sync>(
@@ -43,11 +42,12 @@ pub trait Use<A, B> {
         engine: &Engine<'_, '_, '_, '_, '_, '_, '_, '_, '_, '_>,
         a: &mut A,
         b: &mut B,
+        c: &mut C,
         gate: &dyn Gate,
     ) -> Self::Out
         requires sync { IsSync Rt.row }
         requires ready { IsReady engine.now }
-        ensures { Gives self.now (grammar_of engine.now.grammar.now) (speech_of engine.now) a.old a.new b.old b.new result };
+        ensures { Gives self.now (grammar_of engine.now.grammar.now) (speech_of engine.now) a.old a.new b.old b.new c.old c.new result };
 }
 
 // What is made of signs: the phrase rules over abstract structures, which lexical rule may follow which, and where MRSs stand.
@@ -82,7 +82,7 @@ fn parts_of<'x>(
 }
 
 // Lends what was made, with a memory for lines. What that is made of has one lifetime, so that it is let go as a whole.
-fn with_parts<'x, A, B, U: Use<A, B>, Rt: Threads + Wait + Sync>(
+fn with_parts<'x, A, B, C, U: Use<A, B, C>, Rt: Threads + Wait + Sync>(
     rt: &Rt,
     alloc: Global,
     grammar: &'x Grammar,
@@ -91,6 +91,7 @@ fn with_parts<'x, A, B, U: Use<A, B>, Rt: Threads + Wait + Sync>(
     job: &U,
     a: &mut A,
     b: &mut B,
+    c: &mut C,
     gate: &dyn Gate,
 ) -> Result<U::Out, NoMemory>
     requires sync { IsSync Rt.row }
@@ -100,9 +101,9 @@ fn with_parts<'x, A, B, U: Use<A, B>, Rt: Threads + Wait + Sync>(
     requires shapes { AreShapesOf signs.now parts.now.shapes }
     requires feeds { AreFeedsOf signs.now parts.now.feeds }
     requires paths { paths_of parts.now.paths ≡ mrs_paths_of (grammar_of grammar.now) }
-    ensures none { OnErr result ((a.new ≡ a.old) × (b.new ≡ b.old)) }
+    ensures none { OnErr result ((a.new ≡ a.old) × (b.new ≡ b.old) × (c.new ≡ c.old)) }
     ensures given { IfOk result (λ out. (speech : Speech) × IsSpeechOf (grammar_of grammar.now) speech
-        × U.Gives job.now (grammar_of grammar.now) speech a.old a.new b.old b.new out) }
+        × U.Gives job.now (grammar_of grammar.now) speech a.old a.new b.old b.new c.old c.new out) }
 {
     let shapes = run_shapes(alloc, &parts.shapes)?;
     let shared = RunMemory::new(alloc, signs, &parts.shapes)?;
@@ -115,11 +116,11 @@ fn with_parts<'x, A, B, U: Use<A, B>, Rt: Threads + Wait + Sync>(
         paths: &parts.paths,
     };
     engine.laws();
-    Ok(job.run(rt, alloc, &engine, a, b, gate))
+    Ok(job.run(rt, alloc, &engine, a, b, c, gate))
 }
 
 // The same where what is lent was made at another lifetime.
-fn with_lent<'x, 'y, A, B, U: Use<A, B>, Rt: Threads + Wait + Sync>(
+fn with_lent<'x, 'y, A, B, C, U: Use<A, B, C>, Rt: Threads + Wait + Sync>(
     rt: &Rt,
     alloc: Global,
     grammar: &'x Grammar,
@@ -128,6 +129,7 @@ fn with_lent<'x, 'y, A, B, U: Use<A, B>, Rt: Threads + Wait + Sync>(
     job: &U,
     a: &mut A,
     b: &mut B,
+    c: &mut C,
     gate: &dyn Gate,
 ) -> Result<U::Out, NoMemory>
     requires sync { IsSync Rt.row }
@@ -137,15 +139,15 @@ fn with_lent<'x, 'y, A, B, U: Use<A, B>, Rt: Threads + Wait + Sync>(
     requires shapes { AreShapesOf signs.now parts.now.shapes }
     requires feeds { AreFeedsOf signs.now parts.now.feeds }
     requires paths { paths_of parts.now.paths ≡ mrs_paths_of (grammar_of grammar.now) }
-    ensures none { OnErr result ((a.new ≡ a.old) × (b.new ≡ b.old)) }
+    ensures none { OnErr result ((a.new ≡ a.old) × (b.new ≡ b.old) × (c.new ≡ c.old)) }
     ensures given { IfOk result (λ out. (speech : Speech) × IsSpeechOf (grammar_of grammar.now) speech
-        × U.Gives job.now (grammar_of grammar.now) speech a.old a.new b.old b.new out) }
+        × U.Gives job.now (grammar_of grammar.now) speech a.old a.new b.old b.new c.old c.new out) }
 {
-    with_parts(rt, alloc, grammar, &*signs, &*parts, job, a, b, gate)
+    with_parts(rt, alloc, grammar, &*signs, &*parts, job, a, b, c, gate)
 }
 
 // The same with what is made here of signs.
-fn with_signs<'x, A, B, U: Use<A, B>, Rt: Threads + Wait + Sync>(
+fn with_signs<'x, A, B, C, U: Use<A, B, C>, Rt: Threads + Wait + Sync>(
     rt: &Rt,
     alloc: Global,
     grammar: &'x Grammar,
@@ -153,41 +155,43 @@ fn with_signs<'x, A, B, U: Use<A, B>, Rt: Threads + Wait + Sync>(
     job: &U,
     a: &mut A,
     b: &mut B,
+    c: &mut C,
     gate: &dyn Gate,
 ) -> Result<U::Out, NoMemory>
     requires sync { IsSync Rt.row }
     requires loaded { IsLoaded (grammar_of grammar.now) }
     requires fits { IsWellNamed (grammar_of grammar.now) }
     requires book { signs.now.book ≡ grammar.now.book }
-    ensures none { OnErr result ((a.new ≡ a.old) × (b.new ≡ b.old)) }
+    ensures none { OnErr result ((a.new ≡ a.old) × (b.new ≡ b.old) × (c.new ≡ c.old)) }
     ensures given { IfOk result (λ out. (speech : Speech) × IsSpeechOf (grammar_of grammar.now) speech
-        × U.Gives job.now (grammar_of grammar.now) speech a.old a.new b.old b.new out) }
+        × U.Gives job.now (grammar_of grammar.now) speech a.old a.new b.old b.new c.old c.new out) }
 {
     let parts = parts_of(alloc, grammar, signs)?;
-    with_lent(rt, alloc, grammar, &*signs, &parts, job, a, b, gate)
+    with_lent(rt, alloc, grammar, &*signs, &parts, job, a, b, c, gate)
 }
 
 /// Makes an engine of a grammar, once, and lends it to a job, which is told what it may change. `NoMemory` comes where memory is wanting
 /// before the job begins; nothing has changed then.
-pub fn with_engine<A, B, U: Use<A, B>, Rt: Threads + Wait + Sync>(
+pub fn with_engine<A, B, C, U: Use<A, B, C>, Rt: Threads + Wait + Sync>(
     rt: &Rt,
     alloc: Global,
     grammar: &Grammar,
     job: &U,
     a: &mut A,
     b: &mut B,
+    c: &mut C,
     gate: &dyn Gate,
 ) -> Result<U::Out, NoMemory>
     requires sync { IsSync Rt.row }
     requires loaded { IsLoaded (grammar_of grammar.now) }
     requires whole { IsWhole grammar.now.book }
     requires fits { IsWellNamed (grammar_of grammar.now) }
-    ensures none { OnErr result ((a.new ≡ a.old) × (b.new ≡ b.old)) }
+    ensures none { OnErr result ((a.new ≡ a.old) × (b.new ≡ b.old) × (c.new ≡ c.old)) }
     ensures given { IfOk result (λ out. (speech : Speech) × IsSpeechOf (grammar_of grammar.now) speech
-        × U.Gives job.now (grammar_of grammar.now) speech a.old a.new b.old b.new out) }
+        × U.Gives job.now (grammar_of grammar.now) speech a.old a.new b.old b.new c.old c.new out) }
 {
     let Ok(signs) = SignBook::make(alloc, &grammar.book) else {
         return Err(NoMemory);
     };
-    with_signs(rt, alloc, grammar, &signs, job, a, b, gate)
+    with_signs(rt, alloc, grammar, &signs, job, a, b, c, gate)
 }

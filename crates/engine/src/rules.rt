@@ -14,7 +14,7 @@ use crate::NoMemory;
 use crate::checks::paths_known;
 use crate::compared::compared;
 use book_signs::{Cut, SignBook};
-use fs_paths::Feat;
+use fs_graph::Feat;
 use fs_unify::Scratch;
 use grammar_shapes::{GrammarShapes, PhraseRule};
 use lexical_items::feeds_of;

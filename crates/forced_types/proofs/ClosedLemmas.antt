@@ -10,8 +10,8 @@ use Rattle.fs_closing.proofs.HasLemmas.{Has-of_map}
 use Rattle.forced_types.specs.declared.given.Given.{Given}
 use Rattle.forced_types.specs.declared.nodes.Nodes.{Nodes}
 use Rattle.forced_types.specs.Forced.{IsWithin, IsPathIn, given_claim, given_front, same_exists, below_exists, prefix, same_refl, same_sym, same_trans, same_extend, same_type, introduced, met, raised, topped, constrained, constrained_front}
-use Rattle.forced_types.specs.Views.{source_of, part_of}
-use Rattle.forced_types.specs.Inner.Sound.{Forces, Covers, most_of, size_of, entry_in, path_in}
+use Rattle.forced_types.specs.Views.{part_of}
+use Rattle.forced_types.specs.Inner.Sound.{Forces, Covers, most_of, size_of, entry_in, path_in, source_in}
 use Rattle.forced_types.specs.Inner.Closed.{table_in, walk_in, IsFlat, SaysFrom, HoldsAt, IsClosed, Says}
 
 -- two paths that begin one path
@@ -101,8 +101,8 @@ module _ (g : Given) (t : Nodes) (closed : IsClosed g t) (laws : HasTypeLaws g.s
       let near = walk_near 0 m p closed.filled e in
       omega (arith, near, closed.root)
 
-  told_holds : (c : Claim) → Told (source_of g.parts.now) c → HoldsAt g.system.now.types t 0 (most_of g) c
-  told_holds _ (told_claim c h) = elim h [ ]
+  told_holds : (c : Claim) → Told (source_in g) c → HoldsAt g.system.now.types t 0 (most_of g) c
+  told_holds _ (told_claim c h) = closed.facts c h
   told_holds _ (told_part part c h tells) =
       let r = Has-of_map part_of part g.parts.now h in
       subst (λ (x : Part). (c : Claim) → Tells x.reader c → HoldsAt g.system.now.types t 0 (most_of g) (at x.place c)) (sym r.2) (closed.told r.0 r.1) c tells

@@ -10,3 +10,4 @@ mod ToldLemmas
 mod LoadLemmas
 mod SearchLemmas
 mod VerdictSteps
+mod RangeLemmas

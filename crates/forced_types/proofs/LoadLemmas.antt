@@ -1,8 +1,10 @@
--- What parts tell is forced.
-use Rattle.std.proofs.Common.{ℕ, zero, suc, ◌≡◌, ◌<◌, ◌≤◌, Some, List, [], ◌∷◌, ◌++◌, map, length, refl, sym, ◌∙◌, ap, subst, arith, append-nil, append_assoc, length-append}
+-- What parts tell is forced, and so is the root where facts are given.
+use Rattle.std.proofs.Common.{ℕ, zero, suc, ◌≡◌, ◌<◌, ◌≤◌, inl, Some, List, [], ◌∷◌, ◌++◌, map, length, refl, sym, ◌∙◌, ap, subst, arith, append-nil, append_assoc, length-append}
 use Rattle.fs_model.specs.Claims.{Path, Claim, exists_at, same, below, at, Has, here, there}
-use Rattle.fs_model.specs.Sources.{Told, told_part, Tells, tells_exists, tells_same, tells_below, Part}
+use Rattle.fs_model.specs.Sources.{Told, told_claim, told_part, Tells, tells_exists, tells_same, tells_below, Part}
 use Rattle.fs_model.proofs.TableLemmas.{walk-append, walk-step, walk_ends}
+use Rattle.fs_graph.specs.declared.facts.Fact.{Fact}
+use Rattle.fs_graph.specs.Facts.{claim_of, claims_of}
 use Rattle.fs_graph.specs.declared.graph.GraphArc.{GraphArc}
 use Rattle.fs_graph.specs.GraphMap.{GraphMap, IsGraph, reader_of, node_at, table_of, type_at, arcs_at}
 use Rattle.fs_closing.proofs.BesideLemmas.{rises_found}
@@ -11,8 +13,8 @@ use Rattle.forced_types.specs.declared.given.Given.{Given}
 use Rattle.forced_types.specs.declared.nodes.Image.{Image}
 use Rattle.forced_types.specs.declared.placed.PlacedGraph.{PlacedGraph}
 use Rattle.forced_types.specs.Forced.{given_claim, given_front}
-use Rattle.forced_types.specs.Views.{part_of, source_of}
-use Rattle.forced_types.specs.Inner.Sound.{Forces, AreFronts, IsImage, most_of, place_at, graph_at}
+use Rattle.forced_types.specs.Views.{part_of}
+use Rattle.forced_types.specs.Inner.Sound.{Forces, AreFronts, IsImage, most_of, place_at, graph_at, source_in}
 use Rattle.forced_types.proofs.ForcedLemmas.{forced_within}
 
 -- a part by its place in the list
@@ -25,7 +27,7 @@ part_has (p ∷ parts) zero h = here
 part_has (p ∷ parts) (suc i) h = there (part_has parts i (omega arith))
 
 module _ (g : Given) (i : ℕ) (i_in : i < length g.parts.now) where
-  told_at : (c : Claim) → Tells (reader_of (graph_at g.parts.now i)) c → Told (source_of g.parts.now) (at (place_at g.parts.now i) c)
+  told_at : (c : Claim) → Tells (reader_of (graph_at g.parts.now i)) c → Told (source_in g) (at (place_at g.parts.now i) c)
   told_at c tells = told_part (part_at g.parts.now i) c (part_has g.parts.now i i_in) tells
 
   pub forces_exists : (x : Path) (m : ℕ) → node_at (graph_at g.parts.now i) x ≡ Some m → length (place_at g.parts.now i ++ x) ≤ most_of g →
@@ -47,7 +49,7 @@ module _ (g : Given) (i : ℕ) (i_in : i < length g.parts.now) where
 -- the path of a node that was made for a node of a graph is within the bound
 pub image_short : (g : Given) (path : Path) (im : Image) (h : IsImage g.parts.now path im) → Forces g (exists_at path) → length (place_at g.parts.now im.part ++ h.inside) ≤ most_of g
 image_short g path im h f =
-    let w : length path ≤ most_of g = forced_within (system_of g.system.now) (most_of g) (Told (source_of g.parts.now)) (exists_at path) f in
+    let w : length path ≤ most_of g = forced_within (system_of g.system.now) (most_of g) (Told (source_in g)) (exists_at path) f in
     subst (λ x. length x ≤ most_of g) h.path_is w
 
 pub image_in : (g : Given) (path : Path) (im : Image) (h : IsImage g.parts.now path im) → IsGraph (graph_at g.parts.now im.part) → im.node < length (graph_at g.parts.now im.part).types
@@ -84,3 +86,14 @@ module _ (g : Given) (path : Path) (im : Image) (h : IsImage g.parts.now path im
       (subst (λ x. Forces g (same (place_at g.parts.now im.part ++ (h.inside ++ a.feat.0 ∷ [])) x)) (sym k.path_is)
       (forces_same g im.part h.part_in (h.inside ++ a.feat.0 ∷ []) k.inside a.to.0 on k.leads (longer_in l)
       (image_short g path' (record { part = im.part; node = a.to.0 }) k there')))
+
+pub root_given : (g : Given) (facts : List Fact) → g.facts.now ≡ facts → 0 < length facts → Forces g (exists_at [])
+root_given g [] is h = absurd (omega arith)
+root_given g (fact ∷ facts) is h =
+    let told : Told (source_in g) (claim_of fact) = told_claim (claim_of fact) (subst (λ l. Has (claim_of fact) (claims_of l)) (sym is) here) in
+    front (claim_of fact) told
+  where
+    front : (c : Claim) → Told (source_in g) c → Forces g (exists_at [])
+    front (exists_at p) t = given_front _ [] p t refl (omega arith)
+    front (same p q) t = given_front _ [] p t (inl refl) (omega arith)
+    front (below p u) t = given_front _ [] p t refl (omega arith)

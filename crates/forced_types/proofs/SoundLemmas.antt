@@ -14,7 +14,7 @@ use Rattle.forced_types.specs.declared.nodes.Image.{Image}
 use Rattle.forced_types.specs.declared.nodes.Nodes.{Nodes}
 use Rattle.forced_types.specs.declared.nodes.Pair.{Pair}
 use Rattle.forced_types.specs.Forced.{same_refl, topped}
-use Rattle.forced_types.specs.Views.{ArePartsIn}
+use Rattle.forced_types.specs.Views.{ArePartsIn, AreFactsIn}
 use Rattle.forced_types.specs.Inner.Entries.{Entry, no_entry, entry_of, entry_at, entries_of, Alters, Adds, fresh, IsTyped, IsArced, IsRaised}
 use Rattle.forced_types.specs.Inner.Sound.{Forces, IsImage, IsSoundAt, AreEntriesSound, IsPairSound, AreSound, KeepPaths, paths_in, size_of, entry_in, path_in}
 
@@ -73,6 +73,7 @@ changed_sound g t t' n R h a pairs e here' =
     let es' = entries_of t'.list.items in
     record {
       within = h.within;
+      facts_in = h.facts_in;
       entries = entries_changed g es es' n R h.entries a e here';
       pairs = λ x m. pair_kept g es es' x (h.pairs x (subst (Has x) pairs m)) (omega (arith, a.size)) (λ k _. altered_paths es es' n R a e k);
     }
@@ -175,6 +176,7 @@ module _ (g : Given) (t t' : Nodes) (path : Path) (image : Option Image) (is : A
   pub added_sound : AreSound g t → 0 < count_of g.system.now.types → size_of t' < 2 ^ 32 → Forces g (exists_at path) → ((im : Image) → image ≡ Some im → IsImage g.parts.now path im) → t'.pairs.items ≡ t.pairs.items → AreSound g t'
   added_sound h some small forced im pairs = record {
     within = h.within;
+    facts_in = h.facts_in;
     entries = record {
       filled = omega (arith, more);
       small = omega (arith, small, entry_count t');
@@ -213,15 +215,17 @@ pub same_sound : (g : Given) (t t' : Nodes) → entries_of t'.list.items ≡ ent
     AreSound g t → AreSound g t'
 same_sound g t t' e pairs h = record {
   within = h.within;
+  facts_in = h.facts_in;
   entries = subst (AreEntriesSound g) (sym e) h.entries;
   pairs = λ x m. subst (λ es. IsPairSound g es x) (sym e) (pairs x m);
 }
 
 -- the root alone is sound
-pub begun_sound : (g : Given) (t : Nodes) → ArePartsIn g.system.now g.parts.now → 0 < count_of g.system.now.types → Forces g (exists_at []) →
+pub begun_sound : (g : Given) (t : Nodes) → ArePartsIn g.system.now g.parts.now → AreFactsIn g.system.now g.facts.now → 0 < count_of g.system.now.types → Forces g (exists_at []) →
     entries_of t.list.items ≡ fresh 0 [] None ∷ [] → t.pairs.items ≡ [] → AreSound g t
-begun_sound g t within some forced is none = record {
+begun_sound g t within facts some forced is none = record {
   within = within;
+  facts_in = facts;
   entries = subst (AreEntriesSound g) (sym is) (record {
     filled = omega arith;
     small = omega arith;

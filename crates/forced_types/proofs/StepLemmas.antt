@@ -3,18 +3,17 @@ use Rattle.std.proofs.Common.{ℕ, ◌≡◌, ◌<◌, ◌≤◌, ◌+◌, ◌==
 use Rattle.std.proofs.lemmas.Bool.{eqb-true}
 use Rattle.std.proofs.lemmas.List.{length-map, get_or-map, take_more, take-append-drop}
 use Rattle.fs_model.specs.Claims.{Path, Claim, exists_at, same, below, at, Has, here, there}
-use Rattle.fs_model.specs.Sources.{Told}
-use Rattle.fs_paths.specs.declared.facts.Feat.{Feat}
-use Rattle.fs_paths.specs.Facts.{path_of}
+use Rattle.fs_model.specs.Sources.{Told, told_claim}
+use Rattle.fs_graph.specs.declared.facts.Feat.{Feat}
+use Rattle.fs_graph.specs.Facts.{path_of, claims_of}
 use Rattle.fs_graph.specs.declared.graph.GraphArc.{GraphArc}
 use Rattle.fs_graph.specs.GraphMap.{arc_to}
 use Rattle.fs_closing.specs.Rules.{system_of, facts_in, IsClaimIn}
 use Rattle.type_hierarchy.specs.Table.{count_of}
 use Rattle.forced_types.specs.declared.given.Given.{Given}
 use Rattle.forced_types.specs.declared.nodes.Nodes.{Nodes}
-use Rattle.forced_types.specs.Forced.{IsPathIn, same_extend, constrained, constrained_front}
-use Rattle.forced_types.specs.Views.{source_of}
-use Rattle.forced_types.specs.Inner.Sound.{Forces, MayPut, most_of, KeepPaths}
+use Rattle.forced_types.specs.Forced.{IsWithin, IsPathIn, given_claim, given_front, same_extend, constrained, constrained_front}
+use Rattle.forced_types.specs.Inner.Sound.{Forces, MayPut, most_of, KeepPaths, source_in}
 use Rattle.forced_types.proofs.ForcedLemmas.{forced_within}
 
 pub keeps_on : (a b c : Nodes) → KeepPaths a b → KeepPaths b c → KeepPaths a c
@@ -31,7 +30,7 @@ extended g p q f a b h = same_extend p q (f ∷ []) a b (omega (arith, length-ap
 -- the path of a node with an arc is shorter than the bound
 pub arc_shorter : (g : Given) (p q : Path) (f : ℕ) → Forces g (same (p ++ f ∷ []) q) → length p < most_of g
 arc_shorter g p q f a =
-    let h : length (p ++ f ∷ []) ≤ most_of g = (forced_within (system_of g.system.now) (most_of g) (Told (source_of g.parts.now)) (same (p ++ f ∷ []) q) a).0 in
+    let h : length (p ++ f ∷ []) ≤ most_of g = (forced_within (system_of g.system.now) (most_of g) (Told (source_in g)) (same (p ++ f ∷ []) q) a).0 in
     omega (arith, length-append p (f ∷ []))
 
 -- an arc that is found is there
@@ -69,3 +68,16 @@ may_put g p ty c low has inside = record {
   claim = λ w. constrained p ty c low has w;
   inside = inside;
 }
+
+at_root : (c : Claim) → at [] c ≡ c
+at_root (exists_at p) = refl
+at_root (same p q) = refl
+at_root (below p t) = refl
+
+-- a fact that is given may be put at the root
+pub given_put : (g : Given) (p : Path) (c : Claim) → p ≡ [] → Has c (claims_of g.facts.now) → IsClaimIn (count_of g.system.now.types) (length g.system.now.introducers) c → MayPut g p c
+given_put g p c root has inside = subst (λ x. MayPut g x c) (sym root) (record {
+  fronts = λ x i q r e l. given_front c q r (told_claim c has) (subst (λ y. IsPathIn y c) (sym e) (subst (IsPathIn x) (at_root c) i)) l;
+  claim = λ w. subst (Forces g) (sym (at_root c)) (given_claim c (told_claim c has) (subst (IsWithin (most_of g)) (at_root c) w));
+  inside = inside;
+})

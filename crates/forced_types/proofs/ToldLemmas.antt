@@ -4,7 +4,7 @@ use Rattle.fs_model.specs.Claims.{Path, Claim, exists_at, same, below, at}
 use Rattle.fs_model.specs.Sources.{Tells, tells_exists, tells_same, tells_below}
 use Rattle.fs_model.specs.Table.{walk}
 use Rattle.fs_model.proofs.TableLemmas.{walk-prefix, walk-step}
-use Rattle.fs_paths.specs.Facts.{path_of}
+use Rattle.fs_graph.specs.Facts.{path_of}
 use Rattle.fs_graph.specs.GraphMap.{GraphMap, IsGraph, table_of, arcs_at, arc_to, node_at, reader_of}
 use Rattle.forced_types.specs.declared.given.Given.{Given}
 use Rattle.forced_types.specs.declared.nodes.Nodes.{Nodes}

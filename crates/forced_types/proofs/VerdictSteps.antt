@@ -11,9 +11,8 @@ use Rattle.forced_types.specs.declared.nodes.Nodes.{Nodes}
 use Rattle.forced_types.specs.declared.closed_types.Apart.{Apart}
 use Rattle.forced_types.specs.declared.search.Aim.TheVariants.{Clash as ClashAim, Long as LongAim}
 use Rattle.forced_types.specs.Forced.{same_refl, same_exists, same_sym, same_trans, same_extend, same_type}
-use Rattle.forced_types.specs.Views.{source_of}
 use Rattle.forced_types.specs.Verdicts.{Clashes, IsTooLong, IsFirstClash, IsFirstLong}
-use Rattle.forced_types.specs.Inner.Sound.{Forces, AreSound, Covers, most_of, size_of, entry_in, path_in}
+use Rattle.forced_types.specs.Inner.Sound.{Forces, AreSound, Covers, most_of, size_of, entry_in, path_in, source_in}
 use Rattle.forced_types.specs.Inner.Closed.{walk_in, IsFlat, IsClosed}
 use Rattle.forced_types.specs.Inner.Search.{IsLeastGoal, AreMarked, mark_at}
 use Rattle.forced_types.specs.Inner.Apart.{IsLeastApart}
@@ -63,7 +62,7 @@ module _ (g : Given) (t : Nodes) (sound : AreSound g t) (closed : IsClosed g t) 
       same_type _ _ u (same_sym _ _ (reached p n l e)) ((sound.entries.each n (omega (arith, entry_count t, ends.0))).type_forced u has)
 
   -- two types that clash at a path are listed at its end
-  listed : (q : Path) (v w : ℕ) → Clashes (system_of g.system.now) (Told (source_of g.parts.now)) q v w →
+  listed : (q : Path) (v w : ℕ) → Clashes (system_of g.system.now) (Told (source_in g)) q v w →
       (length q ≤ most_of g) × (m : ℕ) × (walk_in t 0 q ≡ Some m) × Has v (entry_in t m).types × Has w (entry_in t m).types
   listed q v w c =
       let a = says g t closed laws _ c.first in
@@ -77,7 +76,7 @@ module _ (g : Given) (t : Nodes) (sound : AreSound g t) (closed : IsClosed g t) 
       same_end j k o x y = cc
 
   pub first_clash : (p : Path) (a : Apart) (n : ℕ) → IsLeastGoal g t ClashAim p → walk_in t 0 p ≡ Some n → IsLeastApart g.system.now.types (entry_in t n).types a →
-      IsFirstClash (system_of g.system.now) (Told (source_of g.parts.now)) p a.first a.second
+      IsFirstClash (system_of g.system.now) (Told (source_in g)) p a.first a.second
   first_clash p a n goal e apart = record {
     clashes = record {
       first = typed_there p n a.first goal.short e apart.has;
@@ -112,7 +111,7 @@ module _ (g : Given) (t : Nodes) (sound : AreSound g t) (closed : IsClosed g t) 
 
   -- no two types clash where the root is far from a clash
   pub no_clash : (marks : List ℕ) → AreMarked g t ClashAim marks → (mark_at marks (entry_in t 0).up + 0 ≤ most_of g → ⊥) → (q : Path) (v w : ℕ) →
-      Clashes (system_of g.system.now) (Told (source_of g.parts.now)) q v w → ⊥
+      Clashes (system_of g.system.now) (Told (source_in g)) q v w → ⊥
   no_clash marks marked far q v w c =
       let x = listed q v w c in
       far (near_at g t closed.flat ClashAim marks marked q 0 (entry_in t 0).up x.1 (length q) (closed.flat.up_in 0 closed.filled) (closed.flat.twice 0 closed.filled)
@@ -120,13 +119,13 @@ module _ (g : Given) (t : Nodes) (sound : AreSound g t) (closed : IsClosed g t) 
       (record { first = v; second = w; first_has = x.3; second_has = x.4; apart = c.apart }) x.0)
 
   pub no_long : (marks : List ℕ) → AreMarked g t LongAim marks → (mark_at marks (entry_in t 0).up ≤ 0 → ⊥) → (q : Path) →
-      IsTooLong (system_of g.system.now) (Told (source_of g.parts.now)) q → ⊥
+      IsTooLong (system_of g.system.now) (Told (source_in g)) q → ⊥
   no_long marks marked far q c =
       let x = says g t closed laws _ c.forced in
       far (near_at g t closed.flat LongAim marks marked q 0 (entry_in t 0).up x.1.0 (length q) (closed.flat.up_in 0 closed.filled) (closed.flat.twice 0 closed.filled)
       (walk-up t closed.flat 0 q closed.filled ∙ x.1.1) (let e : 0 + length q ≡ length q = omega arith in e) c.long x.0)
 
-  pub first_long : (p : Path) → IsLeastGoal g t LongAim p → IsFirstLong (system_of g.system.now) (Told (source_of g.parts.now)) p
+  pub first_long : (p : Path) → IsLeastGoal g t LongAim p → IsFirstLong (system_of g.system.now) (Told (source_in g)) p
   first_long p goal = record {
     long = record { forced = same_exists _ _ (reached p goal.end goal.short goal.leads); long = goal.goal };
     least = λ q c. let x = says g t closed laws _ c.forced in goal.least q x.1.0 x.0 x.1.1 c.long;

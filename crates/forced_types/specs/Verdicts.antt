@@ -1,5 +1,5 @@
 -- Why claims don't go together: the first path at which they force two types without a common subtype, or a path that is too long.
-use Rattle.std.specs.Prelude.{ℕ, ◌≡◌, ◌<◌, ◌+◌, ◌↔◌, ◌⊎◌, None, length}
+use Rattle.std.specs.Prelude.{ℕ, ◌≡◌, ◌<◌, ◌+◌, ◌↔◌, ◌⊎◌, None, length, All}
 use Rattle.fs_model.specs.Claims.{Path, Claim, exists_at, below, System}
 use Rattle.fs_model.specs.Closure.{IsConsistent}
 use Rattle.fs_model.specs.Numbering.{IsBefore}
@@ -13,6 +13,12 @@ pub data Verdict : Type 0 where
   Clash : Path → (t u : ℕ) → Verdict
   -- no such two are, and this path, which has one feature more than paths may have, is forced
   TooLong : Path → Verdict
+
+-- a verdict that speaks of so many features and types
+abbrev pub IsVerdictIn : (feats types : ℕ) → Verdict → Type 0
+IsVerdictIn feats types Fits = Unit {0}
+IsVerdictIn feats types (Clash p t u) = All (λ f. f < feats) p × (t < types) × (u < types)
+IsVerdictIn feats types (TooLong p) = All (λ f. f < feats) p
 
 module _ (s : System) (given : Claim → Type 0) where
   -- what is forced by derivations that go one feature past the limit on paths

@@ -3,7 +3,7 @@
 ghost use Rattle.std.specs.Prelude.{◌≡◌, ℕ, ◌<◌, length, true, Some, slice_index_or};
 ghost use Rattle.type_hierarchy.specs.Table.{count_of, is_below};
 ghost use Rattle.fs_model.specs.Claims.{Claim, exists_at, same, below, Has};
-ghost use Rattle.fs_paths.specs.Facts.{path_of, claim_of};
+ghost use Rattle.fs_graph.specs.Facts.{path_of, claim_of};
 ghost use Rattle.fs_graph.specs.GraphMap.{arc_to};
 ghost use Rattle.fs_closing.specs.Rules.{IsClaimIn, facts_in, no_rule};
 ghost use Rattle.forced_types.specs.Forced.{IsWithin};
@@ -13,8 +13,7 @@ ghost use Rattle.forced_types.specs.Inner.Closed.{walk_in, IsFlat, HasFront, Are
 use crate::closed_types::are_types_closed;
 use crate::given::Given;
 use crate::nodes::Nodes;
-use fs_graph::GraphArc;
-use fs_paths::{Fact, Feat};
+use fs_graph::{Fact, Feat, GraphArc};
 
 impl Nodes {
     /// The node at a path from a node.
@@ -127,8 +126,8 @@ impl Nodes {
         self.is_under(given, n, left, path, ty)
     }
 
-    // Whether a fact holds at a node, as far as its paths have so many features.
-    fn holds(&self, given: Given<'_>, n: u32, left: usize, fact: &Fact) -> bool
+    /// Whether a fact holds at a node, as far as its paths have so many features.
+    pub fn holds(&self, given: Given<'_>, n: u32, left: usize, fact: &Fact) -> bool
         requires sound { AreSound given self.now }
         requires flat { IsFlat self.now }
         requires node { n < size_of self.now }

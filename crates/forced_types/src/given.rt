@@ -1,15 +1,17 @@
-//! What types say, and what parts are given.
+//! What types say, and what is given.
 
 ghost use Rattle.std.specs.Prelude.{◌≡◌, ◌+◌};
 
 use crate::placed::PlacedGraph;
 use fs_closing::TypeSystem;
+use fs_graph::Fact;
 
-/// The types of a grammar, and parts.
+/// The types of a grammar, and what is given: parts, and facts on paths from the root.
 #[derive(Clone, Copy)]
 pub struct Given<'a> {
     pub system: &'a TypeSystem,
     pub parts: &'a [PlacedGraph<'a>],
+    pub facts: &'a [Fact],
 }
 
 impl Given<'_> {

@@ -5,6 +5,7 @@
 
 mod closed;
 mod closed_types;
+mod facts;
 mod given;
 mod laws;
 mod loading;
@@ -18,7 +19,7 @@ mod steps;
 mod told;
 mod verdict;
 
-pub use fs_closing::NoMemory;
 pub use laws::forced_laws;
 pub use placed::{PlacedGraph, Verdict};
-pub use verdict::verdict_on;
+pub use std::alloc::AllocError as NoMemory;
+pub use verdict::{verdict_on, verdict_on_facts};

@@ -3,7 +3,7 @@
 ghost use Rattle.std.specs.Prelude.{◌≡◌, ℕ, ◌<◌, ◌∷◌, ◌++◌, [], length, true, Some, IfSome, IfOk, All};
 ghost use Rattle.fs_model.specs.Claims.{exists_at, Has};
 ghost use Rattle.type_hierarchy.specs.Table.{count_of};
-ghost use Rattle.fs_paths.specs.Facts.{path_of};
+ghost use Rattle.fs_graph.specs.Facts.{path_of};
 ghost use Rattle.fs_graph.specs.GraphMap.{IsGraph, type_at, arcs_at};
 ghost use Rattle.fs_closing.specs.NodeSteps.{IsGraphIn};
 ghost use Rattle.forced_types.specs.Views.{ArePartsIn};
@@ -15,8 +15,7 @@ use crate::given::Given;
 use crate::nodes::{Image, Nodes};
 use crate::putting::{copied, longer};
 use fs_closing::NoMemory;
-use fs_graph::{Graph, GraphArc, Node as GraphNode};
-use fs_paths::Feat;
+use fs_graph::{Feat, Graph, GraphArc, Node as GraphNode};
 use std::alloc::Global;
 
 /// The number of no node.

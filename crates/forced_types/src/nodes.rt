@@ -1,12 +1,11 @@
 //! Nodes: each stands for a path.
 
 ghost use Rattle.std.specs.Prelude.{◌≡◌, ℕ, ◌<◌, ◌^◌, length, map, OnOk, OnErr, IfOk};
-ghost use Rattle.fs_paths.specs.Facts.{path_of};
+ghost use Rattle.fs_graph.specs.Facts.{path_of};
 ghost use Rattle.forced_types.specs.Inner.Entries.{entry_of, entries_of, entry_at, IsTyped, IsArced, IsRaised, Alters, Adds};
 
 use fs_closing::NoMemory;
-use fs_graph::GraphArc;
-use fs_paths::Feat;
+use fs_graph::{Feat, GraphArc};
 use std::alloc::Global;
 
 /// A node of the graph of a part, both by number.

@@ -1,7 +1,6 @@
 //! Graphs at places, and what is told of them.
 
-use fs_graph::Graph;
-use fs_paths::Feat;
+use fs_graph::{Feat, Graph};
 use type_hierarchy::Ty;
 
 /// A graph at a place.

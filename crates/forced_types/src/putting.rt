@@ -2,14 +2,13 @@
 
 ghost use Rattle.std.specs.Prelude.{◌≡◌, ℕ, ◌<◌, ◌≤◌, ◌+◌, ◌∷◌, ◌++◌, [], length, All, IfOk, IfSome, OnOk};
 ghost use Rattle.fs_model.specs.Claims.{exists_at, same};
-ghost use Rattle.fs_paths.specs.Facts.{path_of, claim_of};
+ghost use Rattle.fs_graph.specs.Facts.{path_of, claim_of};
 ghost use Rattle.forced_types.specs.Inner.Sound.{Forces, AreSound, KeepPaths, AreFronts, MayPut, IsEnd, EndsAt, GoesOn, size_of, path_in};
 
 use crate::given::Given;
 use crate::nodes::Nodes;
 use fs_closing::NoMemory;
-use fs_graph::{GraphArc, Node as GraphNode};
-use fs_paths::{Fact, Feat};
+use fs_graph::{Fact, Feat, GraphArc, Node as GraphNode};
 use std::alloc::Global;
 
 /// A path, and one feature more.

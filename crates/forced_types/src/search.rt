@@ -2,8 +2,8 @@
 
 ghost use Rattle.std.specs.Prelude.{◌≡◌, ℕ, ◌<◌, ◌≤◌, ◌+◌, length, true, false, Some, IfOk, IfSome};
 ghost use Rattle.fs_model.specs.Claims.{Has};
-ghost use Rattle.fs_paths.specs.declared.facts.Feat.{Feat as FeatValue};
-ghost use Rattle.fs_paths.specs.Facts.{path_of};
+ghost use Rattle.fs_graph.specs.declared.facts.Feat.{Feat as FeatValue};
+ghost use Rattle.fs_graph.specs.Facts.{path_of};
 ghost use Rattle.forced_types.specs.Inner.Sound.{AreSound, most_of, size_of, entry_in};
 ghost use Rattle.forced_types.specs.Inner.Closed.{IsFlat};
 ghost use Rattle.forced_types.specs.Inner.Search.{IsGoal, IsNear, IsMarked, AreMarked, IsPick, IsLeastGoal, stepped, mark_at};
@@ -13,8 +13,7 @@ use crate::given::Given;
 use crate::loading::NONE;
 use crate::nodes::Nodes;
 use fs_closing::NoMemory;
-use fs_graph::{GraphArc, Node as GraphNode};
-use fs_paths::Feat;
+use fs_graph::{Feat, GraphArc, Node as GraphNode};
 use std::alloc::Global;
 
 /// What a path is looked for: a node at which two types have no common one, or the greatest number of features.

@@ -3,7 +3,7 @@
 ghost use Rattle.std.specs.Prelude.{◌≡◌, ℕ, ◌<◌, ◌≤◌, ◌∷◌, ◌++◌, [], length, true, Some, IfOk, IfSome, OnOk, OnErr, option_map};
 ghost use Rattle.type_hierarchy.specs.Table.{count_of, meet_of};
 ghost use Rattle.fs_model.specs.Claims.{exists_at, same, below, Has};
-ghost use Rattle.fs_paths.specs.Facts.{path_of};
+ghost use Rattle.fs_graph.specs.Facts.{path_of};
 ghost use Rattle.fs_graph.specs.GraphMap.{arc_to};
 ghost use Rattle.fs_graph.specs.declared.graph.GraphArc.{GraphArc as ArcValue};
 ghost use Rattle.forced_types.specs.declared.nodes.Image.{Image as ImageValue};
@@ -12,8 +12,7 @@ ghost use Rattle.forced_types.specs.Inner.Sound.{Forces, AreSound, KeepPaths, Co
 use crate::given::Given;
 use crate::nodes::{Image, Nodes, Pair};
 use fs_closing::NoMemory;
-use fs_graph::GraphArc;
-use fs_paths::Feat;
+use fs_graph::{Feat, GraphArc};
 use std::alloc::Global;
 use type_hierarchy::{Ty, Types};
 

@@ -168,6 +168,9 @@ impl Nodes {
         if !self.are_nodes_closed(given) {
             return Ok(false);
         }
+        if !self.holds_facts(given) {
+            return Ok(false);
+        }
         let told = self.are_parts_told(alloc, given)?;
         Ok(told)
     }

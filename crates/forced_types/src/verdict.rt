@@ -1,11 +1,13 @@
-//! Verdicts on parts.
+//! Verdicts on parts, and on facts.
 
-ghost use Rattle.std.specs.Prelude.{◌≡◌, ℕ, ◌<◌, length, IfOk};
+ghost use Rattle.std.specs.Prelude.{◌≡◌, ◌<◌, [], length, IfOk};
+ghost use Rattle.fs_model.specs.Claims.{exists_at};
 ghost use Rattle.fs_model.specs.Sources.{Told};
 ghost use Rattle.fs_closing.specs.Rules.{system_of};
-ghost use Rattle.forced_types.specs.Verdicts.{IsVerdict};
-ghost use Rattle.forced_types.specs.Views.{source_of, verdict_of, ArePartsIn};
-ghost use Rattle.forced_types.specs.Inner.Sound.{AreSound};
+ghost use Rattle.type_hierarchy.specs.Table.{count_of};
+ghost use Rattle.forced_types.specs.Verdicts.{IsVerdict, IsVerdictIn};
+ghost use Rattle.forced_types.specs.Views.{source_of, source_of_facts, verdict_of, ArePartsIn, AreFactsIn};
+ghost use Rattle.forced_types.specs.Inner.Sound.{AreSound, Forces, source_in};
 ghost use Rattle.forced_types.specs.Inner.Closed.{IsClosed};
 ghost use Rattle.forced_types.specs.Inner.Search.{AreMarked};
 ghost use Rattle.forced_types.specs.declared.search.Aim.TheVariants.{Clash as ClashAim, Long as LongAim};
@@ -17,17 +19,18 @@ use crate::nodes::Nodes;
 use crate::placed::{PlacedGraph, Verdict};
 use crate::search::{Aim, is_near, mark};
 use fs_closing::{NoMemory, TypeSystem};
+use fs_graph::Fact;
 use std::alloc::Global;
 use type_hierarchy::Ty;
 
 // The root alone.
 fn begin(alloc: Global, given: Given<'_>) -> Result<Nodes, NoMemory>
-    requires some { 0 < length given.parts.now }
-    requires within { ArePartsIn given.system.now given.parts.now }
+    requires there { Forces given (exists_at []) }
+    requires parts { ArePartsIn given.system.now given.parts.now }
+    requires facts { AreFactsIn given.system.now given.facts.now }
     ensures { IfOk result (AreSound given.entry) }
 {
     given.system.laws();
-    given.parts[0].graph.laws();
     let mut nodes = Nodes {
         list: Vec::new(alloc),
         pairs: Vec::new(alloc),
@@ -38,13 +41,15 @@ fn begin(alloc: Global, given: Given<'_>) -> Result<Nodes, NoMemory>
 
 // Nodes that say all that is forced.
 fn closed_nodes(alloc: Global, given: Given<'_>) -> Result<Nodes, NoMemory>
-    requires some { 0 < length given.parts.now }
-    requires within { ArePartsIn given.system.now given.parts.now }
+    requires there { Forces given (exists_at []) }
+    requires parts { ArePartsIn given.system.now given.parts.now }
+    requires facts { AreFactsIn given.system.now given.facts.now }
     ensures sound { IfOk result (AreSound given.entry) }
     ensures closed { IfOk result (IsClosed given.entry) }
 {
     let mut nodes = begin(alloc, given)?;
     nodes.load_all(alloc, given)?;
+    nodes.put_facts(alloc, given)?;
     nodes.join_all(given)?;
     nodes.flatten(given);
     for _ in 0..NONE {
@@ -61,7 +66,7 @@ fn clash(alloc: Global, given: Given<'_>, nodes: &Nodes, marks: &[u32]) -> Resul
     requires sound { AreSound given nodes.now }
     requires closed { IsClosed given nodes.now }
     requires marked { AreMarked given nodes.now ClashAim marks.now }
-    ensures { IfOk result (λ v. IsVerdict (system_of given.entry.system.now) (Told (source_of given.entry.parts.now)) (verdict_of v)) }
+    ensures { IfOk result (λ v. IsVerdict (system_of given.entry.system.now) (Told (source_in given.entry)) (verdict_of v)) }
 {
     let types = given.system.types();
     types.laws();
@@ -83,7 +88,7 @@ fn clash(alloc: Global, given: Given<'_>, nodes: &Nodes, marks: &[u32]) -> Resul
 fn told_verdict(alloc: Global, given: Given<'_>, nodes: &Nodes) -> Result<Verdict, NoMemory>
     requires sound { AreSound given nodes.now }
     requires closed { IsClosed given nodes.now }
-    ensures { IfOk result (λ v. IsVerdict (system_of given.entry.system.now) (Told (source_of given.entry.parts.now)) (verdict_of v)) }
+    ensures { IfOk result (λ v. IsVerdict (system_of given.entry.system.now) (Told (source_in given.entry)) (verdict_of v)) }
 {
     let types = given.system.types();
     types.laws();
@@ -99,6 +104,17 @@ fn told_verdict(alloc: Global, given: Given<'_>, nodes: &Nodes) -> Result<Verdic
     Ok(Verdict::Fits)
 }
 
+// The verdict on what is given.
+fn told_on(alloc: Global, given: Given<'_>) -> Result<Verdict, NoMemory>
+    requires there { Forces given (exists_at []) }
+    requires parts { ArePartsIn given.system.now given.parts.now }
+    requires facts { AreFactsIn given.system.now given.facts.now }
+    ensures { IfOk result (λ v. IsVerdict (system_of given.entry.system.now) (Told (source_in given.entry)) (verdict_of v)) }
+{
+    let nodes = closed_nodes(alloc, given)?;
+    told_verdict(alloc, given, &nodes)
+}
+
 /// Whether parts go together, and else why not: the first path at which they force two types without a common subtype, or a path
 /// that is too long. Parts that don't go together force such a path, whatever else they force (Copestake 2002).
 ///
@@ -112,7 +128,36 @@ pub fn verdict_on(
     requires within { ArePartsIn system.now parts.now }
     ensures { IfOk result (λ v. IsVerdict (system_of system.now) (Told (source_of parts.now)) (verdict_of v)) }
 {
-    let given = Given { system, parts };
-    let nodes = closed_nodes(alloc, given)?;
-    told_verdict(alloc, given, &nodes)
+    let given = Given {
+        system,
+        parts,
+        facts: &[],
+    };
+    told_on(alloc, given)
+}
+
+/// The same of facts on paths from the root: what the structure of a definition is the closure of.
+///
+/// `NoMemory` comes for want of memory, or where counts don't fit 32 bits.
+pub fn verdict_on_facts(
+    alloc: Global,
+    system: &TypeSystem,
+    facts: &[Fact],
+) -> Result<Verdict, NoMemory>
+    requires some { 0 < length facts.now }
+    requires within { AreFactsIn system.now facts.now }
+    ensures verdict { IfOk result (λ v. IsVerdict (system_of system.now) (Told (source_of_facts facts.now)) (verdict_of v)) }
+    ensures within { IfOk result (λ v. IsVerdictIn (length system.now.introducers) (count_of system.now.types) (verdict_of v)) }
+{
+    system.laws();
+    let types = system.types();
+    types.laws();
+    let _counts = types.counts();
+    let given = Given {
+        system,
+        parts: &[],
+        facts,
+    };
+    let verdict = told_on(alloc, given)?;
+    Ok(verdict)
 }

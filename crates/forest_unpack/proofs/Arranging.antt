@@ -7,8 +7,8 @@ use Rattle.std.specs.declared.cmp.Ordering.TheVariants.{Less, Equal, Greater}
 use Rattle.derivation.specs.Trees.{Derivation}
 use Rattle.derivation.specs.Order.{compare_trees}
 use Rattle.derivation.proofs.Total.{trees_total, trees_tie}
-use Rattle.forest_model.specs.Readings.{Rises, rises_none, rises_one, rises_more}
-use Rattle.forest_model.specs.Lists.{Has, has_here, has_there, AllDiffer, differ_more}
+use Rattle.tree_model.specs.Readings.{Rises, rises_none, rises_one, rises_more}
+use Rattle.tree_model.specs.Lists.{Has, has_here, has_there, AllDiffer, differ_more}
 
 -- a rising list of one tree more than these
 record Placed (t : Derivation) (ts : List Derivation) : Type 0 where

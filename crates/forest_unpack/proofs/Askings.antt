@@ -4,9 +4,9 @@ use Rattle.std.proofs.Common.{inl, inr, ap, subst, sym, ◌∙◌, arith}
 use Rattle.std.proofs.lemmas.Bool.{cases_lt}
 use Rattle.chart_model.specs.At.{at_one, from_get}
 use Rattle.chart_core.specs.declared.Row.{Row}
-use Rattle.forest_model.specs.Readings.{Wholes}
-use Rattle.forest_model.specs.Lists as model
-use Rattle.forest_model.proofs.Members.{Either, on_left, on_right, has_append, has_left, has_right, has_map, differ_append}
+use Rattle.tree_model.specs.Readings.{Wholes}
+use Rattle.tree_model.specs.Lists as model
+use Rattle.tree_model.proofs.Members.{Either, on_left, on_right, has_append, has_left, has_right, has_map, differ_append}
 use Rattle.forest_unpack.specs.declared.collecting.Wanted.{Wanted}
 use Rattle.forest_unpack.specs.Keeping.{Asked, asked_of}
 use Rattle.forest_unpack.specs.Asking.{IsLive, AreAsked}

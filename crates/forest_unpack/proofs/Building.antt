@@ -1,7 +1,7 @@
 -- A skeleton and a plan, from the rows of a finished chart.
 use Rattle.std.specs.Prelude.{◌≡◌, ℕ, ◌+◌, ◌*◌, ◌<◌, ◌≤◌, true, is_some, option_map, Option, Some, None, List, [], ◌∷◌, length, map, refl}
 use Rattle.std.proofs.Common.{get_or, ap, subst, sym, ◌∙◌, arith, zero, suc}
-use Rattle.cover.specs.Calculus.{Calculus, Laws, Along, along_none, along_more}
+use Rattle.chart_model.specs.Calculus.{Calculus, Laws, Along, along_none, along_more}
 use Rattle.chart_model.specs.At.{At, here, there, at_one, at_below}
 use Rattle.chart_model.specs.Chart as chart
 use Rattle.chart_model.specs.Chart.{OfWhole, is_free, all_free}
@@ -12,9 +12,9 @@ use Rattle.chart_model.proofs.Trees.{leads_one}
 use Rattle.chart_core.specs.declared.Row.{Row}
 use Rattle.chart_core.specs.declared.RowId.{RowId}
 use Rattle.chart_core.specs.View.{into_of, row_of, rows_of, number_of}
-use Rattle.forest_model.specs.Readings.{Wholes}
-use Rattle.forest_model.specs.Lists as model
-use Rattle.forest_model.proofs.Members.{has_map}
+use Rattle.tree_model.specs.Readings.{Wholes}
+use Rattle.tree_model.specs.Lists as model
+use Rattle.tree_model.proofs.Members.{has_map}
 use Rattle.forest_unpack.specs.Plans.{rank_at, AreLower, Fits, IsPlan}
 use Rattle.forest_unpack.specs.Keeping.{Asked}
 use Rattle.forest_unpack.specs.Ranks.{rank_in, rank_by}

@@ -1,19 +1,19 @@
 -- Lists of one tree for each full structure: every tree of a group has the full structure of one that its list holds.
 use Rattle.std.specs.Prelude.{◌≡◌, ℕ, true, false, Some, List, [], ◌∷◌, map, refl}
 use Rattle.std.proofs.Common.{ap, subst, sym, ◌∙◌}
-use Rattle.cover.specs.Calculus.{Calculus, Along, along_none, along_more}
+use Rattle.chart_model.specs.Calculus.{Calculus, Along, along_none, along_more}
 use Rattle.chart_model.specs.At.{At, at_one}
 use Rattle.chart_model.specs.Chart.{Chart, Leaf, Limits, Row, OfLeaf, OfWhole, is_free, leaf_row}
 use Rattle.chart_model.specs.Finished.{IsComplete}
 use Rattle.chart_model.specs.Grown.{Tree, leaf_tree, phrase, Trees, Stands, stands_leaf, stands_phrase, AllStand, none_stand, more_stand}
 use Rattle.derivation.specs.Trees as derived
-use Rattle.forest_model.specs.Readings.{Wholes, IsAccepted}
-use Rattle.forest_model.specs.Forest.{Agree, AreApart, IsForest}
-use Rattle.forest_model.specs.Lists.{Has, has_here, has_there, Item, IsFullOf, full_leaf, full_phrase, AreFullOf, no_full, more_full, GroupRow, Gives, gives_leaf, gives_whole, Gather, gather_none, gather_stops, gather_more, Describes, describes_leaf, describes_whole, IsToldGroup}
-use Rattle.forest_model.proofs.Members.{has_left, has_map, has_right}
-use Rattle.forest_model.proofs.Choices.{Picks, picks_none, picks_more, has_choice}
-use Rattle.forest_model.proofs.Making.{fulls_in, item_of, makes_all}
-use Rattle.forest_model.proofs.Held.{held}
+use Rattle.tree_model.specs.Readings.{Wholes, IsAccepted}
+use Rattle.tree_model.specs.Forest.{Agree, AreApart, IsForest}
+use Rattle.tree_model.specs.Lists.{Has, has_here, has_there, Item, IsFullOf, full_leaf, full_phrase, AreFullOf, no_full, more_full, GroupRow, Gives, gives_leaf, gives_whole, Gather, gather_none, gather_stops, gather_more, Describes, describes_leaf, describes_whole, IsToldGroup}
+use Rattle.tree_model.proofs.Members.{has_left, has_map, has_right}
+use Rattle.tree_model.proofs.Choices.{Picks, picks_none, picks_more, has_choice}
+use Rattle.tree_model.proofs.Making.{fulls_in, item_of, makes_all}
+use Rattle.tree_model.proofs.Held.{held}
 use Rattle.forest_unpack.specs.Keeping.{Asked}
 use Rattle.forest_unpack.specs.Skeletons.{hosts_in, HasRow}
 

@@ -11,7 +11,7 @@ use Rattle.chart_core.specs.declared.RowKind.{RowKind}
 use Rattle.chart_core.specs.declared.RowKind.TheVariants as kinds
 use Rattle.chart_core.specs.Sound.{is_partial_kind}
 use Rattle.chart_core.specs.View.{into_of, list_of, number_of}
-use Rattle.forest_model.specs.Lists as model
+use Rattle.tree_model.specs.Lists as model
 use Rattle.forest_unpack.specs.Groups.{told_of_kind, told_by, TellsAt}
 use Rattle.forest_unpack.specs.Inner.Members.{last_in, last_at, IsBelow, Chain, chain_end, chain_on, AreMembersOf, AreMembers}
 

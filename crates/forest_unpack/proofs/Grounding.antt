@@ -2,14 +2,14 @@
 use Rattle.std.specs.Prelude.{◌≡◌, ℕ, ◌+◌, ◌*◌, ◌<◌, ◌≤◌, true, Some, List, [], ◌∷◌, length, refl, All, Contains}
 use Rattle.std.proofs.Common.{ap, subst, sym, ◌∙◌, arith, zero, suc}
 use Rattle.std.proofs.lemmas.List.Elements.{All-nil, All-cons}
-use Rattle.cover.specs.Calculus.{Calculus, Laws}
+use Rattle.chart_model.specs.Calculus.{Calculus, Laws}
 use Rattle.chart_model.specs.At.{At, here, there, at_one, to_get}
 use Rattle.chart_model.specs.Chart as chart
 use Rattle.chart_model.specs.Chart.{OfWhole, all_free, covers_at, levels_at, level_above}
 use Rattle.chart_model.specs.Finished.{IsComplete}
 use Rattle.chart_model.specs.Grown.{LeadsTo}
 use Rattle.chart_model.proofs.Trees.{leads_one}
-use Rattle.forest_model.specs.Lists as model
+use Rattle.tree_model.specs.Lists as model
 
 contains_more : {A : Type 0} (y : A) (xs : List A) (x : A) → Contains xs x → Contains (y ∷ xs) x
 contains_more y xs x r = (suc r.0, omega (arith, r.1), r.2)

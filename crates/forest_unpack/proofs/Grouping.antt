@@ -2,15 +2,15 @@
 use Rattle.std.specs.Prelude.{◌≡◌, ◌&&◌, ℕ, Bool, true, false, not, is_some, is_none, ◌+◌, ◌<◌, ◌≤◌, List, [], ◌∷◌, length, map, slice_get, Option, Some, None, Result, Ok, Err, OnOk, refl}
 use Rattle.std.specs.List.{insert}
 use Rattle.std.proofs.Common.{get_or, ap, subst, sym, ◌∙◌, arith, zero, suc}
-use Rattle.cover.specs.Calculus.{Along, along_none, along_more}
+use Rattle.chart_model.specs.Calculus.{Along, along_none, along_more}
 use Rattle.chart_model.specs.At.{at_one, at_below, from_get}
 use Rattle.chart_model.specs.Chart.{is_free, all_free}
 use Rattle.chart_model.specs.Grown.{LeadsTo}
 use Rattle.chart_core.specs.declared.Row.{Row}
 use Rattle.chart_core.specs.declared.RowId.{RowId}
 use Rattle.chart_core.specs.View.{into_of, number_of}
-use Rattle.forest_model.specs.Lists as model
-use Rattle.forest_model.proofs.Members.{Either, on_left, on_right}
+use Rattle.tree_model.specs.Lists as model
+use Rattle.tree_model.proofs.Members.{Either, on_left, on_right}
 use Rattle.forest_unpack.specs.declared.rows.GroupRow.{GroupRow}
 use Rattle.forest_unpack.specs.Plans.{row_of}
 use Rattle.forest_unpack.specs.Groups.{told_by, TellsAt, IsTold}

@@ -5,7 +5,7 @@ use Rattle.std.specs.declared.sync.Arc.{Arc}
 use Rattle.std.proofs.lemmas.List.Elements.{All-head, All-tail, All-nil, All-push, All-weaker, All-contains}
 use Rattle.std.specs.Arc.{arc_value}
 use Rattle.std.specs.List.{Contains}
-use Rattle.forest_model.specs.Readings.{Wholes}
+use Rattle.tree_model.specs.Readings.{Wholes}
 use Rattle.forest_unpack.specs.declared.item.Item.{Item}
 use Rattle.forest_unpack.specs.declared.memo.Answer.{Answer}
 use Rattle.forest_unpack.specs.declared.memo.Memo.{Memo}

@@ -3,8 +3,8 @@ use Rattle.std.specs.Prelude.{◌≡◌, ℕ, ◌<◌, ◌≤◌, ◌*◌, All, 
 use Rattle.std.proofs.Common.{Vec, Global, ap, subst, sym, ◌∙◌, arith, get_or, zero, suc}
 use Rattle.std.proofs.lemmas.List.Elements.{All-head, All-tail, All-cons, All-weaker}
 use Rattle.std.specs.Arc.{arc_value}
-use Rattle.forest_counts.specs.Counts as counts
-use Rattle.forest_model.specs.Readings.{Wholes}
+use Rattle.tree_model.specs.Counts as counts
+use Rattle.tree_model.specs.Readings.{Wholes}
 use Rattle.forest_unpack.specs.declared.tallies.Class.{Class}
 use Rattle.forest_unpack.specs.Inner.Classes.{IsAt, IsRaised, IsFit, class_of, classes_of, list_of, listed}
 use Rattle.forest_unpack.specs.Inner.Memos.{Extends}

@@ -4,8 +4,8 @@ use Rattle.std.proofs.Common.{Vec, Global, ap, subst, sym, get_or}
 use Rattle.std.proofs.lemmas.List.Elements.{All-head, All-tail, All-nil, All-cons, All-append, All-contains, All-push, All-map}
 use Rattle.std.specs.Arc.{arc_value}
 use Rattle.chart_core.specs.declared.Row.{Row}
-use Rattle.forest_model.specs.Readings.{Wholes}
-use Rattle.forest_model.specs.Lists as model
+use Rattle.tree_model.specs.Readings.{Wholes}
+use Rattle.tree_model.specs.Lists as model
 use Rattle.forest_unpack.specs.declared.item.Item.{Item}
 use Rattle.forest_unpack.specs.Items.{item_of, list_in, list_at, IsMade, IsListed}
 use Rattle.forest_unpack.specs.declared.sifting.LeftOut.{LeftOut}
@@ -13,7 +13,7 @@ use Rattle.forest_unpack.specs.Plans.{Fits, IsPlan}
 use Rattle.forest_unpack.specs.Sifted.{AreGathered}
 use Rattle.forest_unpack.specs.Reached.{IsReached, reached_leaf, reached_phrase}
 use Rattle.forest_unpack.specs.Inner.Memos.{IsReachedItem, AreReached}
-use Rattle.forest_model.proofs.Ordered.{has_contains}
+use Rattle.tree_model.proofs.Ordered.{has_contains}
 use Rattle.forest_unpack.proofs.Memos.{made_is}
 
 unmapped : {A B : Type 0} (P : B → Type 0) (f : A → B) (xs : List A) → All P (map f xs) → All (λ x. P (f x)) xs

@@ -1,14 +1,14 @@
 -- What the lists are made by, from what is asked of a finished chart.
 use Rattle.std.specs.Prelude.{◌≡◌, ℕ, ◌<◌, Option, Some, List, length, map, refl}
 use Rattle.std.proofs.Common.{get_or, ap, arith}
-use Rattle.cover.specs.Calculus.{Laws}
+use Rattle.chart_model.specs.Calculus.{Laws}
 use Rattle.chart_model.specs.At.{At}
 use Rattle.chart_model.specs.Chart as chart
 use Rattle.chart_core.specs.declared.ended.Finished.{Finished}
 use Rattle.chart_core.specs.Grammar.{Grammar}
 use Rattle.chart_core.specs.Kept.{core_of, rows_in}
 use Rattle.chart_core.specs.CoreView.{chart_of, leaves_of, limits_of}
-use Rattle.forest_model.specs.Readings.{Wholes}
+use Rattle.tree_model.specs.Readings.{Wholes}
 use Rattle.forest_unpack.specs.declared.collecting.Wanted.{Wanted}
 use Rattle.forest_unpack.specs.Keeping.{Asked, AllBelow, asked_of}
 use Rattle.forest_unpack.specs.Plans.{IsPlan}

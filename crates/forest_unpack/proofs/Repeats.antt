@@ -7,10 +7,10 @@ use Rattle.std.proofs.lemmas.List.Sorted.{All-permutation, IsPermutation-map}
 use Rattle.std.specs.List.Sorted.{IsPermutation}
 use Rattle.std.specs.Arc.{arc_value}
 use Rattle.derivation.specs.Trees.{Derivation}
-use Rattle.forest_model.specs.Lists as model
-use Rattle.forest_model.specs.Lists.{Has, has_here, has_there, AllDiffer, differ_none, differ_more}
-use Rattle.forest_model.proofs.Members.{has_left, has_right, Either, on_left, on_right, has_append, differ_append, has_map, map_has}
-use Rattle.forest_model.proofs.Ordered.{differ_permuted, has_contains, has_permuted, permuted_has}
+use Rattle.tree_model.specs.Lists as model
+use Rattle.tree_model.specs.Lists.{Has, has_here, has_there, AllDiffer, differ_none, differ_more}
+use Rattle.tree_model.proofs.Members.{has_left, has_right, Either, on_left, on_right, has_append, differ_append, has_map, map_has}
+use Rattle.tree_model.proofs.Ordered.{differ_permuted, has_contains, has_permuted, permuted_has}
 use Rattle.forest_unpack.specs.declared.item.Item.{Item}
 use Rattle.forest_unpack.specs.declared.sifting.LeftOut.TheVariants as lefts
 use Rattle.forest_unpack.specs.Items.{item_of, items_of}

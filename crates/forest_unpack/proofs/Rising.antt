@@ -1,7 +1,7 @@
 -- Representatives rise: a row that is the representative of another is packed or frosted only into a later row.
 use Rattle.std.specs.Prelude.{◌≡◌, ℕ, ◌<◌, Bool, true, false, if◌then◌else◌, Option, Some, None, List, [], ◌∷◌, ◌++◌, length, slice_get, refl}
 use Rattle.std.proofs.Common.{sym, subst, arith, length-append}
-use Rattle.cover.specs.Calculus.{Calculus}
+use Rattle.chart_model.specs.Calculus.{Calculus}
 use Rattle.chart_model.specs.Chart as model
 use Rattle.chart_model.specs.Chart.{Row, Task, Chart, Leaf, Limits, Entry, Outcome, Fails, Fits, Makes, step, step_at, replayed, opened, with_done, with_outcome, with_whole, whole_row, partial_row, leaf_row, peer_over, has_peer, frosted, daughters, all_free, is_free}
 use Rattle.chart_model.specs.At as Places

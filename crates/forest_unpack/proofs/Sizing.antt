@@ -2,7 +2,7 @@
 use Rattle.std.specs.Prelude.{◌≡◌, ℕ, ◌+◌, ◌<◌, [], ◌∷◌, ◌++◌, length, map, slice_get, ◌^◌, option_map, Option, Some, None, MatchOption, List, refl, All}
 use Rattle.std.proofs.Common.{ap, subst, sym, ◌∙◌, arith, take, get_or, zero, suc}
 use Rattle.std.proofs.lemmas.List.{take_more}
-use Rattle.cover.specs.Calculus.{Calculus, Laws}
+use Rattle.chart_model.specs.Calculus.{Calculus, Laws}
 use Rattle.chart_model.specs.At.{At}
 use Rattle.chart_model.specs.Chart as chart
 use Rattle.chart_core.specs.declared.Row.{Row}

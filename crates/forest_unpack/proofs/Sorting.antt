@@ -12,8 +12,8 @@ use Rattle.derivation.specs.Trees.{Derivation}
 use Rattle.derivation.specs.Order.{compare_trees}
 use Rattle.forest_unpack.specs.declared.counted.CountedTree.{CountedTree}
 use Rattle.derivation.proofs.Total.{trees_total}
-use Rattle.forest_model.specs.Readings.{Wholes}
-use Rattle.forest_model.specs.Lists as model
+use Rattle.tree_model.specs.Readings.{Wholes}
+use Rattle.tree_model.specs.Lists as model
 use Rattle.forest_unpack.specs.declared.item.Item.{Item}
 use Rattle.forest_unpack.specs.Items.{item_of, items_of}
 use Rattle.forest_unpack.specs.Keeping.{Kept}

@@ -1,7 +1,7 @@
 -- What is told of the groups of code is told of the groups of the chart.
 use Rattle.std.specs.Prelude.{◌≡◌, ℕ, Bool, true, false, if◌then◌else◌, Option, Some, List, [], ◌∷◌, map, slice_get, refl}
 use Rattle.std.proofs.Common.{ap, subst, sym, ◌∙◌, zero, suc}
-use Rattle.cover.specs.Calculus.{Calculus, Along, along_none, along_more}
+use Rattle.chart_model.specs.Calculus.{Calculus, Along, along_none, along_more}
 use Rattle.chart_model.specs.At.{At, here, there, at_one, at_found, to_get}
 use Rattle.chart_model.specs.Chart as chart
 use Rattle.chart_model.specs.Chart.{OfLeaf, OfWhole, all_free, leaf_row}
@@ -11,7 +11,7 @@ use Rattle.chart_core.specs.declared.Row.{Row}
 use Rattle.chart_core.specs.declared.RowKind.{RowKind}
 use Rattle.chart_core.specs.declared.RowKind.TheVariants as kinds
 use Rattle.chart_core.specs.View.{into_of, list_of, kind_of, row_of, rows_of}
-use Rattle.forest_model.specs.Lists as model
+use Rattle.tree_model.specs.Lists as model
 use Rattle.forest_unpack.specs.Groups.{told_of_kind, TellsAt, IsTold}
 
 told_leaf : (into : List (Option ℕ)) (ds : List ℕ) (kind : RowKind) (name : ℕ) → kind_of kind ≡ OfLeaf name → told_of_kind into ds kind ≡ model.a_leaf name ∷ []

@@ -3,18 +3,18 @@ use Rattle.std.specs.Prelude.{◌≡◌, ℕ, ◌<◌, ◌≤◌, ◌+◌, All, 
 use Rattle.std.proofs.Common.{Vec, Global, ap, subst, sym, ◌∙◌, arith, drop, get_or, zero, suc}
 use Rattle.std.proofs.lemmas.List.{drop_more}
 use Rattle.std.proofs.lemmas.List.Elements.{All-head, All-tail, All-nil}
-use Rattle.cover.specs.Calculus.{Calculus}
+use Rattle.chart_model.specs.Calculus.{Calculus}
 use Rattle.chart_model.specs.Chart as chart
 use Rattle.chart_model.specs.Finished.{IsComplete}
 use Rattle.chart_core.specs.declared.Row.{Row}
-use Rattle.forest_counts.specs.Counts as counts
-use Rattle.forest_counts.proofs.Tallies.{Tallied, tallied_none}
-use Rattle.forest_counts.proofs.Hosts.{host_counted}
-use Rattle.forest_counts.proofs.Summed.{sums_are}
-use Rattle.forest_model.specs.Forest.{AreApart}
-use Rattle.forest_model.specs.Readings.{Wholes, AreMoreThan}
-use Rattle.forest_model.specs.Lists as model
-use Rattle.forest_model.proofs.Ordered.{contains_has}
+use Rattle.tree_model.specs.Counts as counts
+use Rattle.tree_model.proofs.Tallies.{Tallied, tallied_none}
+use Rattle.tree_model.proofs.Hosts.{host_counted}
+use Rattle.tree_model.proofs.Summed.{sums_are}
+use Rattle.tree_model.specs.Forest.{AreApart}
+use Rattle.tree_model.specs.Readings.{Wholes, AreMoreThan}
+use Rattle.tree_model.specs.Lists as model
+use Rattle.tree_model.proofs.Ordered.{contains_has}
 use Rattle.forest_unpack.specs.declared.collecting.Wanted.{Wanted}
 use Rattle.forest_unpack.specs.declared.rows.GroupRow.{GroupRow}
 use Rattle.forest_unpack.specs.declared.tallies.Class.{Class}

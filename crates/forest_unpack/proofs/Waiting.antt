@@ -3,8 +3,8 @@ use Rattle.std.specs.Prelude.{◌≡◌, ℕ, ◌+◌, ◌-◌, ◌*◌, ◌<◌
 use Rattle.std.proofs.Common.{Vec, Global, ap, subst, sym, ◌∙◌, arith, length-append, get_or, take, zero, suc}
 use Rattle.std.proofs.Math.Nat.{add-mul}
 use Rattle.chart_core.specs.declared.Row.{Row}
-use Rattle.forest_model.specs.Readings.{Wholes}
-use Rattle.forest_model.specs.Lists as model
+use Rattle.tree_model.specs.Readings.{Wholes}
+use Rattle.tree_model.specs.Lists as model
 use Rattle.forest_unpack.specs.declared.item.Item.{Item}
 use Rattle.forest_unpack.specs.declared.listing.Making.{Making}
 use Rattle.forest_unpack.specs.declared.memo.Memo.{Memo}

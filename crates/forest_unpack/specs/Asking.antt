@@ -2,8 +2,8 @@
 use Rattle.std.specs.Prelude.{◌≡◌, ℕ, ◌<◌, true, is_some, None, List, map}
 use Rattle.chart_model.specs.At.{At}
 use Rattle.chart_core.specs.declared.Row.{Row}
-use Rattle.forest_model.specs.Readings.{Wholes}
-use Rattle.forest_model.specs.Lists as model
+use Rattle.tree_model.specs.Readings.{Wholes}
+use Rattle.tree_model.specs.Lists as model
 use Rattle.forest_unpack.specs.Keeping.{Asked}
 
 module _ {X T C W B : Type 0} (rows : List (Row X T C W B)) where

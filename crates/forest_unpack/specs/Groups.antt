@@ -1,6 +1,6 @@
 -- The rows of groups, as they are told of a chart's rows.
 use Rattle.std.specs.Prelude.{◌≡◌, ℕ, if◌then◌else◌, Option, List, [], ◌∷◌}
-use Rattle.cover.specs.Calculus.{Along}
+use Rattle.chart_model.specs.Calculus.{Along}
 use Rattle.chart_model.specs.At.{At}
 use Rattle.chart_model.specs.Chart.{all_free}
 use Rattle.chart_model.specs.Grown.{LeadsTo}
@@ -8,7 +8,7 @@ use Rattle.chart_core.specs.declared.Row.{Row}
 use Rattle.chart_core.specs.declared.RowKind.{RowKind}
 use Rattle.chart_core.specs.declared.RowKind.TheVariants as kinds
 use Rattle.chart_core.specs.View.{into_of, list_of}
-use Rattle.forest_model.specs.Lists as model
+use Rattle.tree_model.specs.Lists as model
 
 abbrev pub told_of_kind : List (Option ℕ) → List ℕ → RowKind → List model.GroupRow
 told_of_kind into ds (kinds.Leaf name) = model.a_leaf name ∷ []

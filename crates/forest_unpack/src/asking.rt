@@ -8,7 +8,7 @@ ghost use Rattle.forest_unpack.specs.Asking.{AreAsked};
 use crate::collecting::Wanted;
 use crate::{Fulls, NoMemory};
 use chart_core::{Finished, Row, RowId};
-use cover::Shapes;
+use chart_model::Shapes;
 use std::alloc::Global;
 
 /// Whether a row is a live host whose cover is wanted.

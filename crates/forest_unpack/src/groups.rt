@@ -1,7 +1,7 @@
 //! The rows of the group of a host.
 
 ghost use Rattle.std.specs.Prelude.{◌≡◌, ◌<◌, ◌≤◌, ◌++◌, [], length, map, IfOk, OnOk};
-ghost use Rattle.cover.specs.Tuples.{on_list};
+ghost use Rattle.chart_model.specs.Tuples.{on_list};
 ghost use Rattle.chart_model.specs.Chart.{all_free};
 ghost use Rattle.chart_core.specs.Kept.{core_of, rows_in};
 ghost use Rattle.chart_core.specs.View.{into_of, list_of, one_of};
@@ -14,7 +14,7 @@ use crate::members::Members;
 use crate::ranks::LEVELS;
 use crate::rows::GroupRow;
 use chart_core::{Daughters, Finished, Row, RowId, RowKind};
-use cover::Shapes;
+use chart_model::Shapes;
 use std::alloc::Global;
 
 /// Whether a row, if there is one, is a live host.

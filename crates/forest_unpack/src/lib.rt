@@ -30,7 +30,7 @@ mod unpacking;
 mod weighing;
 
 pub use fulls::{FullParts, Fulls};
-use std::alloc::{AllocError, AllocFailed};
+pub use std::alloc::AllocError as NoMemory;
 pub use unpacking::unpack;
 
 /// Why there are no trees.
@@ -39,28 +39,6 @@ pub enum UnpackFault {
     /// more trees are asked for than the limit
     ReadingLimit,
     NoMemory,
-}
-
-/// Memory ran out.
-#[derive(Debug, Drop, Clone, Copy, PartialEq, Eq)]
-pub struct NoMemory;
-
-impl From<AllocError> for NoMemory {
-    fn from(_error: AllocError) -> NoMemory {
-        NoMemory
-    }
-}
-
-impl<T: Drop> From<AllocFailed<T>> for NoMemory {
-    fn from(_error: AllocFailed<T>) -> NoMemory {
-        NoMemory
-    }
-}
-
-impl From<derivation::NoMemory> for NoMemory {
-    fn from(_error: derivation::NoMemory) -> NoMemory {
-        NoMemory
-    }
 }
 
 impl From<NoMemory> for UnpackFault {

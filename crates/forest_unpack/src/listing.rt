@@ -4,7 +4,7 @@
 
 ghost use Rattle.std.specs.Prelude.{◌≡◌, ℕ, ◌≤◌, ◌<◌, ◌++◌, ◌∷◌, [], true, All, IfOk, MatchOption, OnOk, length};
 ghost use Rattle.chart_core.specs.Kept.{core_of, rows_in};
-ghost use Rattle.forest_model.specs.Lists as model;
+ghost use Rattle.tree_model.specs.Lists as model;
 ghost use Rattle.forest_unpack.specs.Items.{AllListed, IsListed, items_of};
 ghost use Rattle.forest_unpack.specs.Inner.Making.{AreMaking, IsBegun, IsLacked, IsLower, IsMaking, Stepped, daughters_in};
 ghost use Rattle.forest_unpack.specs.Inner.Memos.{AreReached, IsNumbered, IsReady, StaysReady, known_in};
@@ -21,7 +21,7 @@ use crate::rows::GroupRow;
 use crate::sifting::{LeftOut, sift};
 use crate::{Fulls, NoMemory};
 use chart_core::Finished;
-use cover::Shapes;
+use chart_model::Shapes;
 use std::alloc::Global;
 
 /// What lists are made of: a finished chart with the rows of its groups, a rank that falls from a host to its daughters, what lists leave out,

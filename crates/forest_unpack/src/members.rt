@@ -10,7 +10,7 @@ ghost use Rattle.forest_unpack.specs.Inner.Members.{AreMembers, last_at};
 
 use crate::NoMemory;
 use chart_core::{Finished, Row, RowId, RowKind};
-use cover::Shapes;
+use chart_model::Shapes;
 use std::alloc::Global;
 
 /// The rows of groups by number: of each host the last row of its group, and of each row the one before it in the same group.

@@ -7,7 +7,7 @@ ghost use Rattle.forest_unpack.specs.Ranks.{IsSized, rank_by};
 
 use crate::NoMemory;
 use chart_core::{Finished, Row, RowId};
-use cover::{Cover, Shapes};
+use chart_model::{Cover, Shapes};
 use std::alloc::Global;
 
 /// More than the levels that there are, so that ranks go by size first.

@@ -4,7 +4,7 @@ ghost use Rattle.std.specs.Prelude.{◌≡◌, ℕ, ◌<◌, ◌≤◌, [], ◌�
 ghost use Rattle.chart_core.specs.CoreView.{chart_of, leaves_of};
 ghost use Rattle.chart_core.specs.Kept.{IsCore, core_of, rows_in};
 ghost use Rattle.chart_core.specs.Grammar.{grammar_of};
-ghost use Rattle.forest_counts.specs.Counts as counts;
+ghost use Rattle.tree_model.specs.Counts as counts;
 ghost use Rattle.forest_unpack.specs.Unpacking.{IsUnpackFault, Suits};
 ghost use Rattle.forest_unpack.specs.declared.UnpackFault.TheVariants as faults;
 ghost use Rattle.forest_unpack.specs.Keeping.{asked_of, cover_in, host_in};
@@ -22,7 +22,7 @@ use crate::tallying::count_host;
 use crate::weighing::{Ranked, by_rank};
 use crate::{Fulls, NoMemory};
 use chart_core::{Finished, RowId, RowKind};
-use cover::Shapes;
+use chart_model::Shapes;
 use std::alloc::Global;
 
 /// No host needed yet, of so many.

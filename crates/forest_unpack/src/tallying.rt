@@ -2,7 +2,7 @@
 
 ghost use Rattle.std.specs.Prelude.{◌≡◌, ℕ, ◌<◌, ◌≤◌, ◌+◌, All, IfOk, OnOk, length, map};
 ghost use Rattle.chart_core.specs.Kept.{core_of, rows_in};
-ghost use Rattle.forest_counts.specs.Counts as counts;
+ghost use Rattle.tree_model.specs.Counts as counts;
 ghost use Rattle.forest_unpack.specs.Items.{AreChosen, chosen_items, full_values};
 ghost use Rattle.forest_unpack.specs.Plans.{Fits, IsPlan, row_of};
 ghost use Rattle.forest_unpack.specs.Inner.Classes.{AreFit, CountsAllOf, CountsOf, IsCounting, IsFit, classes_at, classes_of};
@@ -18,7 +18,7 @@ use crate::memo::Memo;
 use crate::rows::GroupRow;
 use crate::tallies::{Class, counted_at, raise_at};
 use crate::{Fulls, NoMemory};
-use cover::Shapes;
+use chart_model::Shapes;
 use std::alloc::Global;
 
 /// Counts so many phrases of a rule over daughters of these full structures as a new class, if it makes them; true where there was no room for it.

@@ -25,7 +25,7 @@ use crate::summing::are_more;
 use crate::weighing::is_large;
 use crate::{Fulls, NoMemory, UnpackFault};
 use chart_core::Finished;
-use cover::Shapes;
+use chart_model::Shapes;
 use derivation::Tree;
 use std::alloc::Global;
 

@@ -7,7 +7,7 @@ ghost use Rattle.chart_core.specs.Kept.{IsCore, core_of, rows_in};
 use crate::NoMemory;
 use crate::members::host_of;
 use chart_core::{Daughters, Finished, RowId, RowKind};
-use cover::Shapes;
+use chart_model::Shapes;
 use std::alloc::Global;
 
 /// A row with its rank.

@@ -4,9 +4,9 @@ use Rattle.std.proofs.lemmas.List.{get_or-map, length-map}
 use Rattle.std.specs.Prelude.{flat_map}
 use Rattle.fs_model.specs.Claims.{Claim, Has}
 use Rattle.fs_model.specs.Table.{NodeClaim, is_there, from}
-use Rattle.fs_paths.specs.declared.facts.Fact.{Fact}
-use Rattle.fs_paths.specs.declared.facts.Feat.{Feat}
-use Rattle.fs_paths.specs.Facts.{path_of, claim_of, claims_of}
+use Rattle.fs_graph.specs.declared.facts.Fact.{Fact}
+use Rattle.fs_graph.specs.declared.facts.Feat.{Feat}
+use Rattle.fs_graph.specs.Facts.{path_of, claim_of, claims_of}
 use Rattle.fs_model.specs.Claims.{Path}
 use Rattle.fs_closing.specs.declared.nodes.Nodes.{Nodes}
 use Rattle.fs_closing.specs.declared.tasks.Tasks.{Tasks}

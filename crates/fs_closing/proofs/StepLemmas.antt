@@ -4,8 +4,8 @@ use Rattle.std.proofs.lemmas.Bool.{eqb-true}
 use Rattle.std.proofs.lemmas.List.{length-map, get_or-map, drop_all}
 use Rattle.std.proofs.Math.Seq.{drop-cons}
 use Rattle.std.specs.Prelude.{All}
-use Rattle.fs_paths.specs.declared.facts.Feat.{Feat}
-use Rattle.fs_paths.specs.Facts.{path_of}
+use Rattle.fs_graph.specs.declared.facts.Feat.{Feat}
+use Rattle.fs_graph.specs.Facts.{path_of}
 use Rattle.fs_closing.specs.declared.nodes.Nodes.{Nodes}
 use Rattle.fs_model.specs.Claims.{Path, Claim, System, IsBare, Has, here}
 use Rattle.fs_model.specs.Sources.{Told}

@@ -7,7 +7,7 @@ use Rattle.fs_model.specs.Sources.{Told}
 use Rattle.fs_model.specs.Table.{Table, NodeClaim, is_there, is_same, from, by_work, Follows, stated, there_left, there_under, there_before, same_itself, same_back, read}
 use Rattle.fs_model.specs.Steps.{InTable}
 use Rattle.fs_model.proofs.StepLemmas.{Closes-rework, Closes-drop}
-use Rattle.fs_paths.specs.declared.facts.Feat.{Feat}
+use Rattle.fs_graph.specs.declared.facts.Feat.{Feat}
 use Rattle.fs_closing.specs.declared.nodes.Nodes.{Nodes}
 use Rattle.fs_closing.specs.declared.tasks.Tasks.{Tasks}
 use Rattle.fs_closing.specs.declared.tasks.Entry.{Entry}

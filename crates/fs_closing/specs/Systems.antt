@@ -2,7 +2,7 @@
 use Rattle.std.specs.Prelude.{ℕ, ◌<◌, ◌^◌, List, map, length}
 use Rattle.type_hierarchy.specs.declared.types.Ty.{Ty}
 use Rattle.type_hierarchy.specs.Table.{TypeTable, count_of}
-use Rattle.fs_paths.specs.Facts.{claims_of}
+use Rattle.fs_graph.specs.Facts.{claims_of}
 use Rattle.fs_closing.specs.declared.facts.TypeFacts.{TypeFacts}
 use Rattle.fs_closing.specs.Rules.{Rule, Grammar, IsGrammar}
 use Rattle.fs_closing.specs.Inner.RuleRows.{HaveRows}

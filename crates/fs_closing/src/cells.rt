@@ -4,7 +4,7 @@ ghost use Rattle.std.specs.Prelude.{◌≡◌, ◌<◌, ◌≤◌, ◌+◌, ◌-
 ghost use Rattle.fs_closing.specs.Cells.{chain, find_arc, no_cell, PlacesFall};
 ghost use Rattle.fs_closing.specs.Inner.Indexes.{Leads};
 
-use crate::fault::NoMemory;
+use crate::NoMemory;
 use crate::index::{self, Index};
 use std::alloc::Global;
 use std::marker::Model;

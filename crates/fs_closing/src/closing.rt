@@ -4,20 +4,20 @@ ghost use Rattle.std.specs.Prelude.{◌≡◌, ◌≢◌, ℕ, ◌+◌, ◌<◌,
 ghost use Rattle.type_hierarchy.specs.Table.{count_of};
 ghost use Rattle.fs_model.specs.Claims.{IsBare};
 ghost use Rattle.fs_model.specs.Table.{is_same, is_under, from};
-ghost use Rattle.fs_paths.specs.Facts.{path_of, claim_of};
+ghost use Rattle.fs_graph.specs.Facts.{path_of, claim_of};
 ghost use Rattle.fs_closing.specs.Rules.{system_of, IsClaimIn};
 ghost use Rattle.fs_closing.specs.Work.{work_of, pair_claim, entry_claims};
 ghost use Rattle.fs_closing.specs.NodeTable.{IsWhole};
 ghost use Rattle.fs_closing.specs.Keeps.{AreSound, StepsTo, Reaches, Progresses, Closed};
 
-use crate::fault::NoMemory;
+use crate::NoMemory;
 use crate::nodes::{Nodes, live};
 use crate::parts::own_count;
 use crate::steps::{go, merge, put_under};
 use crate::system::TypeSystem;
 use crate::tasks::{Entry, Pair, Tasks};
 use crate::told::is_told_next;
-use fs_paths::{Fact, Feat};
+use fs_graph::{Fact, Feat};
 
 /// What one turn of a closing did.
 #[derive(Clone, Copy, Debug, PartialEq, Eq)]

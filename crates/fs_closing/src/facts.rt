@@ -1,6 +1,6 @@
 //! Facts of types.
 
-use fs_paths::Fact;
+use fs_graph::Fact;
 use type_hierarchy::Ty;
 
 /// The facts of a type's definition and addenda.

@@ -4,8 +4,8 @@ ghost use Rattle.std.specs.Prelude.{◌≡◌, ◌≤◌, ◌+◌, ◌++◌, ◌
 ghost use Rattle.fs_closing.specs.declared.cells.Cell.{Cell as CellValue};
 ghost use Rattle.fs_closing.specs.Inner.Indexes.{IsIndex, HaveIndex, Leads};
 
+use crate::NoMemory;
 use crate::cells::{Cell, Sought};
-use crate::fault::NoMemory;
 use std::alloc::Global;
 use std::collections::HashMap;
 

@@ -4,7 +4,6 @@
 pub mod cells;
 pub mod closing;
 pub mod facts;
-pub mod fault;
 pub mod index;
 pub mod marks;
 pub mod nodes;
@@ -17,5 +16,5 @@ pub mod tasks;
 mod told;
 
 pub use facts::TypeFacts;
-pub use fault::NoMemory;
+pub use std::alloc::AllocError as NoMemory;
 pub use system::TypeSystem;

@@ -4,7 +4,7 @@ ghost use Rattle.std.specs.Prelude.{◌≡◌, ℕ, ◌<◌, ◌≤◌, [], leng
 ghost use Rattle.fs_closing.specs.Marked.{written_at, Writes};
 ghost use Rattle.fs_closing.specs.Inner.Generations.{mark_at, all_in};
 
-use crate::fault::NoMemory;
+use crate::NoMemory;
 use std::alloc::Global;
 use std::marker::Model;
 

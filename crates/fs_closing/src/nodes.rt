@@ -7,8 +7,8 @@ ghost use Rattle.fs_closing.specs.Marked.{written_at, next_by, stands_by};
 ghost use Rattle.fs_closing.specs.NodeSteps.{AddsNode, AddsDepth, KeepsArcs, KeepsDepths, Retypes, EntersTable, IsGraphIn, Unites};
 ghost use Rattle.fs_closing.specs.NodeTable.{table_of, at_of, own_type, own_row, first_of, depth_of, IsWhole, IsWithin};
 
+use crate::NoMemory;
 use crate::cells::{Cell, Cells};
-use crate::fault::NoMemory;
 use crate::marks::{Marks, Written};
 use crate::parts::{Based, own_type as type_from_graph};
 

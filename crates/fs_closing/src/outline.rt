@@ -8,7 +8,7 @@ ghost use Rattle.fs_closing.specs.Systems.{rule_of, rules_of};
 ghost use Rattle.fs_closing.specs.Inner.Outlines.{AreMarks, IsEnd, AreEnds, IsOutline};
 
 use crate::facts::TypeFacts;
-use fs_paths::Fact;
+use fs_graph::Fact;
 use std::alloc::{AllocError, Global};
 use type_hierarchy::{Ty, Types};
 

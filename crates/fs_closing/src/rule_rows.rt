@@ -7,8 +7,8 @@ ghost use Rattle.fs_closing.specs.Systems.{rules_of};
 ghost use Rattle.fs_closing.specs.Inner.Outlines.{IsOutline};
 ghost use Rattle.fs_closing.specs.Inner.RuleRows.{HaveRows, AddsRow, IsShared, HaveOwn};
 
+use crate::NoMemory;
 use crate::facts::TypeFacts;
-use crate::fault::NoMemory;
 use crate::outline::{Outline, outline_of, type_of};
 use std::alloc::{AllocError, Global};
 use type_hierarchy::{Ty, Types};

@@ -13,7 +13,7 @@ ghost use Rattle.fs_closing.specs.Joined.{IsJoined};
 ghost use Rattle.fs_closing.specs.Work.{work_of, entry_claims, AreReady};
 ghost use Rattle.fs_closing.specs.Keeps.{AreSound, Leads, Clashes, StepsTo, begin, arc_claims, IsHeld, PushesFacts};
 
-use crate::fault::NoMemory;
+use crate::NoMemory;
 use crate::nodes::{Nodes, add_arc, depth_of, first_of, grow, live, set_type, ty_of, unite};
 use crate::parts::{own_arc, own_arcs, own_cell};
 use crate::system::TypeSystem;

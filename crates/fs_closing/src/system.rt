@@ -2,15 +2,15 @@
 
 ghost use Rattle.std.specs.Prelude.{◌≡◌, ℕ, ◌<◌, length, IfOk, slice_index_or};
 ghost use Rattle.type_hierarchy.specs.Table.{count_of};
-ghost use Rattle.fs_paths.specs.Facts.{claims_of};
+ghost use Rattle.fs_graph.specs.Facts.{claims_of};
 ghost use Rattle.fs_closing.specs.Rules.{IsGrammar, rules_above, no_rule, IsClaimIn, HaveSame};
 ghost use Rattle.fs_closing.specs.Systems.{grammar_of};
 ghost use Rattle.fs_model.specs.Claims.{Claim, Has};
 
+use crate::NoMemory;
 use crate::facts::TypeFacts;
-use crate::fault::NoMemory;
 use crate::rule_rows::{RuleRows, rule_rows};
-use fs_paths::Fact;
+use fs_graph::Fact;
 use std::alloc::Global;
 use std::marker::Model;
 use type_hierarchy::{Ty, Types};

@@ -6,7 +6,7 @@ ghost use Rattle.fs_closing.specs.Rules.{Rule};
 ghost use Rattle.fs_closing.specs.Work.{work_of, entry_claims, AreReady};
 ghost use Rattle.fs_closing.specs.Joined.{IsJoined};
 
-use crate::fault::NoMemory;
+use crate::NoMemory;
 use std::alloc::Global;
 
 /// Two nodes that are to be one.

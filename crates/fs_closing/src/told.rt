@@ -2,10 +2,10 @@
 
 ghost use Rattle.std.specs.Prelude.{◌≡◌, ◌<◌, ◌+◌, length, true, slice_index_or};
 ghost use Rattle.fs_model.specs.Claims.{Claim};
-ghost use Rattle.fs_paths.specs.Facts.{path_of, claim_of, claims_of};
+ghost use Rattle.fs_graph.specs.Facts.{path_of, claim_of, claims_of};
 ghost use Rattle.fs_closing.specs.Inner.Told.{GoesOn, SpeaksPast, IsTold};
 
-use fs_paths::{Fact, Feat};
+use fs_graph::{Fact, Feat};
 
 // Whether a path goes on from another one, or is that one.
 fn goes_on(path: &[Feat], from: &[Feat]) -> bool

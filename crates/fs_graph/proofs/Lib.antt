@@ -7,3 +7,4 @@ pub mod SameLemmas
 pub mod LineLemmas
 pub mod OneList
 pub mod HeightLemmas
+pub mod TextLemmas

@@ -14,8 +14,8 @@ use Rattle.fs_model.proofs.TableLemmas.{walk_ends}
 use Rattle.fs_model.proofs.PathLemmas.{before_branch}
 use Rattle.fs_model.proofs.ListingLemmas.{root_least, arc_path_first, arc_path_leads, in_either, in_one}
 use Rattle.fs_model.proofs.ListingSteps.{next_waits, not_listed, lists_again, lists_first, least_is, lists_whole, lists_begins}
-use Rattle.fs_paths.specs.declared.facts.PathLine.{PathLine}
-use Rattle.fs_paths.specs.Facts.{Line, line_of, path_of}
+use Rattle.fs_graph.specs.declared.facts.PathLine.{PathLine}
+use Rattle.fs_graph.specs.Facts.{Line, line_of, path_of}
 use Rattle.fs_graph.specs.declared.graph.GraphArc.{GraphArc}
 use Rattle.fs_graph.specs.declared.graph.Node.{Node}
 use Rattle.fs_graph.specs.declared.lines.Waiting.{Waiting}

@@ -7,7 +7,7 @@ use Rattle.fs_model.specs.Sources.{Reader, IsSameStructure}
 use Rattle.fs_model.specs.Numbering.{IsBefore, IsLeastPath}
 use Rattle.fs_model.specs.Listing.{AreLeast, IsShown, path_at, IsIn}
 use Rattle.fs_model.proofs.NumberingLemmas.{IsBefore-trans, IsBefore-itself, rises_once, rank_least}
-use Rattle.fs_paths.specs.Facts.{Line}
+use Rattle.fs_graph.specs.Facts.{Line}
 use Rattle.fs_graph.specs.PathLists.{IsLineOf, paths_of, IsPathList}
 
 -- the same structure, from the other side

@@ -6,3 +6,5 @@ pub mod Drawn
 pub mod PathLists
 pub mod PathLaws
 pub mod Inner
+pub mod Facts
+pub mod Text

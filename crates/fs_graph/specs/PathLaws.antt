@@ -1,7 +1,7 @@
 -- What is proved of lists of paths.
 use Rattle.std.specs.Prelude.{◌≡◌, List}
 use Rattle.fs_model.specs.Sources.{Reader, IsSameStructure}
-use Rattle.fs_paths.specs.Facts.{Line}
+use Rattle.fs_graph.specs.Facts.{Line}
 use Rattle.fs_graph.specs.PathLists.{IsPathList}
 
 -- one structure has one list of paths

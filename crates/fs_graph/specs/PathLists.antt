@@ -5,8 +5,8 @@ use Rattle.fs_model.specs.Claims.{Path}
 use Rattle.fs_model.specs.Sources.{Reader}
 use Rattle.fs_model.specs.Numbering.{IsBefore}
 use Rattle.fs_model.specs.Listing.{AreLeast, IsShown, path_at, IsIn, Listing}
-use Rattle.fs_paths.specs.declared.facts.PathLine.{PathLine}
-use Rattle.fs_paths.specs.Facts.{Line, line_of}
+use Rattle.fs_graph.specs.declared.facts.PathLine.{PathLine}
+use Rattle.fs_graph.specs.Facts.{Line, line_of}
 use Rattle.fs_graph.specs.declared.lines.Waiting.{Waiting}
 use Rattle.fs_graph.specs.GraphMap.{GraphMap, table_of, reader_of, IsGraph}
 

@@ -7,8 +7,7 @@ ghost use Rattle.fs_graph.specs.Drawn.{with_node, AddsArc};
 ghost use Rattle.fs_graph.specs.Orders.{IsOrdering, IsClash};
 
 use crate::order::{ordered, place};
-use crate::{Clash, Graph, GraphArc, NoMemory, Node};
-use fs_paths::Feat;
+use crate::{Clash, Feat, Graph, GraphArc, NoMemory, Node};
 use std::alloc::Global;
 use std::marker::Model;
 use type_hierarchy::Ty;

@@ -4,23 +4,8 @@ ghost use Rattle.std.specs.Prelude.{◌≡◌};
 ghost use Rattle.fs_graph.specs.declared.clash.Clash.TheVariants.{NoMemory as Wanting};
 
 use crate::Node;
+pub use std::alloc::AllocError as NoMemory;
 use std::alloc::{AllocError, AllocFailed};
-
-/// Memory was wanting.
-#[derive(Clone, Copy, Debug, PartialEq, Eq)]
-pub struct NoMemory;
-
-impl From<AllocError> for NoMemory {
-    fn from(_error: AllocError) -> NoMemory {
-        NoMemory
-    }
-}
-
-impl<T: Drop> From<AllocFailed<T>> for NoMemory {
-    fn from(_error: AllocFailed<T>) -> NoMemory {
-        NoMemory
-    }
-}
 
 /// Why nodes and arcs give no graph.
 #[derive(Clone, Copy, Debug, PartialEq, Eq)]
@@ -29,14 +14,6 @@ pub enum Clash {
     Cycle { node: Node },
     /// Memory was wanting.
     NoMemory,
-}
-
-impl From<NoMemory> for Clash {
-    ghost from_gives = { λ _ e. e ≡ Wanting };
-
-    fn from(_error: NoMemory) -> Clash {
-        Clash::NoMemory
-    }
 }
 
 impl From<AllocError> for Clash {

@@ -3,11 +3,11 @@
 ghost use Rattle.std.specs.Prelude.{◌≡◌, ℕ, ◌+◌, ◌<◌, ◌≤◌, ◌^◌, ◌↔◌, length, List, map, Some, None, IsTrue, option_map};
 ghost use Rattle.std.specs.List.{range_with_len};
 ghost use Rattle.fs_model.specs.Sources.{IsSameStructure};
-ghost use Rattle.fs_paths.specs.Facts.{path_of};
+ghost use Rattle.fs_graph.specs.Facts.{path_of};
 ghost use Rattle.fs_graph.specs.GraphMap.{arc_to};
 ghost use Rattle.fs_graph.specs.Inside.{AreRows, row};
 
-use fs_paths::Feat;
+use crate::Feat;
 use std::marker::Model;
 use type_hierarchy::Ty;
 

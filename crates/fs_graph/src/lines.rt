@@ -1,12 +1,11 @@
 //! A structure as a list of its paths.
 
 ghost use Rattle.std.specs.Prelude.{◌≡◌, ℕ, ◌+◌, ◌<◌, ◌++◌, ◌∷◌, [], length, map, reverse, replicate, None, IfOk, OnOk};
-ghost use Rattle.fs_paths.specs.Facts.{path_of, lines_of};
+ghost use Rattle.fs_graph.specs.Facts.{path_of, lines_of};
 ghost use Rattle.fs_graph.specs.GraphMap.{reader_of};
 ghost use Rattle.fs_graph.specs.PathLists.{IsPathList, IsListed, lines_left};
 
-use crate::{Graph, GraphArc, NoMemory, Node};
-use fs_paths::{Feat, PathLine, PathList};
+use crate::{Feat, Graph, GraphArc, NoMemory, Node, PathLine, PathList};
 use std::alloc::Global;
 
 /// An arc of a node that was listed. Its path waits to be listed.

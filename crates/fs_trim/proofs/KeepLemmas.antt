@@ -5,8 +5,8 @@ use Rattle.std.proofs.Common.{refl, sym, ◌∙◌, ap, arith}
 use Rattle.fs_model.specs.Claims.{Path}
 use Rattle.fs_model.specs.Table.{walk}
 use Rattle.fs_graph.specs.GraphMap.{GraphMap, table_of, reader_of, type_at}
-use Rattle.rule_model.specs.Cuts.{Cut, has_feature, is_kept}
-use Rattle.rule_model.specs.Views.{IsKeptOf}
+use Rattle.tree_model.specs.Cuts.{Cut, has_feature, is_kept}
+use Rattle.tree_model.specs.Views.{IsKeptOf}
 
 abbrev pub is_clear : Cut → ℕ → Bool
 is_clear cut f = not (has_feature cut.anywhere f)

@@ -20,8 +20,8 @@ use Rattle.fs_graph.proofs.RowLemmas.{row_at}
 use Rattle.fs_closing.specs.Rules.{Grammar}
 use Rattle.fs_unify.specs.Entering.{IsGraphIn}
 use Rattle.fs_unify.proofs.EnterLemmas.{rises_found, arc_to_has}
-use Rattle.rule_model.specs.Cuts.{Cut, is_kept}
-use Rattle.rule_model.specs.Views.{IsKeptOf, without}
+use Rattle.tree_model.specs.Cuts.{Cut, is_kept}
+use Rattle.tree_model.specs.Views.{IsKeptOf, without}
 use Rattle.fs_trim.specs.Cutting.{IsShort}
 use Rattle.fs_trim.specs.Inner.Rows.{leaves, IsCutPlan}
 use Rattle.fs_trim.proofs.KeepLemmas.{IsBared, bared_kept}

@@ -13,7 +13,7 @@ use Rattle.fs_graph.specs.Inner.Renumbering.{starts_of}
 use Rattle.fs_graph.specs.Visits.{feats_of, targets_of}
 use Rattle.fs_graph.proofs.FlatLemmas.{flat-more, starts-more, row_is, rows_are}
 use Rattle.fs_graph.proofs.RowLemmas.{arc_there}
-use Rattle.rule_model.specs.Cuts.{Cut}
+use Rattle.tree_model.specs.Cuts.{Cut}
 use Rattle.fs_trim.specs.Inner.Rows.{left_at, IsCutPlan, AreLeft}
 
 pub either_none : (b : Bool) (o : Option ℕ) → o ≡ None → None ≡ (if b then o else None)

@@ -4,3 +4,6 @@ pub mod LeftLemmas
 pub mod KeptLemmas
 pub mod SeenLemmas
 pub mod OweLemmas
+pub mod MeetLemmas
+pub mod MarkLemmas
+pub mod ArcLemmas

@@ -8,11 +8,11 @@ use Rattle.fs_model.specs.Closure.{Closure, below_exists, introduced, raised, co
 use Rattle.fs_model.specs.Sources.{Reader}
 use Rattle.fs_unify.specs.Entering.{IsWellFormed}
 use Rattle.fs_unify.specs.Owing.{Holds, OwedFacts, is_owed, IsWellFormedBut, is_one_of, begins_with, is_cut_off}
-use Rattle.rule_model.specs.Cuts.{Cut, Kept, kept_exists, kept_same, kept_below, has_feature, is_kept}
-use Rattle.rule_model.specs.Views.{Shows, IsKeptOf}
-use Rattle.rule_model.proofs.Closures.{closure_ends, kept_ends}
-use Rattle.rule_model.proofs.Steps.{shows_kept}
-use Rattle.rule_model.proofs.ViewLemmas.{graph_shows}
+use Rattle.tree_model.specs.Cuts.{Cut, Kept, kept_exists, kept_same, kept_below, has_feature, is_kept}
+use Rattle.tree_model.specs.Views.{Shows, IsKeptOf}
+use Rattle.tree_model.proofs.Closures.{closure_ends, kept_ends}
+use Rattle.tree_model.proofs.Steps.{shows_kept}
+use Rattle.tree_model.proofs.ViewLemmas.{graph_shows}
 use Rattle.fs_trim.specs.Cutting.{owed_of}
 use Rattle.fs_trim.specs.Owing.{FullsOwe, ShapesOwe, AbstractsOwe, ClosuresOwe}
 use Rattle.fs_trim.proofs.SeenLemmas.{seen_shows}

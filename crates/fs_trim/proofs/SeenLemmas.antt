@@ -3,9 +3,9 @@ use Rattle.std.specs.Prelude.{ℕ, ◌≡◌, ◌==◌, Bool, true, false, Optio
 use Rattle.std.proofs.Common.{refl, sym, ◌∙◌, ap, subst, eqb-true, eq-eqb}
 use Rattle.fs_model.specs.Claims.{Path, Claim, exists_at, same, System, Has, here, there}
 use Rattle.fs_model.specs.Sources.{Reader}
-use Rattle.rule_model.specs.Structures.{Along, along_more, Beside, beside_here, beside_there, IsTypeAt, IsEqualAt, IsStructureOf}
-use Rattle.rule_model.specs.Views.{view, view_type, same_node, IsInside, Shows}
-use Rattle.rule_model.proofs.Closures.{HasEnds, has_pair}
+use Rattle.tree_model.specs.Structures.{Along, along_more, Beside, beside_here, beside_there, IsTypeAt, IsEqualAt, IsStructureOf}
+use Rattle.tree_model.specs.Views.{view, view_type, same_node, IsInside, Shows}
+use Rattle.tree_model.proofs.Closures.{HasEnds, has_pair}
 
 beside_map : {A B : Type 0} (f : A → B) {a : A} {xs : List A} → Has a xs → Beside a (f a) xs (map f xs)
 beside_map f here = beside_here

@@ -11,9 +11,9 @@ use Rattle.fs_closing.specs.Rules.{Grammar, system_of}
 use Rattle.fs_unify.specs.Entering.{IsGraphIn}
 use Rattle.fs_unify.specs.Owing.{IsWellFormedBut, OwedRules, ListsOwed, owes_all, owes_rules}
 use Rattle.fs_unify.specs.Placing.{PlacedGraph, IsPlacedIn}
-use Rattle.rule_model.specs.Cuts.{Cut}
-use Rattle.rule_model.specs.Views.{IsTrimmed, source_alone}
-use Rattle.rule_model.proofs.Steps.{answers_are_short, cut_trims, steps_trim}
+use Rattle.tree_model.specs.Cuts.{Cut}
+use Rattle.tree_model.specs.Views.{IsTrimmed, source_alone}
+use Rattle.tree_model.proofs.Steps.{answers_are_short, cut_trims, steps_trim}
 use Rattle.fs_trim.specs.Cutting.{owed_of, IsShort}
 use Rattle.fs_trim.specs.Inner.Keeping.{KeepsUnified}
 

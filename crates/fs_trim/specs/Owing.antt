@@ -3,9 +3,9 @@ use Rattle.std.specs.Prelude.{List}
 use Rattle.fs_model.specs.Closure.{Closure}
 use Rattle.fs_model.specs.Sources.{Reader, Source, Told}
 use Rattle.fs_unify.specs.Owing.{OwedFacts, IsWellFormedBut}
-use Rattle.rule_model.specs.Mothers.{Rule, RuleSystem, Meant, IsFull, IsAbstract, IsShape}
-use Rattle.rule_model.specs.Structures.{Structure, IsStructureOf}
-use Rattle.rule_model.specs.Views.{view, IsInside}
+use Rattle.tree_model.specs.Mothers.{Rule, RuleSystem, Meant, IsFull, IsAbstract, IsShape}
+use Rattle.tree_model.specs.Structures.{Structure, IsStructureOf}
+use Rattle.tree_model.specs.Views.{view, IsInside}
 use Rattle.fs_trim.specs.Cutting.{owed_of}
 
 -- the full structure of a mother owes only facts that speak of her daughters

@@ -2,19 +2,18 @@
 
 ghost use Rattle.std.specs.Prelude.{◌≡◌, ◌++◌, ℕ, length, IfOk, OnOk};
 ghost use Rattle.fs_model.specs.Claims.{System};
-ghost use Rattle.fs_paths.specs.Facts.{path_of};
+ghost use Rattle.fs_graph.specs.Facts.{path_of};
 ghost use Rattle.fs_graph.specs.GraphMap.{reader_of};
 ghost use Rattle.fs_closing.specs.Rules.{Grammar};
 ghost use Rattle.fs_unify.specs.Entering.{IsGraphIn, IsWellFormed};
 ghost use Rattle.fs_unify.specs.Owing.{IsWellFormedBut};
-ghost use Rattle.rule_model.specs.Cuts.{has_feature};
-ghost use Rattle.rule_model.specs.Views.{IsKeptOf};
+ghost use Rattle.tree_model.specs.Cuts.{has_feature};
+ghost use Rattle.tree_model.specs.Views.{IsKeptOf};
 ghost use Rattle.fs_trim.specs.Cutting.{cut_of, owed_of, IsShort};
 ghost use Rattle.fs_trim.specs.Inner.Rows.{leaves, left, IsCutPlan};
 
 use crate::Cut;
-use fs_graph::{Clash, Graph, GraphArc, Node, ordered};
-use fs_paths::Feat;
+use fs_graph::{Clash, Feat, Graph, GraphArc, Node, ordered};
 use fs_unify::NoMemory;
 use std::alloc::Global;
 use type_hierarchy::Ty;

@@ -8,18 +8,21 @@ ghost use Rattle.fs_closing.specs.Rules.{system_of};
 ghost use Rattle.fs_unify.specs.Owing.{IsWellFormedBut, ListsOwed};
 ghost use Rattle.fs_unify.specs.Placing.{PlacedGraph, source_of, IsPlacedIn};
 ghost use Rattle.fs_unify.specs.Room.{room_of};
-ghost use Rattle.rule_model.specs.Views.{IsTrimmed};
+ghost use Rattle.tree_model.specs.Views.{IsTrimmed};
 ghost use Rattle.fs_trim.specs.Cutting.{cut_of, owed_of, IsShort};
 ghost use Rattle.fs_trim.specs.Owing.{FullsOwe, ShapesOwe, AbstractsOwe, ClosuresOwe};
 ghost use Rattle.fs_trim.specs.Inner.Keeping.{KeepsUnified};
 
+mod arcs;
 mod kept;
+mod nodes;
+mod subsuming;
 
-use fs_graph::Graph;
-use fs_paths::Feat;
+use fs_graph::{Feat, Graph};
 use fs_unify::{NoMemory, Owed, Parts, Scratch, TypeSystem, unify};
 pub use kept::keep;
 use std::alloc::Global;
+pub use subsuming::subsumes;
 
 /// Features that are cut off at the root alone, and features that are cut off wherever they stand.
 #[derive(Debug, Drop)]

@@ -9,7 +9,7 @@ use Rattle.std.proofs.lemmas.List.Elements.{filter-append}
 use Rattle.fs_model.specs.Claims.{Claim, Has, here, there}
 use Rattle.fs_closing.specs.Rules.{Grammar, no_rule, rules_above, HaveSame}
 use Rattle.fs_closing.proofs.RangeLemmas.{Has-filter, Has-of_filter}
-use Rattle.fs_paths.specs.declared.facts.Feat.{Feat}
+use Rattle.fs_graph.specs.declared.facts.Feat.{Feat}
 use Rattle.fs_unify.specs.Owing.{HaveOwing}
 use Rattle.fs_unify.specs.Inner.Marks.{HaveMarks}
 

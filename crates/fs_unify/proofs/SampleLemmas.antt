@@ -6,8 +6,8 @@ use Rattle.std.proofs.lemmas.List.Elements.{All-map}
 use Rattle.type_hierarchy.specs.declared.types.Ty.{Ty}
 use Rattle.type_hierarchy.specs.Table.{TypeTable, count_of, is_below}
 use Rattle.fs_model.specs.Claims.{Path, Claim, IsBare, Has, here, there}
-use Rattle.fs_paths.specs.declared.facts.Fact.{Fact}
-use Rattle.fs_paths.specs.Facts.{claim_of, claims_of}
+use Rattle.fs_graph.specs.declared.facts.Fact.{Fact}
+use Rattle.fs_graph.specs.Facts.{claim_of, claims_of}
 use Rattle.fs_closing.specs.declared.facts.TypeFacts.{TypeFacts}
 use Rattle.fs_closing.specs.Rules.{Rule, no_rule, Grammar, IsGrammar, IsClaimIn, facts_in, system_of}
 use Rattle.fs_closing.specs.Systems.{grammar_of, rule_of, rules_of}

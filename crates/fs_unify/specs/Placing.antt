@@ -4,7 +4,7 @@ use Rattle.type_hierarchy.specs.Table.{count_of}
 use Rattle.fs_model.specs.Claims.{Path, Has}
 use Rattle.fs_model.specs.Sources.{Part, Source}
 use Rattle.fs_model.specs.Table.{NodeClaim, is_same}
-use Rattle.fs_paths.specs.Facts.{path_of}
+use Rattle.fs_graph.specs.Facts.{path_of}
 use Rattle.fs_graph.specs.GraphMap.{GraphMap, reader_of}
 use Rattle.fs_closing.specs.declared.nodes.Nodes.{Nodes}
 use Rattle.fs_closing.specs.declared.tasks.Tasks.{Tasks}

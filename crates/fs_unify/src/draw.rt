@@ -12,8 +12,7 @@ ghost use Rattle.fs_unify.specs.Drawing.{PutsArc, ended_row, DrawsTypes, AddsRow
 use crate::NoMemory;
 use fs_closing::nodes::{Nodes, first_of, live, ty_of};
 use fs_closing::parts::{own_arcs, own_cell};
-use fs_graph::{Clash, Graph, GraphArc, Node, Order, graph_of, order_in};
-use fs_paths::Feat;
+use fs_graph::{Clash, Feat, Graph, GraphArc, Node, Order, graph_of, order_in};
 use std::alloc::Global;
 use type_hierarchy::Ty;
 

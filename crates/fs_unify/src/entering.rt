@@ -16,7 +16,7 @@ ghost use Rattle.fs_closing.specs.Keeps.{AreSound};
 
 use crate::owed::Owed;
 use crate::parts::Standing;
-use fs_closing::fault::NoMemory;
+use fs_closing::NoMemory;
 use fs_closing::nodes::{Nodes, add_graph};
 use fs_closing::parts::Based;
 use fs_closing::steps::push_rules;

@@ -9,9 +9,10 @@ pub mod scratch;
 pub mod structure;
 pub mod unifier;
 
-pub use fs_closing::{NoMemory, TypeFacts, TypeSystem};
+pub use fs_closing::{TypeFacts, TypeSystem};
 pub use owed::Owed;
 pub use parts::Parts;
 pub use scratch::Scratch;
+pub use std::alloc::AllocError as NoMemory;
 pub use structure::structure_of;
 pub use unifier::{unifies, unify};

@@ -3,15 +3,15 @@
 ghost use Rattle.std.specs.Prelude.{◌≡◌, ◌<◌, Bool, map, length, filter, IfOk, slice_index_or};
 ghost use Rattle.std.specs.List.{list_any};
 ghost use Rattle.type_hierarchy.specs.Table.{count_of};
-ghost use Rattle.fs_paths.specs.Facts.{path_of, claim_of, claims_of};
+ghost use Rattle.fs_graph.specs.Facts.{path_of, claim_of, claims_of};
 ghost use Rattle.fs_closing.specs.Rules.{no_rule, rules_above, HaveSame};
 ghost use Rattle.fs_model.specs.Claims.{Claim};
 ghost use Rattle.fs_unify.specs.Owing.{is_one_of, begins_with, is_cut_off, speaks_of, owed_by, row_at, HaveOwing, ListsOwed};
 ghost use Rattle.fs_unify.specs.Inner.Marks.{HaveMarks};
 
-use fs_closing::fault::NoMemory;
+use fs_closing::NoMemory;
 use fs_closing::system::TypeSystem;
-use fs_paths::{Fact, Feat};
+use fs_graph::{Fact, Feat};
 use std::alloc::Global;
 use std::marker::Model;
 

@@ -2,14 +2,13 @@
 
 ghost use Rattle.std.specs.Prelude.{◌≡◌, ◌∷◌, ◌++◌, [], IfOk, OnOk, OnErr};
 ghost use Rattle.fs_unify.specs.Inner.Bases.{AreNumbered};
-ghost use Rattle.fs_paths.specs.Facts.{path_of};
+ghost use Rattle.fs_graph.specs.Facts.{path_of};
 ghost use Rattle.fs_unify.specs.Owing.{owes_all, owes_nothing, owes_rules};
 
 use crate::NoMemory;
 use crate::owed::Owed;
 use fs_closing::parts::Based;
-use fs_graph::Graph;
-use fs_paths::Feat;
+use fs_graph::{Feat, Graph};
 use std::alloc::Global;
 use std::marker::Model;
 

@@ -6,8 +6,8 @@ ghost use Rattle.fs_closing.specs.NodeTable.{IsWhole, IsWithin, AreFlat};
 ghost use Rattle.fs_unify.specs.Room.{room_of, LendsMarks};
 
 use crate::draw::Picture;
+use fs_closing::NoMemory;
 use fs_closing::cells::Cells;
-use fs_closing::fault::NoMemory;
 use fs_closing::marks::Marks;
 use fs_closing::nodes::Nodes;
 use fs_closing::parts::Based;

@@ -5,7 +5,7 @@ ghost use Rattle.type_hierarchy.specs.Table.{count_of};
 ghost use Rattle.fs_model.specs.Claims.{Claim, IsBare, IsOrder, Has};
 ghost use Rattle.fs_model.specs.Sources.{IsUnified};
 ghost use Rattle.fs_model.specs.Table.{from};
-ghost use Rattle.fs_paths.specs.Facts.{claims_of};
+ghost use Rattle.fs_graph.specs.Facts.{claims_of};
 ghost use Rattle.fs_graph.specs.GraphMap.{reader_of};
 ghost use Rattle.fs_closing.specs.Rules.{system_of, IsClaimIn};
 ghost use Rattle.fs_closing.specs.NodeTable.{IsWhole, IsWithin, AreFlat};
@@ -18,13 +18,12 @@ ghost use Rattle.fs_unify.specs.Room.{room_of};
 
 use crate::draw::{Picture, draw, graph_from};
 use crate::scratch::Scratch;
+use fs_closing::NoMemory;
 use fs_closing::closing::{apply, close};
-use fs_closing::fault::NoMemory;
 use fs_closing::nodes::{Nodes, add_node};
 use fs_closing::system::TypeSystem;
 use fs_closing::tasks::Tasks;
-use fs_graph::Graph;
-use fs_paths::Fact;
+use fs_graph::{Fact, Graph};
 use std::alloc::Global;
 
 // Puts facts at the root.

@@ -1,14 +1,14 @@
 -- MRSs that are one but for the numbers of their variables have the same answers.
 use Rattle.std.proofs.Common.{ℕ, ◌≡◌, Option, Some, None, List, subst}
 use Rattle.std.specs.Prelude.{slice_get}
-use Rattle.cover.specs.declared.counts.Counts.{Counts}
+use Rattle.chart_model.specs.declared.counts.Counts.{Counts}
 use Rattle.type_hierarchy.specs.Table.{TypeTable}
 use Rattle.derivation.specs.Trees.{Derivation, Daughters}
-use Rattle.rule_model.specs.Structures.{Structure}
-use Rattle.item_model.specs.Signs.{Signs, Instance}
-use Rattle.item_model.specs.Lexical.{Words}
-use Rattle.item_model.specs.Items.{LeafTree, IsLeafTree, AreLeaves, AreMoreThan, Limits}
-use Rattle.contributions.specs.Bags.{Word, preds_of}
+use Rattle.tree_model.specs.Structures.{Structure}
+use Rattle.tree_model.specs.Signs.{Signs, Instance}
+use Rattle.tree_model.specs.Lexical.{Words}
+use Rattle.tree_model.specs.Items.{LeafTree, IsLeafTree, AreLeaves, AreMoreThan, Limits}
+use Rattle.generate_model.specs.Bags.{Word, preds_of}
 use Rattle.mrs_model.specs.Meanings.{Meaning}
 use Rattle.mrs_places.specs.Paths.{Feature, Paths}
 use Rattle.mrs_reading.specs.Laws.{IsRenumbering}

@@ -1,7 +1,7 @@
 -- The answer to a line that writes an MRS: the sentences that realize it, or the limit that is broken.
 use Rattle.std.specs.Prelude.{ℕ, true, List, [], ◌∷◌, Bool}
 use Rattle.std.specs.Str.{chars, IsUtf8}
-use Rattle.item_model.specs.Items.{Limits}
+use Rattle.tree_model.specs.Items.{Limits}
 use Rattle.mrs_model.specs.Meanings.{Meaning}
 use Rattle.mrs_places.specs.Paths.{Feature}
 use Rattle.mrs_reading.specs.Places.{Says, IsPlace}

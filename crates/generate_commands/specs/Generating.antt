@@ -1,12 +1,12 @@
 -- What `generate` is to do: the MRSs that the lines of the input write are answered with the grammar of some files.
-use Rattle.std.specs.Prelude.{ℕ, ◌≡◌, true, List, Option}
+use Rattle.std.specs.Prelude.{ℕ, ◌≡◌, Bool, true, List, Option}
 use Rattle.type_hierarchy.specs.Decls.{texts}
 use Rattle.grammar_load.specs.Loaded.{GrammarTree}
 use Rattle.mrs_places.specs.Paths.{Feature}
-use Rattle.mrs_paths.specs.Settled.{c_cont_said}
-use Rattle.endings.specs.Meanings.{Meaning, Files}
+use Rattle.mrs_places.specs.Settled.{c_cont_said}
+use Rattle.endings.specs.Meanings.{Meaning, Files, no_notes}
 use Rattle.endings.specs.Reports.{AreAnswers, OrNoMemory}
-use Rattle.command_grammars.specs.Grammars.{HasGrammar, IsFirstFault}
+use Rattle.command_files.specs.Grammars.{HasGrammar, IsFirstFault}
 use Rattle.engine.specs.Speeches.{IsSpeechOf}
 use Rattle.generate_commands.specs.Answers.{Speaker, Bounds, IsAnswer}
 
@@ -22,13 +22,14 @@ pub record IsSpeakerOf (g : GrammarTree) (s : Speaker) : Type 0 where
 abbrev pub HasSpeaker : Files → List ℕ → Option (List ℕ) → Speaker → Type 0
 HasSpeaker files name settings s = (g : GrammarTree) × HasGrammar files name settings g × IsSpeakerOf g s
 
--- `generate`: the answers to the lines, one after the other
-abbrev pub generate_meaning : List ℕ → Option (List ℕ) → Bounds → Meaning
-generate_meaning name settings bounds = record {
+-- `generate`: the answers to the lines, one after the other; `verbose` says whether more is told of a fault of the files
+abbrev pub generate_meaning : List ℕ → Option (List ℕ) → Bool → Bounds → Meaning
+generate_meaning name settings verbose bounds = record {
   opens = true;
   reads = true;
   loadable = λ files. (g : GrammarTree) × HasGrammar files name settings g;
-  first = IsFirstFault name settings;
+  first = IsFirstFault name settings verbose;
   report = λ files lines pieces refused. (s : Speaker) × HasSpeaker files name settings s × AreAnswers (IsAnswer s bounds) 1 lines pieces refused;
   with_gaps = λ files lines pieces wanting. (s : Speaker) × HasSpeaker files name settings s × AreAnswers (OrNoMemory (IsAnswer s bounds)) 1 lines pieces wanting;
+  notes = no_notes;
 }

@@ -4,7 +4,7 @@ use crate::NoMemory;
 use crate::reports::{report_of, report_of_no_mrs};
 use chart_core::Limits;
 use chart_workers::BySize;
-use endings::lines::{Answers, Share};
+use endings::lines::{Answer, Answers, Share};
 use endings::pieces::Report;
 use engine::Engine;
 use engine::desks::{Desk, Desks};
@@ -148,9 +148,12 @@ impl Answers for Generator<'_, '_, '_, '_> {
         line: &[u8],
         share: Share,
         gate: &dyn Gate,
-    ) -> Result<Report, endings::lines::NoMemory> {
+    ) -> Result<Answer, endings::lines::NoMemory> {
         match self.report(rt, alloc, number, line, share, gate) {
-            Ok(report) => Ok(report),
+            Ok(report) => Ok(Answer {
+                report,
+                note: Vec::new(alloc),
+            }),
             Err(_) => Err(endings::lines::NoMemory),
         }
     }

@@ -11,8 +11,7 @@ use crate::NoMemory;
 use engine::Engine;
 use fs_unify::Scratch;
 use mrs_generate::{Contributors, contributors_of};
-use mrs_paths::c_cont_path;
-use mrs_places::MrsFeat;
+use mrs_places::{MrsFeat, c_cont_path};
 use std::alloc::Global;
 
 /// Where the relations stand that a rule contributes itself, and what lexical trees and rules contribute.

@@ -12,7 +12,7 @@ ghost use Rattle.generate_commands.specs.Views.{bounds_with};
 use crate::using::AllLines;
 use book_signs::laws::whole_book;
 use chart_core::Limits;
-use command_grammars::load_grammar;
+use command_files::load_grammar;
 use endings::{Fault, Stop};
 use engine::with_engine;
 use grammar_names::loaded_names;
@@ -31,6 +31,8 @@ pub struct Generate<'a> {
     pub limits: Limits,
     /// How many workers share the lines, and a chart, 1 to 64. It changes no answer.
     pub workers: u32,
+    /// Whether more is told of a fault of its files.
+    pub verbose: bool,
 }
 
 /// `generate`: loads the grammar, and answers all lines of the source. `Ok` tells whether a line was refused. The order is: the
@@ -46,17 +48,24 @@ pub fn generate_lines<S: Shelf, I: Source, O: Sink, Rt: Threads + Wait + Sync>(
 ) -> Result<bool, Fault>
     requires limits { InRange command.now.limits }
     requires workers { IsCrewSize command.now.workers }
-    ensures { Ended (generate_meaning command.now.grammar.now (option_map (λ s. s.now) command.now.settings) (bounds_with command.now.limits)) (shelves S.files S.faults S.asked shelf.old shelf.new)
+    ensures { Ended (generate_meaning command.now.grammar.now (option_map (λ s. s.now) command.now.settings) command.now.verbose (bounds_with command.now.limits)) (shelves S.files S.faults S.asked shelf.old shelf.new)
         (streams I.left I.faults O.written O.flushed O.faults input.old input.new out.old out.new) (input.new ≡ input.old) ((input.new ≡ input.old) × (out.new ≡ out.old)) result }
 {
     whole_book();
     loaded_names();
-    let grammar = load_grammar(alloc, shelf, command.grammar, command.settings)?;
+    let grammar = load_grammar(
+        alloc,
+        shelf,
+        command.grammar,
+        command.settings,
+        command.verbose,
+    )?;
     let job = AllLines {
         limits: command.limits,
         workers: command.workers,
     };
-    match with_engine(rt, alloc, &grammar, &job, input, out, gate) {
+    let mut nothing = ();
+    match with_engine(rt, alloc, &grammar, &job, input, out, &mut nothing, gate) {
         Ok(Ok(refused)) => Ok(refused),
         Ok(Err(stop)) => Err(Fault::Stopped(stop)),
         Err(_) => Err(Fault::Stopped(Stop::NoMemory)),

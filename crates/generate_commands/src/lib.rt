@@ -9,32 +9,4 @@ mod reports;
 mod using;
 
 pub use generating::{Generate, generate_lines};
-use std::alloc::{AllocError, AllocFailed};
-
-/// Memory was wanting.
-#[derive(Clone, Copy, Debug, PartialEq, Eq)]
-pub struct NoMemory;
-
-impl From<AllocError> for NoMemory {
-    fn from(_: AllocError) -> NoMemory {
-        NoMemory
-    }
-}
-
-impl<T: Drop> From<AllocFailed<T>> for NoMemory {
-    fn from(_: AllocFailed<T>) -> NoMemory {
-        NoMemory
-    }
-}
-
-impl From<word_lists::NoMemory> for NoMemory {
-    fn from(_: word_lists::NoMemory) -> NoMemory {
-        NoMemory
-    }
-}
-
-impl From<mrs_generate::NoMemory> for NoMemory {
-    fn from(_: mrs_generate::NoMemory) -> NoMemory {
-        NoMemory
-    }
-}
+pub use std::alloc::AllocError as NoMemory;

@@ -2,7 +2,7 @@
 
 ghost use Rattle.std.specs.Prelude.{◌≡◌, ◌∷◌, [], true, map, IfOk};
 ghost use Rattle.item_reports.specs.Reports.{item_line, no_mrs_line};
-ghost use Rattle.tree_sentences.specs.Views.{sentence_seen};
+ghost use Rattle.realized_trees.specs.Views.{sentence_seen};
 ghost use Rattle.mrs_generate.specs.Views.{answer_seen};
 ghost use Rattle.generate_commands.specs.Reports.{counts, sentence_line, sentences_lines, answer_lines, is_refused};
 
@@ -10,8 +10,8 @@ use crate::NoMemory;
 use endings::pieces::Report;
 use item_reports::{lines_of_no_mrs, lines_of_refusal};
 use mrs_generate::GenAnswer;
+use realized_trees::Sentence;
 use std::alloc::Global;
-use tree_sentences::Sentence;
 
 // `item N classes C sentences K`
 fn counts_line(
@@ -19,7 +19,7 @@ fn counts_line(
     number: u64,
     classes: u32,
     sentences: usize,
-) -> Result<Vec<u8>, word_lists::NoMemory>
+) -> Result<Vec<u8>, lexicon::NoMemory>
     ensures { IfOk result (λ line. line.items ≡ item_line number (counts classes sentences)) }
 {
     let line = format!(in alloc; "item {number} classes {classes} sentences {sentences}\n")?;
@@ -27,7 +27,7 @@ fn counts_line(
 }
 
 // Two blanks and a sentence.
-fn sentence_line(alloc: Global, sentence: &Sentence) -> Result<Vec<u8>, word_lists::NoMemory>
+fn sentence_line(alloc: Global, sentence: &Sentence) -> Result<Vec<u8>, lexicon::NoMemory>
     ensures { IfOk result (λ line. line.items ≡ sentence_line (sentence_seen sentence.now)) }
 {
     let text = sentence.text.as_bytes();
@@ -45,7 +45,7 @@ fn lines_of_sentences(
     number: u64,
     classes: u32,
     sentences: &[Sentence],
-) -> Result<Vec<Vec<u8>>, word_lists::NoMemory>
+) -> Result<Vec<Vec<u8>>, lexicon::NoMemory>
     ensures { IfOk result (λ lines. map (λ l. l.items) lines.items ≡ sentences_lines number classes (map sentence_seen sentences.now)) }
 {
     let mut lines = Vec::with_capacity(alloc, sentences.len() + 1)?;
@@ -61,7 +61,7 @@ fn answer_lines(
     alloc: Global,
     number: u64,
     answer: &GenAnswer,
-) -> Result<Vec<Vec<u8>>, word_lists::NoMemory>
+) -> Result<Vec<Vec<u8>>, lexicon::NoMemory>
     ensures { IfOk result (λ lines. map (λ l. l.items) lines.items ≡ answer_lines number (answer_seen answer.now)) }
 {
     match answer {

@@ -25,14 +25,14 @@ pub(crate) struct AllLines {
     ghost size: { IsCrewSize workers },
 }
 
-impl<I: Source, O: Sink> Use<I, O> for AllLines {
+impl<I: Source, O: Sink, X> Use<I, O, X> for AllLines {
     ghost use Rattle.endings.specs.Reports.{streams};
     ghost use Rattle.generate_commands.specs.Views.{bounds_with};
     ghost use Rattle.generate_commands.specs.Inner.Contributing.{IsServedBy};
 
     type Out = Result<bool, Stop>;
 
-    ghost Gives = { λ job g speech input left out written end. IsServedBy g speech (bounds_with job.limits) (streams I.left I.faults O.written O.flushed O.faults input left out written) end };
+    ghost Gives = { λ job g speech input left out written none nothing end. IsServedBy g speech (bounds_with job.limits) (streams I.left I.faults O.written O.flushed O.faults input left out written) end };
 
     fn run<Rt: Threads + Wait + Sync>(
         &self,
@@ -41,6 +41,7 @@ impl<I: Source, O: Sink> Use<I, O> for AllLines {
         engine: &Engine<'_, '_, '_, '_, '_, '_, '_, '_, '_, '_>,
         input: &mut I,
         out: &mut O,
+        _nothing: &mut X,
         gate: &dyn Gate,
     ) -> Result<bool, Stop> {
         let Ok(given) = contributions_of(alloc, engine, self.limits.lexical) else {

@@ -3,12 +3,12 @@ use Rattle.std.specs.Prelude.{ℕ, ◌≡◌, ◌⊎◌, ◌+◌, ◌≤◌, ◌
 use Rattle.std.proofs.Common.{refl, sym, ◌∙◌, ap, subst, arith, eq-eqb, le-leb, inl, inr}
 use Rattle.std.specs.Cmp.Lexicographic.{bytes_decides}
 use Rattle.std.specs.Str.{bytes_eq}
-use Rattle.cover.specs.declared.counts.Counts.{Counts}
-use Rattle.cover.specs.Sums.{counts_join}
-use Rattle.cover.specs.Lists.{add_all, all_within}
-use Rattle.item_model.specs.Lexical.{Word}
+use Rattle.chart_model.specs.declared.counts.Counts.{Counts}
+use Rattle.chart_model.specs.Sums.{counts_join}
+use Rattle.chart_model.specs.Lists.{add_all, all_within}
+use Rattle.tree_model.specs.Lexical.{Word}
 use Rattle.generate_model.proofs.CoverProofs.{sum_cons}
-use Rattle.contributions.specs.Bags.{count, SameBag, LiesIn, is_among, noted, all_noted, distinct, all_among, tally, counted, bound_of}
+use Rattle.generate_model.specs.Bags.{count, SameBag, LiesIn, is_among, noted, all_noted, distinct, all_among, tally, counted, bound_of}
 
 pub count_append : (w : Word) (xs ys : List Word) → count w (xs ++ ys) ≡ count w xs + count w ys
 count_append w [] ys = omega arith

@@ -7,14 +7,14 @@ use Rattle.fs_model.specs.Numbering.{IsSameTable}
 use Rattle.fs_model.proofs.NumberingLemmas.{numbers_are_one}
 use Rattle.fs_graph.specs.GraphMap.{GraphMap, IsGraph, reader_of, table_of, type_at}
 use Rattle.type_hierarchy.specs.Table.{TypeTable}
-use Rattle.rule_model.specs.Views.{Shows}
-use Rattle.rule_model.specs.Mothers.{Meant}
-use Rattle.item_model.specs.Signs.{Instance, rule_system}
+use Rattle.tree_model.specs.Views.{Shows}
+use Rattle.tree_model.specs.Mothers.{Meant}
+use Rattle.tree_model.specs.Signs.{Instance, rule_system}
 use Rattle.mrs_places.specs.Paths.{Feature, Paths}
 use Rattle.mrs_places.specs.Looking.{Sought, Place, Walks, at_last, at_null, is_open, no_rest, goes_on, and_more, step, arc_by, below, follow}
-use Rattle.contributions.specs.Bags.{Word}
-use Rattle.contributions.specs.Contributing.{IsList, pred_node, and_type, pred_types, PredTypes, listed, unlisted, Predicates}
-use Rattle.contributions.proofs.OneList.{predicates_are_one}
+use Rattle.generate_model.specs.Bags.{Word}
+use Rattle.generate_model.specs.Contributing.{IsList, pred_node, and_type, pred_types, PredTypes, listed, unlisted, Predicates}
+use Rattle.generate_model.proofs.OneList.{predicates_are_one}
 use Rattle.generate_model.specs.Contributions.{Input, IsGraphOf, SaysAt, GivesOf}
 use Rattle.generate_model.specs.Laws.{InputsAreTold}
 

@@ -7,9 +7,9 @@ use Rattle.std.specs.Cmp.Lexicographic.{slice_cmp}
 use Rattle.std.specs.declared.cmp.Ordering.{Ordering}
 use Rattle.std.specs.declared.cmp.Ordering.TheVariants.{Equal, Less, Greater}
 use Rattle.std.specs.Cmp.{nat_cmp_is}
-use Rattle.cover.specs.declared.counts.Counts.{Counts}
-use Rattle.cover.specs.Sums.{counts_join, counts_size, counts_told}
-use Rattle.cover.specs.Lists.{add_all, all_within}
+use Rattle.chart_model.specs.declared.counts.Counts.{Counts}
+use Rattle.chart_model.specs.Sums.{counts_join, counts_size, counts_told}
+use Rattle.chart_model.specs.Lists.{add_all, all_within}
 use Rattle.generate_model.specs.Covers.{counts_next, counts_all, same_counts, IsCount, CountsAreCovers}
 
 both : (a b : Bool) → a && b ≡ true → (a ≡ true) × (b ≡ true)

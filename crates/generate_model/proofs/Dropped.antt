@@ -5,10 +5,10 @@ use Rattle.std.proofs.lemmas.Bool.{cases_lt}
 use Rattle.fs_model.specs.Claims.{Path, Claim, exists_at, same, below, at, System, Has, here, there}
 use Rattle.fs_model.specs.Closure.{Closure, AreConsistent, given_claim, same_sym, same_trans}
 use Rattle.fs_model.specs.Sources.{Told}
-use Rattle.rule_model.specs.Structures.{Structure, Beside, beside_here, beside_there}
-use Rattle.rule_model.specs.Mothers.{Rule, RuleSystem, IsFull, IsFullAt, Whole, Meant, Parts, of_rule, of_daughter, arity_at}
-use Rattle.rule_model.proofs.Closures.{grows, moved, falls}
-use Rattle.rule_model.proofs.MotherLaws.{mother_consistent, meant_full}
+use Rattle.tree_model.specs.Structures.{Structure, Beside, beside_here, beside_there}
+use Rattle.tree_model.specs.Mothers.{Rule, RuleSystem, IsFull, IsFullAt, Whole, Meant, Parts, of_rule, of_daughter, arity_at}
+use Rattle.tree_model.proofs.Closures.{grows, moved, falls}
+use Rattle.tree_model.proofs.MotherLaws.{mother_consistent, meant_full}
 use Rattle.generate_model.specs.Threads.{times, Open, Reaches, Threads, threads_none, threads_next, total, Stands, stands_here, stands_there}
 use Rattle.generate_model.specs.Embedding.{Embeds, moved_to, IsOutside}
 use Rattle.generate_model.specs.Threading.{Links, links_none, links_next, IsThreading, Fit, Hopeless, HopelessMayBeDropped}

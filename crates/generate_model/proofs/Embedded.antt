@@ -3,11 +3,11 @@ use Rattle.std.specs.Prelude.{ℕ, ◌≡◌, ◌+◌, true, List, ◌++◌}
 use Rattle.std.proofs.Common.{sym, ◌∙◌, ap, subst, append_assoc}
 use Rattle.fs_model.specs.Claims.{Path, Claim, exists_at, same, below, at}
 use Rattle.fs_model.specs.Closure.{given_claim}
-use Rattle.rule_model.specs.Structures.{Structure, Beside}
-use Rattle.rule_model.specs.Cuts.{is_kept, Kept, kept_exists, kept_same, kept_below}
-use Rattle.rule_model.specs.Mothers.{Rule, RuleSystem, IsFull, Whole, Meant, Parts, of_daughter, daughters_cut}
-use Rattle.rule_model.proofs.Closures.{moved}
-use Rattle.rule_model.proofs.MotherLaws.{full_meant}
+use Rattle.tree_model.specs.Structures.{Structure, Beside}
+use Rattle.tree_model.specs.Cuts.{is_kept, Kept, kept_exists, kept_same, kept_below}
+use Rattle.tree_model.specs.Mothers.{Rule, RuleSystem, IsFull, Whole, Meant, Parts, of_daughter, daughters_cut}
+use Rattle.tree_model.proofs.Closures.{moved}
+use Rattle.tree_model.proofs.MotherLaws.{full_meant}
 use Rattle.generate_model.specs.Threads.{times, Open, Reaches, Threads, Stands, total}
 use Rattle.generate_model.specs.Embedding.{Embeds, moved_to, IsOutside, DaughtersEmbed}
 use Rattle.generate_model.proofs.Threaded.{threads_reach, elements_stay}

@@ -5,18 +5,18 @@ use Rattle.std.specs.Str.{bytes_eq}
 use Rattle.std.proofs.Common.{refl, sym, ◌∙◌, ap, subst, arith, append-nil, append_assoc}
 use Rattle.fs_model.specs.Claims.{IsOrder}
 use Rattle.derivation.specs.Trees.{Derivation, Daughters, lexical, phrase, first}
-use Rattle.cover.specs.declared.counts.Counts.{Counts}
-use Rattle.cover.specs.Sums.{counts_join, counts_size}
-use Rattle.cover.specs.Lists.{add_all, all_within}
-use Rattle.rule_model.specs.Structures.{Structure}
-use Rattle.item_model.specs.Signs.{Signs}
-use Rattle.item_model.specs.Lexical.{Word, Words}
-use Rattle.forest_model.specs.Forest.{IsLexical}
-use Rattle.item_model.specs.Trees.{Full, full_phrase, Fulls, no_fulls, more_fulls, IsPhrase, LeavesAre, leaf_is, leaves_are, AllLeavesAre, no_leaves, more_leaves, Covered, covered_lexical, covered_phrase, AllCovered, no_covers, more_covers}
-use Rattle.item_model.specs.Items.{IsItem, IsWanted}
-use Rattle.item_model.proofs.Once.{one}
+use Rattle.chart_model.specs.declared.counts.Counts.{Counts}
+use Rattle.chart_model.specs.Sums.{counts_join, counts_size}
+use Rattle.chart_model.specs.Lists.{add_all, all_within}
+use Rattle.tree_model.specs.Structures.{Structure}
+use Rattle.tree_model.specs.Signs.{Signs}
+use Rattle.tree_model.specs.Lexical.{Word, Words}
+use Rattle.tree_model.specs.Forest.{IsLexical}
+use Rattle.tree_model.specs.Trees.{Full, full_phrase, Fulls, no_fulls, more_fulls, IsPhrase, LeavesAre, leaf_is, leaves_are, AllLeavesAre, no_leaves, more_leaves, Covered, covered_lexical, covered_phrase, AllCovered, no_covers, more_covers}
+use Rattle.tree_model.specs.Items.{IsItem, IsWanted}
+use Rattle.tree_model.proofs.Once.{one}
 use Rattle.generate_model.specs.Covers.{counts_next, IsCount}
-use Rattle.contributions.specs.Bags.{count, SameBag, LiesIn, is_among, empties, distinct, all_among, tally, counted, bound_of}
+use Rattle.generate_model.specs.Bags.{count, SameBag, LiesIn, is_among, empties, distinct, all_among, tally, counted, bound_of}
 use Rattle.generate_model.specs.Realizations.{Asked, IsRealization, IsTold, gen_item, IsLeaf, IsLexicalTree, IsGenLeaf, IsCovering, Contributes, leaf_contributes, rule_contributes, AllContribute, none_contribute, more_contribute}
 use Rattle.generate_model.specs.Generation.{GenerationIsItem, RealizationsAreWanted}
 use Rattle.generate_model.proofs.BagLemmas.{count_append, tally_append, tally_length, tally_within, lies_among, same_bag, all_append, counted_some, counted_is, tallies_join, tally_some}

@@ -10,3 +10,6 @@ pub mod Dropped
 pub mod Roots
 pub mod OneSentences
 pub mod Told
+pub mod OneList
+pub mod ReadLemmas
+pub mod ListLemmas

@@ -9,7 +9,7 @@ use Rattle.fs_model.specs.Claims.{Has, here, there}
 use Rattle.derivation.specs.Trees.{Derivation}
 use Rattle.derivation.specs.Order.{compare_trees}
 use Rattle.derivation.proofs.Total.{trees_total, trees_tie}
-use Rattle.item_model.specs.Lexical.{Word}
+use Rattle.tree_model.specs.Lexical.{Word}
 use Rattle.generate_model.specs.Sentences.{Sentence, AreSentences, TextsRise, texts_none, texts_one, texts_more}
 
 before : Sentence → Sentence → Ordering

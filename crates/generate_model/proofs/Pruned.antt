@@ -2,11 +2,11 @@
 use Rattle.std.specs.Prelude.{◌≡◌, List, [], ◌∷◌, length}
 use Rattle.std.proofs.Common.{refl, sym, ◌∙◌, ap, suc}
 use Rattle.fs_model.specs.Claims.{Has, here, there}
-use Rattle.cover.specs.Calculus.{Calculus}
+use Rattle.chart_model.specs.Calculus.{Calculus}
 use Rattle.chart_model.specs.Chart.{Leaf, Limits}
 use Rattle.chart_model.specs.Classes.{Class, class_shapes}
 use Rattle.derivation.specs.Trees.{Derivation, Daughters}
-use Rattle.forest_model.specs.Readings.{Wholes, IsReading, reading_leaf, reading_phrase, AreReadings, no_readings, more_readings}
+use Rattle.tree_model.specs.Readings.{Wholes, IsReading, reading_leaf, reading_phrase, AreReadings, no_readings, more_readings}
 use Rattle.generate_model.specs.Pruning.{pruned, Prunes, PruningIsExact}
 
 shapes_length : {V C : Type 0} (ds : List (Class V C)) → length ds ≡ length (class_shapes ds)

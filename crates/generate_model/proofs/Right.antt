@@ -1,10 +1,10 @@
 -- Chart, unpacking and texts give the answer for generation.
 use Rattle.std.specs.Prelude.{ℕ, ◌↔◌, List}
 use Rattle.derivation.specs.Trees.{Derivation}
-use Rattle.item_model.specs.Items as item
-use Rattle.item_model.specs.Items.{LeafTree, AreLeaves, AreExactly, AreMoreThan, Limits}
-use Rattle.item_model.proofs.Bridge.{answers_are_right}
-use Rattle.item_model.proofs.Orders.{not_more}
+use Rattle.tree_model.specs.Items as item
+use Rattle.tree_model.specs.Items.{LeafTree, AreLeaves, AreExactly, AreMoreThan, Limits}
+use Rattle.tree_model.proofs.Bridge.{answers_are_right}
+use Rattle.tree_model.proofs.Orders.{not_more}
 use Rattle.generate_model.specs.Realizations.{gen_item}
 use Rattle.generate_model.specs.Sentences.{Sentence, AreSentences, LexicalDepth, ByUnaryChain, ByEdges, Readings, Sentences, GenerationIsRight}
 use Rattle.generate_model.proofs.Generated.{realizations_are_wanted, generation_is_item}

@@ -1,8 +1,8 @@
 -- Roots and shapes.
 use Rattle.fs_model.specs.Claims.{Claim}
 use Rattle.fs_model.specs.Closure.{Closure, given_claim}
-use Rattle.rule_model.proofs.Closures.{grows, falls, trimmed_inside}
-use Rattle.item_model.specs.Trees.{Both, of_root, of_full}
+use Rattle.tree_model.proofs.Closures.{grows, falls, trimmed_inside}
+use Rattle.tree_model.specs.Trees.{Both, of_root, of_full}
 use Rattle.generate_model.specs.EarlyRoots.{RootsFall}
 
 pub roots_fall : RootsFall

@@ -4,16 +4,16 @@ use Rattle.std.proofs.Common.{refl, sym, ◌∙◌, ap, subst, arith, inl, inr}
 use Rattle.fs_model.specs.Claims.{IsOrder}
 use Rattle.chart_model.specs.At.{At, to_get}
 use Rattle.chart_model.specs.Chart.{Leaf}
-use Rattle.cover.specs.declared.counts.Counts.{Counts}
-use Rattle.forest_model.specs.Readings.{rises_none}
-use Rattle.rule_model.specs.Structures.{Structure}
-use Rattle.item_model.specs.Signs.{Signs, rule_system}
-use Rattle.item_model.specs.Lexical.{Words}
-use Rattle.item_model.specs.Items as item
-use Rattle.item_model.specs.Items.{Item, IsItem, IsWanted, IsLeafTree, LeafTree, AreLeaves, AreExactly, AreMoreThan, Limits, IsItemAnswer, calculus, leaves_from, chart_limits}
-use Rattle.item_model.specs.Forests.{full_at, wholes}
-use Rattle.item_model.proofs.OneAnswer.{item_answers_are_one}
-use Rattle.item_model.proofs.Places.{leaf_from}
+use Rattle.chart_model.specs.declared.counts.Counts.{Counts}
+use Rattle.tree_model.specs.Readings.{rises_none}
+use Rattle.tree_model.specs.Structures.{Structure}
+use Rattle.tree_model.specs.Signs.{Signs, rule_system}
+use Rattle.tree_model.specs.Lexical.{Words}
+use Rattle.tree_model.specs.Items as item
+use Rattle.tree_model.specs.Items.{Item, IsItem, IsWanted, IsLeafTree, LeafTree, AreLeaves, AreExactly, AreMoreThan, Limits, IsItemAnswer, calculus, leaves_from, chart_limits}
+use Rattle.tree_model.specs.Forests.{full_at, wholes}
+use Rattle.tree_model.proofs.OneAnswer.{item_answers_are_one}
+use Rattle.tree_model.proofs.Places.{leaf_from}
 use Rattle.generate_model.specs.Contributions.{asked_of}
 use Rattle.generate_model.specs.Realizations.{Asked, IsRealization, IsTold, IsGenAccepted, gen_item}
 use Rattle.generate_model.specs.Sentences.{Sentence, GenAnswer, LexicalDepth, ByUnaryChain, ByEdges, Readings, Sentences, IsGenAnswer}

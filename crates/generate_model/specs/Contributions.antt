@@ -5,16 +5,16 @@ use Rattle.fs_model.specs.Sources.{Told}
 use Rattle.fs_model.specs.Closure.{Closure}
 use Rattle.fs_graph.specs.GraphMap.{GraphMap, reader_of, IsGraph}
 use Rattle.type_hierarchy.specs.Table.{TypeTable}
-use Rattle.rule_model.specs.Structures.{Structure}
-use Rattle.rule_model.specs.Views.{Shows}
-use Rattle.rule_model.specs.Mothers.{Meant}
-use Rattle.item_model.specs.Signs.{Signs, Instance, rule_system}
+use Rattle.tree_model.specs.Structures.{Structure}
+use Rattle.tree_model.specs.Views.{Shows}
+use Rattle.tree_model.specs.Mothers.{Meant}
+use Rattle.tree_model.specs.Signs.{Signs, Instance, rule_system}
 use Rattle.mrs_model.specs.Meanings.{Meaning}
 use Rattle.mrs_model.specs.Renaming.{AreEqual}
 use Rattle.mrs_places.specs.Paths.{Feature, Paths}
 use Rattle.mrs_extract.specs.Extraction.{HasMrs}
-use Rattle.contributions.specs.Bags.{Word, preds_of}
-use Rattle.contributions.specs.Contributing.{Predicates}
+use Rattle.generate_model.specs.Bags.{Word, preds_of}
+use Rattle.generate_model.specs.Contributing.{Predicates}
 use Rattle.generate_model.specs.Realizations.{Asked}
 
 -- what is generated from: an MRS, and where the settings of a grammar say that MRSs and the relations of rules stand

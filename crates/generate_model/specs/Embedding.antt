@@ -1,9 +1,9 @@
 -- The relations of a daughter stay among those of a mother whose rule appends them.
 use Rattle.std.specs.Prelude.{ℕ, ◌≡◌, ◌+◌, ◌≤◌, true, List, ◌++◌}
 use Rattle.fs_model.specs.Claims.{Path, exists_at, same, below}
-use Rattle.rule_model.specs.Structures.{Structure, Beside}
-use Rattle.rule_model.specs.Cuts.{is_kept}
-use Rattle.rule_model.specs.Mothers.{Rule, RuleSystem, IsFull, Whole, Meant, daughters_cut}
+use Rattle.tree_model.specs.Structures.{Structure, Beside}
+use Rattle.tree_model.specs.Cuts.{is_kept}
+use Rattle.tree_model.specs.Mothers.{Rule, RuleSystem, IsFull, Whole, Meant, daughters_cut}
 use Rattle.generate_model.specs.Threads.{times, Open, Reaches, Threads, Stands, total}
 
 -- the elements of one structure's list are those of the other's, from a number of cells on: paths, equalities and types that the one has

@@ -2,14 +2,14 @@
 use Rattle.std.specs.Prelude.{ℕ, ◌≡◌, ◌↔◌, Option, Some, List, slice_get}
 use Rattle.fs_model.specs.Claims.{IsOrder}
 use Rattle.chart_model.specs.At.{At}
-use Rattle.cover.specs.declared.counts.Counts.{Counts}
+use Rattle.chart_model.specs.declared.counts.Counts.{Counts}
 use Rattle.derivation.specs.Trees.{Derivation}
-use Rattle.forest_model.specs.Readings.{IsAccepted}
-use Rattle.item_model.specs.Signs.{Signs, Instance, a_phrase_rule, rule_system}
-use Rattle.item_model.specs.Lexical.{Words}
-use Rattle.item_model.specs.Items.{IsItem, IsWanted, LeafTree, AreLeaves, Limits, calculus, leaves_from, chart_limits}
-use Rattle.item_model.specs.Forests.{wholes}
-use Rattle.contributions.specs.Bags.{Word, counted, distinct, preds_of}
+use Rattle.tree_model.specs.Readings.{IsAccepted}
+use Rattle.tree_model.specs.Signs.{Signs, Instance, a_phrase_rule, rule_system}
+use Rattle.tree_model.specs.Lexical.{Words}
+use Rattle.tree_model.specs.Items.{IsItem, IsWanted, LeafTree, AreLeaves, Limits, calculus, leaves_from, chart_limits}
+use Rattle.tree_model.specs.Forests.{wholes}
+use Rattle.generate_model.specs.Bags.{Word, counted, distinct, preds_of}
 use Rattle.generate_model.specs.Contributions.{Input, OwnContribution, asked_of}
 use Rattle.generate_model.specs.Realizations.{IsRealization, IsTold, IsGenTooDeep, IsGenAccepted, IsCovering, IsGenLeaf, bound, gen_item}
 use Rattle.generate_model.specs.Covers.{IsCount}

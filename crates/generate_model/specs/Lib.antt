@@ -9,3 +9,8 @@ pub mod Threads
 pub mod Embedding
 pub mod Threading
 pub mod EarlyRoots
+pub mod Contributing
+pub mod Bags
+pub mod Settling
+pub mod Indexing
+pub mod Inner

@@ -1,11 +1,11 @@
 -- Unpacking without structures of which nothing can come.
 use Rattle.std.specs.Prelude.{ℕ, ◌≡◌, ◌↔◌, List, length}
 use Rattle.fs_model.specs.Claims.{Has}
-use Rattle.cover.specs.Calculus.{Calculus}
+use Rattle.chart_model.specs.Calculus.{Calculus}
 use Rattle.chart_model.specs.At.{At}
 use Rattle.chart_model.specs.Chart.{Leaf, Limits}
 use Rattle.derivation.specs.Trees.{Derivation}
-use Rattle.forest_model.specs.Readings.{Wholes, IsAccepted}
+use Rattle.tree_model.specs.Readings.{Wholes, IsAccepted}
 
 -- the same, but that rules make no structure that is dropped, and none of one that is
 abbrev pub pruned : {V C : Type 0} → Wholes V C → (V → Type 0) → Wholes V C

@@ -1,15 +1,15 @@
 -- Trees that realize an MRS.
 use Rattle.std.specs.Prelude.{ℕ, ◌≡◌, ◌≤◌, ◌+◌, true, Option, Some, None, List, [], ◌++◌, slice_get}
-use Rattle.contributions.specs.Bags.{SameBag, LiesIn, empties, distinct, counted, bound_of}
+use Rattle.generate_model.specs.Bags.{SameBag, LiesIn, empties, distinct, counted, bound_of}
 use Rattle.derivation.specs.Trees.{Derivation, Daughters, lexical, phrase, no_more, first}
-use Rattle.cover.specs.declared.counts.Counts.{Counts}
-use Rattle.cover.specs.Sums.{counts_join, counts_size}
-use Rattle.cover.specs.Lists.{all_within}
-use Rattle.rule_model.specs.Structures.{Structure}
-use Rattle.item_model.specs.Signs.{Signs, Instance, a_phrase_rule}
-use Rattle.item_model.specs.Lexical.{Word, Words, Spells, FullLexical, rule_count}
-use Rattle.item_model.specs.Trees.{Full, LeavesAre, IsRooted}
-use Rattle.item_model.specs.Items.{Item}
+use Rattle.chart_model.specs.declared.counts.Counts.{Counts}
+use Rattle.chart_model.specs.Sums.{counts_join, counts_size}
+use Rattle.chart_model.specs.Lists.{all_within}
+use Rattle.tree_model.specs.Structures.{Structure}
+use Rattle.tree_model.specs.Signs.{Signs, Instance, a_phrase_rule}
+use Rattle.tree_model.specs.Lexical.{Word, Words, Spells, FullLexical, rule_count}
+use Rattle.tree_model.specs.Trees.{Full, LeavesAre, IsRooted}
+use Rattle.tree_model.specs.Items.{Item}
 use Rattle.generate_model.specs.Covers.{counts_all, same_counts, IsCount}
 
 -- What is asked for: the input's predicates, whether the MRS of a structure is the input's up to renamed variables, and what

@@ -7,12 +7,12 @@ use Rattle.fs_model.specs.Claims.{Has, IsOrder}
 use Rattle.chart_model.specs.Limits.{IsLimitAnswer, UnaryChain, Edges, Within, IsClassCount}
 use Rattle.derivation.specs.Trees.{Derivation, Daughters, lexical, phrase, no_more, first}
 use Rattle.derivation.specs.Order.{compare_trees}
-use Rattle.cover.specs.declared.counts.Counts.{Counts}
-use Rattle.item_model.specs.Signs.{Signs}
-use Rattle.item_model.specs.Lexical.{Word, Words}
-use Rattle.item_model.specs.Items as item
-use Rattle.item_model.specs.Items.{LeafTree, AreLeaves, AreExactly, AreMoreThan, Limits, calculus, leaves_from, chart_limits}
-use Rattle.item_model.specs.Forests.{IsFound}
+use Rattle.chart_model.specs.declared.counts.Counts.{Counts}
+use Rattle.tree_model.specs.Signs.{Signs}
+use Rattle.tree_model.specs.Lexical.{Word, Words}
+use Rattle.tree_model.specs.Items as item
+use Rattle.tree_model.specs.Items.{LeafTree, AreLeaves, AreExactly, AreMoreThan, Limits, calculus, leaves_from, chart_limits}
+use Rattle.tree_model.specs.Forests.{IsFound}
 use Rattle.generate_model.specs.Realizations.{Asked, IsRealization, IsTold, IsGenTooDeep, gen_item}
 
 abbrev mutual

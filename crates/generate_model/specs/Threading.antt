@@ -6,11 +6,11 @@ use Rattle.fs_model.specs.Sources.{Told}
 use Rattle.chart_model.specs.At.{At}
 use Rattle.chart_model.specs.Chart.{Leaf, Limits}
 use Rattle.derivation.specs.Trees.{Derivation}
-use Rattle.forest_model.specs.Readings.{Wholes, IsAccepted}
-use Rattle.rule_model.specs.Structures.{Structure}
-use Rattle.rule_model.specs.Mothers.{Rule, RuleSystem, Meant, arity_at}
-use Rattle.rule_model.specs.Laws.{rules_full}
-use Rattle.cover.specs.Calculus.{Calculus}
+use Rattle.tree_model.specs.Readings.{Wholes, IsAccepted}
+use Rattle.tree_model.specs.Structures.{Structure}
+use Rattle.tree_model.specs.Mothers.{Rule, RuleSystem, Meant, arity_at}
+use Rattle.tree_model.specs.Laws.{rules_full}
+use Rattle.chart_model.specs.Calculus.{Calculus}
 use Rattle.generate_model.specs.Threads.{Open, Reaches}
 use Rattle.generate_model.specs.Embedding.{Embeds, moved_to, IsOutside}
 use Rattle.generate_model.specs.Pruning.{pruned}

@@ -8,6 +8,21 @@ ghost use Rattle.generate_model.specs.Embedding.{DaughtersEmbed};
 ghost use Rattle.generate_model.specs.EarlyRoots.{RootsFall};
 ghost use Rattle.generate_model.specs.Laws.{InputsAreTold, InputsAreItems, LeavesAreCounted, FoundIsGenAnswer, GenAnswersAreOne, HopelessFall};
 
+mod bags;
+mod index;
+mod laws;
+mod names;
+mod relations;
+mod settled;
+
+pub use bags::{Bag, predicates_of};
+pub use index::PredicateIndex;
+pub use laws::predicates_are_one;
+pub use names::{predicate, predicates};
+pub use relations::pred_types;
+pub use settled::{first_settled, is_settled};
+pub use std::alloc::AllocError as NoMemory;
+
 /// A law: what a finished and unpacked chart over counts of predicates gives is the answer for generation. It does nothing.
 ///
 /// Counts with the predicates of rules are covers (`covers`), and leaves have such covers (`leaves`). A structure says one list of

@@ -4,8 +4,8 @@ use Rattle.std.proofs.Common.{refl, sym, ◌∙◌, subst, arith}
 use Rattle.std.proofs.lemmas.Bool.{leb-true}
 use Rattle.std.specs.Cmp.Lexicographic.{bytes_decides}
 use Rattle.std.specs.Str.{bytes_eq}
-use Rattle.cover.specs.Lists.{all_within}
-use Rattle.contributions.specs.Bags.{Word, LiesIn, count, is_among, all_among, distinct, tally, bag_of, holds}
+use Rattle.chart_model.specs.Lists.{all_within}
+use Rattle.generate_model.specs.Bags.{Word, LiesIn, count, is_among, all_among, distinct, tally, bag_of, holds}
 use Rattle.generate_model.proofs.BagLemmas.{tally_within, lies_among, among_some, among_all, and_both}
 
 count_below : (w : Word) (ps xs ys : List Word) → is_among w ps ≡ true → all_within (tally ps xs) (tally ps ys) ≡ true → count w xs ≤ count w ys

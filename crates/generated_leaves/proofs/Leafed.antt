@@ -3,16 +3,16 @@ use Rattle.std.specs.Prelude.{ℕ, ◌≡◌, ◌≤◌, ◌+◌, true, false, O
 use Rattle.std.proofs.Common.{Result, Ok, Err, IfOk, refl, sym, ◌∙◌, ap, subst, arith}
 use Rattle.fs_model.specs.Claims.{IsOrder}
 use Rattle.chart_model.specs.At.{At}
-use Rattle.cover.specs.declared.counts.Counts.{Counts}
-use Rattle.cover.specs.Lists.{all_within}
+use Rattle.chart_model.specs.declared.counts.Counts.{Counts}
+use Rattle.chart_model.specs.Lists.{all_within}
 use Rattle.derivation.specs.Trees.{Derivation}
-use Rattle.rule_model.specs.Structures.{Structure}
-use Rattle.rule_model.specs.Mothers.{Meant}
-use Rattle.item_model.specs.Signs.{Signs, rule_system}
-use Rattle.item_model.specs.Lexical.{Words, rule_count}
-use Rattle.item_model.specs.Trees.{Full, full_lexical}
-use Rattle.item_model.proofs.Once.{one}
-use Rattle.contributions.specs.Bags.{Word, bag_of, preds_of, distinct, tally, empties, LiesIn, holds}
+use Rattle.tree_model.specs.Structures.{Structure}
+use Rattle.tree_model.specs.Mothers.{Meant}
+use Rattle.tree_model.specs.Signs.{Signs, rule_system}
+use Rattle.tree_model.specs.Lexical.{Words, rule_count}
+use Rattle.tree_model.specs.Trees.{Full, full_lexical}
+use Rattle.tree_model.proofs.Once.{one}
+use Rattle.generate_model.specs.Bags.{Word, bag_of, preds_of, distinct, tally, empties, LiesIn, holds}
 use Rattle.generate_model.specs.Realizations.{Asked, IsLexicalTree, IsGenLeaf, IsCovering, IsGenTooDeep}
 use Rattle.generate_model.specs.Contributions.{Input, Contribution, asked_of}
 use Rattle.generate_model.proofs.Contributed.{one_says}

@@ -3,3 +3,8 @@ pub mod Picked
 pub mod Picking
 pub mod Leafed
 pub mod Telling
+pub mod ListLemmas
+pub mod PlaceLemmas
+pub mod StructureLemmas
+pub mod LawLemmas
+pub mod SumLemmas

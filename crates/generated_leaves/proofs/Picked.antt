@@ -3,8 +3,8 @@ use Rattle.std.specs.Prelude.{ℕ, ◌≡◌, ◌≤◌, ◌<◌, ◌||◌, nat_
 use Rattle.std.proofs.Common.{zero, suc, refl, sym, ◌∙◌, ap, subst}
 use Rattle.std.proofs.lemmas.Bool.{leb-true, leb-false, le-leb, lt-leb}
 use Rattle.chart_model.specs.At.{At, here, there}
-use Rattle.item_model.specs.Lexical.{rule_count}
-use Rattle.contributions.specs.Bags.{BagTree, holds, empties}
+use Rattle.tree_model.specs.Lexical.{rule_count}
+use Rattle.generate_model.specs.Bags.{BagTree, holds, empties}
 use Rattle.generated_leaves.specs.Told.{ToldWord}
 use Rattle.generated_leaves.specs.Leaves.{WordLeaf}
 use Rattle.generated_leaves.specs.Inner.Picking.{leaf_at, fit_at, kept, picked, is_deep, some_deep}

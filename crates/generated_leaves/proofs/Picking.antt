@@ -3,7 +3,7 @@ use Rattle.std.specs.Prelude.{ℕ, ◌≡◌, ◌<◌, ◌+◌, Bool, List, [], 
 use Rattle.std.proofs.Common.{get_or, sym, ◌∙◌, ap, subst, append_assoc, arith, suc}
 use Rattle.std.proofs.Math.Seq.{drop-cons}
 use Rattle.std.proofs.lemmas.List.{map-append}
-use Rattle.contributions.specs.Bags.{BagTree}
+use Rattle.generate_model.specs.Bags.{BagTree}
 use Rattle.generated_leaves.specs.Told.{ToldWord}
 use Rattle.generated_leaves.specs.Leaves.{WordLeaf}
 use Rattle.generated_leaves.specs.Inner.Picking.{leaf_at, fit_at, kept, picked, is_deep, some_deep}

@@ -9,18 +9,18 @@ use Rattle.fs_unify.specs.Rules.{Grammar}
 use Rattle.fs_unify.specs.Placing.{IsAnswerIn}
 use Rattle.type_hierarchy.specs.Table.{TypeTable}
 use Rattle.derivation.specs.Trees.{Derivation, lexical}
-use Rattle.rule_model.specs.Structures.{Structure}
-use Rattle.rule_model.specs.Mothers.{Meant}
-use Rattle.item_model.specs.Signs.{Signs, rule_system}
-use Rattle.item_model.specs.Lexical.{Word, Words}
-use Rattle.item_model.specs.Trees.{Full, full_lexical}
+use Rattle.tree_model.specs.Structures.{Structure}
+use Rattle.tree_model.specs.Mothers.{Meant}
+use Rattle.tree_model.specs.Signs.{Signs, rule_system}
+use Rattle.tree_model.specs.Lexical.{Word, Words}
+use Rattle.tree_model.specs.Trees.{Full, full_lexical}
 use Rattle.mrs_places.specs.Paths.{Paths}
 use Rattle.mrs_places.specs.Asked.{IsTyped}
 use Rattle.mrs_extract.specs.Asked.{ArePaths}
-use Rattle.contributions.specs.Contributing.{Predicates}
+use Rattle.generate_model.specs.Contributing.{Predicates}
 use Rattle.tree_structures.specs.Meant.{IsMeantBy}
 use Rattle.generate_model.specs.Contributions.{IsGraphOf}
-use Rattle.inflected_trees.specs.Inflected.{WordTree, IsInflected, AreInflected}
+use Rattle.lexical_items.specs.Inflected.{WordTree, IsInflected, AreInflected}
 use Rattle.generated_leaves.specs.Told.{ToldWord, word_of, IsSaid, IsToldWord, AreTold}
 use Rattle.generated_leaves.specs.Inner.Telling.{AreToldOf}
 

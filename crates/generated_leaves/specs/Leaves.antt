@@ -1,12 +1,12 @@
 -- The leaves of generation for an input: lexical trees whose covers are within the bound; or that one is too deep.
 use Rattle.std.specs.Prelude.{ℕ, ◌≡◌, Option, List}
 use Rattle.chart_model.specs.At.{At}
-use Rattle.cover.specs.declared.counts.Counts.{Counts}
+use Rattle.chart_model.specs.declared.counts.Counts.{Counts}
 use Rattle.derivation.specs.Trees.{Derivation}
-use Rattle.rule_model.specs.Structures.{Structure}
-use Rattle.item_model.specs.Signs.{Signs}
-use Rattle.item_model.specs.Lexical.{Words}
-use Rattle.item_model.specs.Trees.{Full}
+use Rattle.tree_model.specs.Structures.{Structure}
+use Rattle.tree_model.specs.Signs.{Signs}
+use Rattle.tree_model.specs.Lexical.{Words}
+use Rattle.tree_model.specs.Trees.{Full}
 use Rattle.generate_model.specs.Realizations.{Asked, IsGenLeaf, IsCovering, IsGenTooDeep}
 
 -- a lexical tree with its cover and its full structure

@@ -2,3 +2,8 @@ pub mod Told
 pub mod Leaves
 pub mod Views
 pub mod Inner
+pub mod Given
+pub mod Placed
+pub mod Laws
+pub mod Counted
+pub mod CountedViews

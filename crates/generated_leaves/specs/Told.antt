@@ -4,10 +4,10 @@ use Rattle.chart_model.specs.At.{At}
 use Rattle.derivation.specs.Trees.{Derivation}
 use Rattle.type_hierarchy.specs.Table.{TypeTable}
 use Rattle.mrs_places.specs.Paths.{Paths}
-use Rattle.rule_model.specs.Structures.{Structure}
-use Rattle.item_model.specs.Signs.{Signs}
-use Rattle.item_model.specs.Lexical.{Word, Words}
-use Rattle.inflected_trees.specs.Inflected.{WordTree, IsInflected}
+use Rattle.tree_model.specs.Structures.{Structure}
+use Rattle.tree_model.specs.Signs.{Signs}
+use Rattle.tree_model.specs.Lexical.{Word, Words}
+use Rattle.lexical_items.specs.Inflected.{WordTree, IsInflected}
 use Rattle.generate_model.specs.Contributions.{Input, Contribution}
 
 -- a lexical tree with its full structure, and the predicates that it contributes

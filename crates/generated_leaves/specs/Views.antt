@@ -3,8 +3,8 @@ use Rattle.std.specs.Prelude.{ℕ, ◌≡◌, ◌+◌, List, map, string_bytes}
 use Rattle.std.specs.Arc.{arc_value}
 use Rattle.fs_model.specs.Claims.{IsOrder}
 use Rattle.derivation.specs.Views.{derivation_of}
-use Rattle.contributions.specs.Bags.{BagTree, bag_of, preds_of}
-use Rattle.item_model.specs.Lexical.{Words}
+use Rattle.generate_model.specs.Bags.{BagTree, bag_of, preds_of}
+use Rattle.tree_model.specs.Lexical.{Words}
 use Rattle.book_signs.specs.Trees.{SignTree, signs_of}
 use Rattle.rule_trees.specs.Mothers.{view_in}
 use Rattle.generate_model.specs.Contributions.{Input}

@@ -2,7 +2,7 @@
 
 ghost use Rattle.derivation.specs.Counted.{IsCounted};
 
-use cover::Counts;
+use chart_model::Counts;
 use derivation::Tree;
 use rule_trees::FullStructure;
 use std::sync::Arc;

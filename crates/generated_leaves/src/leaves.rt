@@ -1,10 +1,10 @@
 //! The leaves for an input.
 
 ghost use Rattle.std.specs.Prelude.{◌≡◌, ◌≤◌, ℕ, true, Option, map, IfOk, string_bytes};
-ghost use Rattle.cover.specs.declared.counts.Counts.{Counts as CountsValue};
+ghost use Rattle.chart_model.specs.declared.counts.Counts.{Counts as CountsValue};
 ghost use Rattle.derivation.specs.Views.{derivation_of};
-ghost use Rattle.item_model.specs.Lexical.{Words, rule_count};
-ghost use Rattle.contributions.specs.Bags.{all_among, empties};
+ghost use Rattle.tree_model.specs.Lexical.{Words, rule_count};
+ghost use Rattle.generate_model.specs.Bags.{all_among, empties};
 ghost use Rattle.generate_model.specs.Contributions.{Input, asked_of};
 ghost use Rattle.book_signs.specs.Trees.{SignTree, signs_of};
 ghost use Rattle.generated_leaves.specs.Leaves.{IsGenLexical};
@@ -14,9 +14,9 @@ ghost use Rattle.generated_leaves.specs.Inner.Picking.{fit_of, leaf_at, IsPicked
 use crate::NoMemory;
 use crate::leaf::GenLeaf;
 use crate::tree::ToldTree;
-use contributions::Bag;
-use cover::Counts;
+use chart_model::Counts;
 use derivation::Tree;
+use generate_model::Bag;
 use std::alloc::Global;
 
 /// What is found of the lexical trees for an input.

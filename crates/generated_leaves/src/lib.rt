@@ -4,14 +4,22 @@
 //! Chart generation: Kay 1996; Carroll, Copestake, Flickinger and Poznanski 1999.
 #![tactic(auto)]
 
+mod covers;
+mod laws;
 mod leaf;
 mod leaves;
-mod no_memory;
+mod marks;
+mod rules;
+mod shapes;
+mod sketched;
 mod told;
 mod tree;
 
+pub use laws::rule_laws;
 pub use leaf::GenLeaf;
 pub use leaves::{GenLeaves, leaves_of};
-pub use no_memory::NoMemory;
+pub use rules::RulePredicates;
+pub use shapes::CountedShapes;
+pub use std::alloc::AllocError as NoMemory;
 pub use told::told_trees;
 pub use tree::ToldTree;

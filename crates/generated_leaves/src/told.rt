@@ -3,7 +3,7 @@
 ghost use Rattle.std.specs.Prelude.{◌≡◌, ◌<◌, ◌^◌, All, length, map, IfOk, string_bytes};
 ghost use Rattle.std.specs.Arc.{arc_value};
 ghost use Rattle.derivation.specs.Trees.{Derivation};
-ghost use Rattle.item_model.specs.Trees.{Full};
+ghost use Rattle.tree_model.specs.Trees.{Full};
 ghost use Rattle.spelling_rules.specs.Trees.{AreBound};
 ghost use Rattle.lexical_items.specs.Said.{AreNumbered, words_said};
 ghost use Rattle.lexical_items.specs.Seen.{ForbidsNone};
@@ -11,8 +11,8 @@ ghost use Rattle.mrs_places.specs.Paths.{paths_of};
 ghost use Rattle.mrs_extract.specs.Asked.{ArePaths};
 ghost use Rattle.book_signs.specs.Trees.{signs_of, entries_of, lexical_rules_of};
 ghost use Rattle.rule_trees.specs.Mothers.{view_in};
-ghost use Rattle.inflected_trees.specs.Inflected.{WordTree};
-ghost use Rattle.inflected_trees.specs.Views.{tree_seen};
+ghost use Rattle.lexical_items.specs.Inflected.{WordTree};
+ghost use Rattle.lexical_items.specs.InflectedViews.{tree_seen};
 ghost use Rattle.generated_leaves.specs.Told.{IsSaid, AreTold, word_of};
 ghost use Rattle.generated_leaves.specs.Inner.Telling.{AreToldOf};
 ghost use Rattle.generated_leaves.specs.Views.{told_seen};
@@ -20,9 +20,9 @@ ghost use Rattle.generated_leaves.specs.Views.{told_seen};
 use crate::NoMemory;
 use crate::tree::ToldTree;
 use book_signs::SignBook;
-use contributions::predicates;
 use fs_unify::Scratch;
-use inflected_trees::{InflectedTree, inflected_trees};
+use generate_model::predicates;
+use lexical_items::{InflectedTree, inflected_trees};
 use lexicon::Lexicon;
 use morph_analysis::Feeds;
 use mrs_places::MrsPaths;
@@ -105,7 +105,7 @@ fn told_each(
 /// contribute (Carroll, Copestake, Flickinger and Poznanski 1999); they are made once for a grammar. Leaves of at most so many rules are
 /// found among those of at most one rule more.
 ///
-/// Lexicon, spelling and feeds are as for `inflected_trees`, and `paths` says where MRSs stand in structures of the grammar. It costs what
+/// Lexicon, spelling and feeds are as for `lexical_items`, and `paths` says where MRSs stand in structures of the grammar. It costs what
 /// the trees cost, and one closure and one walk along RELS for each. Whatever the scratch holds, the answer is the same.
 pub fn told_trees<'a>(
     alloc: Global,

@@ -10,7 +10,7 @@ use Rattle.type_hierarchy.specs.Named.{type_named}
 use Rattle.type_hierarchy.specs.Table.{TypeTable, count_of, completed_count}
 use Rattle.fs_graph.specs.GraphMap.{GraphMap, reader_of}
 use Rattle.fs_unify.specs.Entering.{IsGraphIn}
-use Rattle.placed_statements.specs.Statements.{no_statement}
+use Rattle.grammar_files.specs.Statements.{no_statement}
 use Rattle.constraint_expand.specs.declared.books.Book.{Book}
 use Rattle.constraint_expand.specs.declared.books.Instance.{Instance}
 use Rattle.constraint_expand.specs.Books.{InstanceMap, instance_of, IsInstanceOf, IsConstraintOf, IsBookOf}

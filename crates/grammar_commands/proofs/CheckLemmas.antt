@@ -8,7 +8,7 @@ use Rattle.type_hierarchy.specs.Decls.{texts}
 use Rattle.tdl_reader.specs.declared.Status.{Status}
 use Rattle.tdl_reader.specs.declared.Status.TheVariants.{Entry, LexRule, Rule, Root}
 use Rattle.type_hierarchy.specs.Table.{completed_count}
-use Rattle.placed_statements.specs.Statements.{is_status}
+use Rattle.grammar_files.specs.Statements.{is_status}
 use Rattle.fs_unify.specs.Rules.{Grammar}
 use Rattle.constraint_expand.specs.declared.books.Book.{Book}
 use Rattle.constraint_expand.specs.Books.{InstanceMap}

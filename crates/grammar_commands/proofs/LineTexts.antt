@@ -1,8 +1,8 @@
 -- The texts of lines, one by one.
 use Rattle.std.proofs.Common.{ℕ, zero, suc, ◌≡◌, ◌<◌, List, [], ◌∷◌, ◌++◌, length, map, All, Vec, Global, refl, sym, ◌∙◌, ap, subst, arith}
 use Rattle.std.proofs.lemmas.List.{append_assoc, append-nil, map-append}
-use Rattle.fs_paths.specs.declared.facts.PathLine.{PathLine}
-use Rattle.fs_paths.specs.Facts.{Line, line_of}
+use Rattle.fs_graph.specs.declared.facts.PathLine.{PathLine}
+use Rattle.fs_graph.specs.Facts.{Line, line_of}
 
 -- what holds of the lines that are left holds of the next one, and of those after it
 pub all-head : (P : Line → Type 0) (lines rest : List PathLine) (x : PathLine) → lines ≡ x ∷ rest → All P (map line_of lines) → P (line_of x)

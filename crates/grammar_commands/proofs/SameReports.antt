@@ -5,7 +5,7 @@ use Rattle.std.specs.Str.{str_to_ascii_lowercase}
 use Rattle.type_hierarchy.specs.Decls.{Name, texts}
 use Rattle.type_hierarchy.specs.Table.{TypeTable}
 use Rattle.fs_model.specs.Sources.{Reader, IsSameStructure}
-use Rattle.fs_paths.specs.Text.{line_text}
+use Rattle.fs_graph.specs.Text.{line_text}
 use Rattle.fs_graph.specs.GraphMap.{GraphMap, reader_of}
 use Rattle.fs_graph.specs.PathLaws.{ListsAreOne}
 use Rattle.fs_unify.specs.Rules.{Grammar}

@@ -1,7 +1,7 @@
 -- What a grammar's book is of.
 use Rattle.std.specs.Prelude.{List}
 use Rattle.type_hierarchy.specs.Table.{TypeTable}
-use Rattle.placed_statements.specs.Placings.{PlacedTree}
+use Rattle.grammar_files.specs.Placings.{PlacedTree}
 use Rattle.constraint_expand.specs.declared.books.Book.{Book}
 use Rattle.constraint_expand.specs.Books.{IsBookOf}
 use Rattle.constraint_expand.specs.Systems.{Settled}

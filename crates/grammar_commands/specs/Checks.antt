@@ -4,7 +4,7 @@ use Rattle.std.specs.Fmt.{decimal}
 use Rattle.tdl_reader.specs.declared.Status.{Status}
 use Rattle.tdl_reader.specs.declared.Status.TheVariants.{Entry, LexRule, Rule, Root}
 use Rattle.type_hierarchy.specs.Table.{completed_count}
-use Rattle.placed_statements.specs.Statements.{is_status}
+use Rattle.grammar_files.specs.Statements.{is_status}
 use Rattle.constraint_expand.specs.declared.books.Book.{Book}
 use Rattle.constraint_expand.specs.Books.{InstanceMap}
 use Rattle.book_shapes.specs.Shapes.{instances_of}

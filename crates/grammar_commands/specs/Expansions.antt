@@ -7,15 +7,15 @@ use Rattle.type_hierarchy.specs.Decls.{Name, texts}
 use Rattle.type_hierarchy.specs.Named.{type_named}
 use Rattle.type_hierarchy.specs.Table.{TypeTable}
 use Rattle.fs_model.specs.Sources.{Reader}
-use Rattle.fs_paths.specs.Facts.{Line}
-use Rattle.fs_paths.specs.Text.{line_text}
+use Rattle.fs_graph.specs.Facts.{Line}
+use Rattle.fs_graph.specs.Text.{line_text}
 use Rattle.fs_graph.specs.GraphMap.{GraphMap, reader_of}
 use Rattle.fs_graph.specs.PathLists.{IsPathList}
 use Rattle.tdl_reader.specs.declared.Status.{Status}
 use Rattle.tdl_reader.specs.declared.Status.TheVariants.{Entry, LexRule, Rule, Root}
 use Rattle.constraint_expand.specs.declared.books.Book.{Book}
 use Rattle.constraint_expand.specs.Books.{InstanceMap}
-use Rattle.placed_statements.specs.Statements.{is_status}
+use Rattle.grammar_files.specs.Statements.{is_status}
 use Rattle.book_shapes.specs.Shapes.{instances_of}
 use Rattle.grammar_load.specs.Loaded.{GrammarTree}
 

@@ -3,7 +3,7 @@ use Rattle.std.specs.Prelude.{ℕ, List, [], ◌∷◌, ◌++◌, map, codes, sl
 use Rattle.std.specs.List.{range_with_len}
 use Rattle.type_hierarchy.specs.Table.{TypeTable, completed_count}
 use Rattle.type_hierarchy.specs.Supertypes.{supertypes_of}
-use Rattle.fault_texts.specs.Texts.{spaced}
+use Rattle.command_files.specs.FaultTexts.{spaced}
 
 abbrev pub name_at : TypeTable → ℕ → List ℕ
 name_at t n = slice_index_or t.names n []

@@ -10,7 +10,7 @@ ghost use Rattle.grammar_commands.specs.Commands.{types_meaning, check_meaning, 
 use crate::counting::check_lines;
 use crate::expansion::report_on;
 use crate::types::type_lines;
-use command_grammars::load_grammar;
+use command_files::load_grammar;
 use endings::commands::Whole;
 use endings::pieces::Report;
 use endings::{Fault, Stop};
@@ -22,6 +22,8 @@ use std::alloc::Global;
 pub struct Types<'a> {
     pub grammar: &'a str,
     pub settings: Option<&'a str>,
+    /// Whether more is told of a fault of its files.
+    pub verbose: bool,
 }
 
 /// `check`: the counts of the grammar of this name, under the settings of the file of that name.
@@ -29,6 +31,8 @@ pub struct Types<'a> {
 pub struct Check<'a> {
     pub grammar: &'a str,
     pub settings: Option<&'a str>,
+    /// Whether more is told of a fault of its files.
+    pub verbose: bool,
 }
 
 /// `expand`: the structure of the type or the instance of the second name, in the grammar of the first.
@@ -37,6 +41,8 @@ pub struct Expand<'a> {
     pub grammar: &'a str,
     pub entry: &'a str,
     pub settings: Option<&'a str>,
+    /// Whether more is told of a fault of its files.
+    pub verbose: bool,
 }
 
 // The report of `types`.
@@ -45,10 +51,11 @@ fn types_report<S: Shelf>(
     shelf: &mut S,
     name: &str,
     settings: Option<&str>,
+    verbose: bool,
 ) -> Result<Report, Fault>
-    ensures { Made (types_meaning name.now (option_map (λ s. s.now) settings.entry)) (shelves S.files S.faults S.asked shelf.old shelf.new) result }
+    ensures { Made (types_meaning name.now (option_map (λ s. s.now) settings.entry) verbose) (shelves S.files S.faults S.asked shelf.old shelf.new) result }
 {
-    let grammar = load_grammar(alloc, shelf, name, settings)?;
+    let grammar = load_grammar(alloc, shelf, name, settings, verbose)?;
     match type_lines(alloc, grammar.book.system.types()) {
         Err(_) => Err(Fault::Stopped(Stop::NoMemory)),
         Ok(lines) => Ok(Report {
@@ -64,10 +71,11 @@ fn check_report<S: Shelf>(
     shelf: &mut S,
     name: &str,
     settings: Option<&str>,
+    verbose: bool,
 ) -> Result<Report, Fault>
-    ensures { Made (check_meaning name.now (option_map (λ s. s.now) settings.entry)) (shelves S.files S.faults S.asked shelf.old shelf.new) result }
+    ensures { Made (check_meaning name.now (option_map (λ s. s.now) settings.entry) verbose) (shelves S.files S.faults S.asked shelf.old shelf.new) result }
 {
-    let grammar = load_grammar(alloc, shelf, name, settings)?;
+    let grammar = load_grammar(alloc, shelf, name, settings, verbose)?;
     match check_lines(alloc, &grammar.book) {
         Err(_) => Err(Fault::Stopped(Stop::NoMemory)),
         Ok(lines) => Ok(Report {
@@ -84,10 +92,11 @@ fn expand_report<S: Shelf>(
     name: &str,
     entry: &str,
     settings: Option<&str>,
+    verbose: bool,
 ) -> Result<Report, Fault>
-    ensures { Made (expand_meaning name.now entry.now (option_map (λ s. s.now) settings.entry)) (shelves S.files S.faults S.asked shelf.old shelf.new) result }
+    ensures { Made (expand_meaning name.now entry.now (option_map (λ s. s.now) settings.entry) verbose) (shelves S.files S.faults S.asked shelf.old shelf.new) result }
 {
-    let grammar = load_grammar(alloc, shelf, name, settings)?;
+    let grammar = load_grammar(alloc, shelf, name, settings, verbose)?;
     match report_on(alloc, &grammar, entry) {
         Err(_) => Err(Fault::Stopped(Stop::NoMemory)),
         Ok(report) => Ok(report),
@@ -98,10 +107,10 @@ impl Whole for Types<'_> {
     ghost use Rattle.std.specs.Prelude.{option_map};
     ghost use Rattle.grammar_commands.specs.Commands.{types_meaning};
 
-    ghost meaning = { λ t. types_meaning t.grammar.now (option_map (λ s. s.now) t.settings) };
+    ghost meaning = { λ t. types_meaning t.grammar.now (option_map (λ s. s.now) t.settings) t.verbose };
 
     fn report<S: Shelf>(&self, alloc: Global, shelf: &mut S) -> Result<Report, Fault> {
-        types_report(alloc, shelf, self.grammar, self.settings)
+        types_report(alloc, shelf, self.grammar, self.settings, self.verbose)
     }
 }
 
@@ -109,10 +118,10 @@ impl Whole for Check<'_> {
     ghost use Rattle.std.specs.Prelude.{option_map};
     ghost use Rattle.grammar_commands.specs.Commands.{check_meaning};
 
-    ghost meaning = { λ t. check_meaning t.grammar.now (option_map (λ s. s.now) t.settings) };
+    ghost meaning = { λ t. check_meaning t.grammar.now (option_map (λ s. s.now) t.settings) t.verbose };
 
     fn report<S: Shelf>(&self, alloc: Global, shelf: &mut S) -> Result<Report, Fault> {
-        check_report(alloc, shelf, self.grammar, self.settings)
+        check_report(alloc, shelf, self.grammar, self.settings, self.verbose)
     }
 }
 
@@ -120,9 +129,16 @@ impl Whole for Expand<'_> {
     ghost use Rattle.std.specs.Prelude.{option_map};
     ghost use Rattle.grammar_commands.specs.Commands.{expand_meaning};
 
-    ghost meaning = { λ e. expand_meaning e.grammar.now e.entry.now (option_map (λ s. s.now) e.settings) };
+    ghost meaning = { λ e. expand_meaning e.grammar.now e.entry.now (option_map (λ s. s.now) e.settings) e.verbose };
 
     fn report<S: Shelf>(&self, alloc: Global, shelf: &mut S) -> Result<Report, Fault> {
-        expand_report(alloc, shelf, self.grammar, self.entry, self.settings)
+        expand_report(
+            alloc,
+            shelf,
+            self.grammar,
+            self.entry,
+            self.settings,
+            self.verbose,
+        )
     }
 }

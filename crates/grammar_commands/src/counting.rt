@@ -1,7 +1,7 @@
 //! The counts of a grammar, as the line of a report.
 ghost use Rattle.std.specs.Prelude.{◌≡◌, ◌++◌, ◌∷◌, [], map, length, filter, IfOk};
 ghost use Rattle.constraint_expand.specs.Books.{instance_of};
-ghost use Rattle.placed_statements.specs.Statements.{is_status};
+ghost use Rattle.grammar_files.specs.Statements.{is_status};
 ghost use Rattle.grammar_commands.specs.Checks.{count_of, types_text, instances_text, check_line};
 
 use crate::NoMemory;

@@ -2,8 +2,8 @@
 ghost use Rattle.std.specs.Prelude.{◌≡◌, map, option_map, length, All, IfOk, IfSome};
 ghost use Rattle.std.specs.String.{string_bytes};
 ghost use Rattle.type_hierarchy.specs.Table.{count_of};
-ghost use Rattle.fs_paths.specs.Facts.{line_of, lines_of};
-ghost use Rattle.fs_paths.specs.Text.{IsNamed, line_text};
+ghost use Rattle.fs_graph.specs.Facts.{line_of, lines_of};
+ghost use Rattle.fs_graph.specs.Text.{IsNamed, line_text};
 ghost use Rattle.fs_graph.specs.GraphMap.{reader_of};
 ghost use Rattle.fs_unify.specs.Entering.{IsGraphIn};
 ghost use Rattle.constraint_expand.specs.Books.{instance_of};
@@ -14,8 +14,7 @@ ghost use Rattle.grammar_commands.specs.Expansions.{called_of, is_called, instan
 use crate::NoMemory;
 use constraint_expand::Instance;
 use endings::pieces::Report;
-use fs_graph::Graph;
-use fs_paths::{PathLine, PathList, print};
+use fs_graph::{Graph, PathLine, PathList, print};
 use grammar_load::Grammar;
 use std::alloc::Global;
 use tdl_reader::Status;

@@ -2,7 +2,7 @@
 ghost use Rattle.std.specs.Prelude.{◌≡◌, ◌<◌, ◌≤◌, ◌++◌, ◌∷◌, map, IfOk, OnOk, All};
 ghost use Rattle.type_hierarchy.specs.Table.{count_of, completed_count};
 ghost use Rattle.type_hierarchy.specs.Supertypes.{numbers_of};
-ghost use Rattle.fault_texts.specs.Texts.{spaced};
+ghost use Rattle.command_files.specs.FaultTexts.{spaced};
 ghost use Rattle.grammar_commands.specs.TypeReports.{name_at, type_line, type_lines};
 
 use crate::NoMemory;

@@ -5,3 +5,5 @@ pub mod SettledLemmas
 pub mod LawLemmas
 pub mod OneLemmas
 pub mod EachLemmas
+pub mod ReadLemmas
+pub mod ReadingLawLemmas

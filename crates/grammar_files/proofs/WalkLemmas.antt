@@ -8,7 +8,7 @@ use Rattle.std.proofs.lemmas.List.{length-map, length_push}
 use Rattle.grammar_files.specs.declared.fault.LoadFault.{LoadFault}
 use Rattle.grammar_files.specs.declared.fault.LoadFault.TheVariants.{NoMemory, Found}
 use Rattle.grammar_files.specs.declared.walking.Progress.{Progress}
-use Rattle.placed_statements.specs.Placings.{placed_of}
+use Rattle.grammar_files.specs.Placings.{placed_of}
 use Rattle.tdl_reader.specs.Trees.{StatementTree}
 use Rattle.grammar_files.specs.declared.fault.Why.TheVariants.{Environment as OutOfPlace}
 use Rattle.grammar_files.specs.Environments.{breaks, place_of, left_open}

@@ -3,8 +3,8 @@ use Rattle.std.specs.Prelude.{ℕ, ◌==◌, ◌&&◌, not, Bool, true, false, i
 use Rattle.tdl_reader.specs.declared.Status.{Status}
 use Rattle.tdl_reader.specs.declared.Status.TheVariants.{TypeDef, LexRule, Other}
 use Rattle.tdl_reader.specs.Trees.{AffixTree, StatementTree, defines, adds, begins, ends, includes, letters}
-use Rattle.placed_statements.specs.Placings.{PlacedTree}
-pub use Rattle.placed_statements.specs.Statements.{is_of_types, is_heeded, is_definition, place_of}
+use Rattle.grammar_files.specs.Placings.{PlacedTree}
+pub use Rattle.grammar_files.specs.Statements.{is_of_types, is_heeded, is_definition, place_of}
 use Rattle.grammar_files.specs.declared.environment.Environment.{Environment}
 
 -- outside every environment a definition is one of a type

@@ -1,4 +1,4 @@
-pub use Rattle.placed_statements.specs.Placings
+pub use Rattle.grammar_files.specs.Placings
 pub use Rattle.grammar_settings.specs.Forms
 pub use Rattle.grammar_settings.specs.SettingsFiles
 pub use Rattle.grammar_settings.specs.Settled
@@ -10,3 +10,9 @@ pub mod Walks
 pub mod TextViews
 pub mod Included
 pub mod WalkViews
+pub mod Placings
+pub mod Statements
+pub mod BodyStrings
+pub mod Names
+pub mod Reads
+pub mod Views

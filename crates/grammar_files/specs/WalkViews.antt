@@ -1,7 +1,7 @@
 -- What contracts see of a walk, and of its parts.
 use Rattle.std.specs.Prelude.{◌≡◌, ◌⊎◌, ℕ, ◌≤◌, true, false, List, map, Option, None, Some}
 use Rattle.tdl_reader.specs.Trees.{StatementTree}
-use Rattle.placed_statements.specs.Placings.{placed_of}
+use Rattle.grammar_files.specs.Placings.{placed_of}
 use Rattle.type_hierarchy.specs.Faults.{is_glb_name}
 use Rattle.grammar_files.specs.declared.fault.Why.TheVariants.{IncludeLoop, TooManyFiles}
 use Rattle.grammar_files.specs.declared.walking.Progress.{Progress}

@@ -9,7 +9,7 @@ use Rattle.tdl_reader.specs.declared.ReadFault.{ReadFault}
 use Rattle.tdl_reader.specs.Reading.{IsReading, FirstFault}
 use Rattle.tdl_reader.specs.Toks.{toks_of}
 use Rattle.tdl_reader.specs.Trees.{StatementTree, includes}
-use Rattle.placed_statements.specs.Placings.{PlacedTree}
+use Rattle.grammar_files.specs.Placings.{PlacedTree}
 use Rattle.grammar_files.specs.declared.environment.Environment.{Environment}
 use Rattle.grammar_files.specs.declared.fault.Why.{Why}
 use Rattle.grammar_files.specs.declared.fault.Why.TheVariants.{Settings, Shelf, TooLong, IncludeLoop, TooManyFiles, Lex, Read, Environment as OutOfPlace}

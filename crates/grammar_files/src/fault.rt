@@ -1,7 +1,7 @@
 //! Why a grammar isn't loaded.
 
+use crate::ExpandFault;
 use grammar_settings::NoMemory;
-use placed_statements::ExpandFault;
 use std::alloc::{AllocError, AllocFailed};
 use tdl_lexer::LexFault;
 use tdl_reader::ReadFault;
@@ -48,17 +48,6 @@ pub enum LoadFault {
     NoMemory,
     /// The first fault of the files.
     Found { file: String, at: u32, why: Why },
-}
-
-impl From<NoMemory> for LoadFault {
-    ghost use Rattle.std.specs.Prelude.{◌≡◌};
-    ghost use Rattle.grammar_files.specs.declared.fault.LoadFault.{LoadFault};
-
-    ghost from_gives = { λ _ e. e ≡ LoadFault.NoMemory };
-
-    fn from(_: NoMemory) -> LoadFault {
-        LoadFault::NoMemory
-    }
 }
 
 impl From<AllocError> for LoadFault {

@@ -1,16 +1,16 @@
 //! What statements do in their environments.
 
 ghost use Rattle.std.specs.Prelude.{◌≡◌, ◌++◌, map, false, IfOk, IfSome, IfNone, OnOk, string_bytes};
-ghost use Rattle.placed_statements.specs.Placings.{placed_of};
+ghost use Rattle.grammar_files.specs.Placings.{placed_of};
 ghost use Rattle.tdl_reader.specs.Views.{statement_of};
 ghost use Rattle.grammar_files.specs.Environments.{status_in, breaks, place_of, left_open, takes_affix, is_of_types, is_heeded, ends_wrongly, is_include, environment_after, is_definition, placed_under};
 ghost use Rattle.grammar_files.specs.Included.{Includes};
 
+use crate::Placed;
 use crate::environment::Environment;
 use crate::file_names::included_in;
+use crate::placed_statements::{is_definition, is_heeded, is_of_types};
 use grammar_settings::NoMemory;
-use placed_statements::Placed;
-use placed_statements::statements::{is_definition, is_heeded, is_of_types};
 use std::alloc::{AllocError, Global};
 use tdl_reader::{Statement, Status};
 

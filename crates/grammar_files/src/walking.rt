@@ -12,15 +12,15 @@ ghost use Rattle.grammar_files.specs.Walks.{WalksFile, WalksTo, with_file, has_f
 ghost use Rattle.grammar_files.specs.TextViews.{Covers};
 ghost use Rattle.grammar_files.specs.WalkViews.{walk_of, walked_of, IsTurnedAway, Taken, CanSettle};
 
+use crate::Placed;
 use crate::environment::Environment;
 use crate::fault::{LoadFault, Why};
 use crate::file_names::with_ending;
+use crate::placed_statements::place_of;
 use crate::reading::{found, read_settings, said};
 use crate::statements::{breaks, environment_after, included, left_open, place, status_in};
 use grammar_settings::{NoMemory, Settings};
 use lkb_io::Shelf;
-use placed_statements::Placed;
-use placed_statements::statements::place_of;
 use std::alloc::Global;
 use tdl_reader::Statement;
 

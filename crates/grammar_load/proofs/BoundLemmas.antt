@@ -9,9 +9,9 @@ use Rattle.tdl_reader.specs.GroupScan.{latest}
 use Rattle.tdl_reader.specs.Toks.{Tok}
 use Rattle.tdl_reader.specs.Trees.{SetTree, SignTree as WrittenSign, one_char, one_of, GroupTree as WrittenGroup, AffixTree, StatementTree}
 use Rattle.tdl_reader.proofs.GroupForms.{and_parts}
-use Rattle.word_lists.specs.Words.{Has, Each}
+use Rattle.lexicon.specs.Words.{Has, Each}
 use Rattle.spelling_rules.specs.Trees.{variable, RuleTree, IsBound}
-use Rattle.rule_spelling.specs.Spellings.{sign_written, group_written, affix_written, rule_written}
+use Rattle.grammar_load.specs.Spellings.{sign_written, group_written, affix_written, rule_written}
 
 is_not : (b : Bool) → not b ≡ true → b ≡ false
 is_not true e = absurd (let z : false ≡ true = e in cc)

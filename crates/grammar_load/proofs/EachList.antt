@@ -8,14 +8,14 @@ use Rattle.type_hierarchy.specs.Decls.{Name}
 use Rattle.type_hierarchy.specs.Table.{TypeTable, is_below}
 use Rattle.fs_model.specs.Claims.{Path}
 use Rattle.fs_graph.specs.GraphMap.{GraphMap, type_at, node_at}
-use Rattle.word_lists.specs.Words.{Word}
+use Rattle.lexicon.specs.Words.{Word}
 use Rattle.closed_lists.specs.Names.{ListTree, IsReadable}
 use Rattle.closed_lists.specs.Lists.{IsAtOrBelow, arc_named, ends, goes_on, HasList, IsListAt}
 use Rattle.closed_lists.specs.Strings.{string_of, words_of_string, AreSpoken, HasWords}
 use Rattle.closed_lists.specs.Inner.Walked.{AreElements}
 use Rattle.closed_lists.proofs.ListLemmas.{at_cell, no_cell, no_first, no_rest, list_one, list_found, no_list, unknown_list}
 use Rattle.closed_lists.proofs.WordLemmas.{none_spoken, none_some}
-use Rattle.instance_shapes.specs.Shapes.{is_rule, MayHave, HasDaughters, of_rule, no_rule}
+use Rattle.book_shapes.specs.Daughters.{is_rule, MayHave, HasDaughters, of_rule, no_rule}
 use Rattle.grammar_load.proofs.SameLists.{walk_on}
 
 -- something, or its contrary

@@ -3,18 +3,18 @@ use Rattle.std.proofs.Common.{ℕ, zero, suc, ◌≡◌, ◌<◌, ◌+◌, inl, 
 use Rattle.std.specs.Prelude.{slice_get}
 use Rattle.std.specs.List.{AllZip, range_with_len}
 use Rattle.std.proofs.lemmas.List.Sorted.{IsPermutation-refl}
-use Rattle.placed_statements.specs.Statements.{instances_in, name_of}
+use Rattle.grammar_files.specs.Statements.{instances_in, name_of}
 use Rattle.constraint_expand.specs.declared.books.Book.{Book}
 use Rattle.constraint_expand.specs.Books.{numbered_of, InstanceMap}
-use Rattle.word_lists.specs.Words.{Word, Each}
+use Rattle.lexicon.specs.Words.{Word, Each}
 use Rattle.lexicon.specs.Entries.{EntryTree}
 use Rattle.closed_lists.specs.Names.{IsReadable}
 use Rattle.grammar_settings.specs.Forms.{Name}
 use Rattle.grammar_files.specs.declared.fault.Why.TheVariants.{Arity, Orthography}
 use Rattle.grammar_files.specs.Faults.{FoundFault}
 use Rattle.grammar_types.specs.Typings.{fault_of, statement_at}
-use Rattle.grammar_model.specs.Expanding.{names_by, IsBook}
-use Rattle.grammar_reading.specs.Reads.{ReadTree, ReadsTo}
+use Rattle.grammar_load.specs.Expanding.{names_by, IsBook}
+use Rattle.grammar_files.specs.Reads.{ReadTree, ReadsTo}
 use Rattle.book_shapes.specs.Shapes.{lists_of, is_entry, instances_of, entries_in, AreReadable, HasItsDaughters, HasWordsAt, HasItsWords, of_entry, no_entry, IsFirstPlace}
 use Rattle.book_shapes.proofs.ReadableLemmas.{readable}
 use Rattle.grammar_load.specs.Loaded.{GrammarTree, orth_path, spelling_said}

@@ -15,3 +15,9 @@ pub mod SameShapes
 pub mod OneLoad
 pub mod EachList
 pub mod EachLoad
+pub mod ExpandLists
+pub mod ExpandTypes
+pub mod ExpandFits
+pub mod GatherLemmas
+pub mod PlaceLemmas
+pub mod LineLemmas

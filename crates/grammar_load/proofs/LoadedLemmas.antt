@@ -13,17 +13,17 @@ use Rattle.fs_model.proofs.ClosureLemmas.{consistency_falls}
 use Rattle.fs_graph.specs.GraphMap.{reader_of}
 use Rattle.fs_unify.specs.Rules.{system_of}
 use Rattle.fs_unify.specs.Given.{facts_source}
-use Rattle.placed_statements.specs.Placings.{PlacedTree}
-use Rattle.placed_statements.specs.Statements.{is_status, defines_instance, instances_in, name_of}
+use Rattle.grammar_files.specs.Placings.{PlacedTree}
+use Rattle.grammar_files.specs.Statements.{is_status, defines_instance, instances_in, name_of}
 use Rattle.constraint_expand.specs.declared.books.Book.{Book}
 use Rattle.constraint_expand.specs.Books.{InstanceMap, IsInstanceOf, IsBookOf}
 use Rattle.constraint_expand.specs.Systems.{Settled, instance_claims, words_of}
-use Rattle.word_lists.specs.Words.{Each}
+use Rattle.lexicon.specs.Words.{Each}
 use Rattle.lexicon.specs.Entries.{EntryTree, IsLexiconOf}
 use Rattle.spelling_rules.specs.Trees.{AreBound}
-use Rattle.rule_spelling.specs.Spellings.{rule_written, lexical_rules, spellings_of}
-use Rattle.grammar_model.specs.Expanding.{names_by}
-use Rattle.grammar_reading.specs.Reads.{ReadTree}
+use Rattle.grammar_load.specs.Spellings.{rule_written, lexical_rules, spellings_of}
+use Rattle.grammar_load.specs.Expanding.{names_by}
+use Rattle.grammar_files.specs.Reads.{ReadTree}
 use Rattle.book_shapes.specs.Shapes.{instances_of, entries_in, HasWordsAt, AreEntriesOf}
 use Rattle.grammar_load.specs.Loaded.{GrammarTree, orth_path, IsGrammarOf}
 use Rattle.grammar_load.specs.Conditions.{IsClosedIn, AreNumbered, IsLoaded}

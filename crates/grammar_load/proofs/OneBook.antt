@@ -14,8 +14,8 @@ use Rattle.fs_graph.specs.GraphMap.{GraphMap, reader_of}
 use Rattle.fs_unify.specs.Given.{facts_source}
 use Rattle.fs_unify.specs.Rules.{Grammar, system_of}
 use Rattle.fs_unify.proofs.GivenLemmas.{order_of_laws}
-use Rattle.placed_statements.specs.Placings.{PlacedTree}
-use Rattle.placed_statements.specs.Statements.{instances_in}
+use Rattle.grammar_files.specs.Placings.{PlacedTree}
+use Rattle.grammar_files.specs.Statements.{instances_in}
 use Rattle.constraint_expand.specs.declared.books.Book.{Book}
 use Rattle.constraint_expand.specs.Books.{numbered_in, IsInstanceOf, IsConstraintOf, IsBookOf}
 use Rattle.constraint_expand.specs.Systems.{Settled, constraint_claims, instance_claims, words_of}

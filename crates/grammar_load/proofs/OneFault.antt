@@ -17,13 +17,13 @@ use Rattle.body_facts.specs.BracketUses.{Used}
 use Rattle.body_facts.specs.Mentions.{Mention, mention}
 use Rattle.body_facts.specs.Numbers.{type_number}
 use Rattle.constraint_expand.specs.declared.books.Book.{Book}
-use Rattle.placed_statements.specs.declared.fault.ExpandFault.{ExpandFault}
-use Rattle.placed_statements.specs.declared.fault.ExpandFault.TheVariants.{UnknownName, NoIntro, Intro, NoStructure, NoMemory}
+use Rattle.grammar_files.specs.declared.expand_fault.ExpandFault.{ExpandFault}
+use Rattle.grammar_files.specs.declared.expand_fault.ExpandFault.TheVariants.{UnknownName, NoIntro, Intro, NoStructure, NoMemory}
 use Rattle.constraint_expand.specs.Books.{IsInstanceOf, IsBookOf, instance_of}
 use Rattle.constraint_expand.specs.Faults.{IsUnknownName, IsUnwritten, UsesUnwritten, use_at, IsFirstUse, NamesFirstUse, IsNoIntro, HasIntroducer, type_name, IsIntro, IsInconsistent, IsNoStructure, IsFaultOf}
 use Rattle.constraint_expand.specs.Features.{uses_in, all_uses, features_used, writers_of}
 use Rattle.constraint_expand.specs.Introducers.{IsIntroducer, AreFirstTwo}
-use Rattle.placed_statements.specs.Placings.{PlacedTree}
+use Rattle.grammar_files.specs.Placings.{PlacedTree}
 use Rattle.constraint_expand.specs.Statements.{is_define, is_addendum, is_of_types, is_of_instances, name_of, defines_type, speaks_of_type, defines_instance, instances_in, no_statement, statement_at, IsFirstAmong, IsFirst, first_of_types, first_of_instances, IsNowhere}
 use Rattle.constraint_expand.specs.Systems.{Settled, IsSystemOf, constraint_claims, instance_claims, words_of}
 use Rattle.constraint_expand.specs.Unknowns.{unknown_of, NamesUnknown}

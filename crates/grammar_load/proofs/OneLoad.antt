@@ -5,10 +5,10 @@ use Rattle.type_hierarchy.specs.declared.decl.TypeFault.TheVariants.{Duplicate, 
 use Rattle.type_hierarchy.specs.Decls.{Name as Feature}
 use Rattle.type_hierarchy.specs.Table.{TypeTable}
 use Rattle.fs_model.specs.Laws.{AnswerIsOne}
-use Rattle.placed_statements.specs.Placings.{PlacedTree}
-use Rattle.placed_statements.specs.Statements.{instances_in}
-use Rattle.placed_statements.specs.declared.fault.ExpandFault.{ExpandFault}
-use Rattle.placed_statements.specs.declared.fault.ExpandFault.TheVariants.{UnknownName, NoIntro, Intro, NoStructure, NoMemory}
+use Rattle.grammar_files.specs.Placings.{PlacedTree}
+use Rattle.grammar_files.specs.Statements.{instances_in}
+use Rattle.grammar_files.specs.declared.expand_fault.ExpandFault.{ExpandFault}
+use Rattle.grammar_files.specs.declared.expand_fault.ExpandFault.TheVariants.{UnknownName, NoIntro, Intro, NoStructure, NoMemory}
 use Rattle.constraint_expand.specs.declared.books.Book.{Book}
 use Rattle.constraint_expand.specs.Books.{IsBookOf, feature_named}
 use Rattle.constraint_expand.specs.Faults.{IsFaultOf}
@@ -18,9 +18,9 @@ use Rattle.grammar_files.specs.declared.fault.Why.TheVariants.{Settings, Shelf, 
 use Rattle.grammar_files.specs.Faults.{FoundFault}
 use Rattle.grammar_files.specs.Walks.{WalkedTree}
 use Rattle.grammar_types.specs.Typings.{AreTypesOf, IsTypesFault, IsSameTypeFault, IsSameWhy, IsSameFault, statement_at, file_name, fault_of}
-use Rattle.grammar_model.specs.Expanding.{names_by, IsBook, stands_at, place_within, expand_fault, IsExpandFault}
-use Rattle.grammar_reading.specs.Reads.{ReadTree, ReadsTo}
-use Rattle.word_lists.specs.Words.{Each}
+use Rattle.grammar_load.specs.Expanding.{names_by, IsBook, stands_at, place_within, expand_fault, IsExpandFault}
+use Rattle.grammar_files.specs.Reads.{ReadTree, ReadsTo}
+use Rattle.lexicon.specs.Words.{Each}
 use Rattle.lexicon.specs.Entries.{EntryTree}
 use Rattle.book_shapes.specs.Shapes.{instances_of, AreEntriesOf, IsFirstPlace, HasItsDaughters, HasItsWords}
 use Rattle.grammar_load.specs.Loaded.{GrammarTree, orth_path, IsGrammarOf}

@@ -10,7 +10,7 @@ use Rattle.fs_unify.specs.Rules.{Rule, Grammar}
 use Rattle.body_facts.specs.Writing.{ListNames}
 use Rattle.constraint_expand.specs.Features.{AreFeatures, writers_of}
 use Rattle.constraint_expand.specs.Introducers.{IsIntroducer}
-use Rattle.placed_statements.specs.Placings.{PlacedTree}
+use Rattle.grammar_files.specs.Placings.{PlacedTree}
 use Rattle.constraint_expand.specs.Systems.{Settled, IsSystemOf, rules_in, words_of}
 use Rattle.grammar_types.specs.Typings.{AreTypesOf, strings_in}
 use Rattle.grammar_files.specs.Walks.{WalkedTree}

@@ -2,17 +2,17 @@
 use Rattle.std.proofs.Common.{ℕ, Bool, true, false, cond, ◌&&◌, List, [], ◌∷◌, Option, Result, Ok, Err}
 use Rattle.tdl_reader.specs.declared.Status.{Status}
 use Rattle.tdl_reader.specs.Trees.{StatementTree}
-use Rattle.placed_statements.specs.Placings.{PlacedTree}
-use Rattle.placed_statements.specs.Statements.{is_definition, is_heeded}
+use Rattle.grammar_files.specs.Placings.{PlacedTree}
+use Rattle.grammar_files.specs.Statements.{is_definition, is_heeded}
 use Rattle.grammar_settings.specs.Forms.{Name}
 use Rattle.grammar_files.specs.Environments.{placed_by, placed_under, status_in}
 use Rattle.grammar_files.specs.Faults.{FoundFault}
 use Rattle.grammar_files.specs.FileNames.{with_ending}
 use Rattle.grammar_files.specs.Walks.{Files, Says, fails_here, too_long, unlexed, unread, says, WalkState, begun, WalksFile, loops, too_many, unsaid, said, Walks, ends, ends_within, breaks_off, goes_on, stops_within, follows, WalkedTree, WalksTo, unsettled, unwalked, walked}
-use Rattle.grammar_reading.specs.Reads.{ReadTree, ReadsTo, unwalked as unwalked_files, without_forms, reads}
-use Rattle.word_lists.specs.Words.{Each}
+use Rattle.grammar_files.specs.Reads.{ReadTree, ReadsTo, unwalked as unwalked_files, without_forms, reads}
+use Rattle.lexicon.specs.Words.{Each}
 use Rattle.spelling_rules.specs.Trees.{AreBound}
-use Rattle.rule_spelling.specs.Spellings.{rule_written, defines_lexical, lexical_rules, spellings_of}
+use Rattle.grammar_load.specs.Spellings.{rule_written, defines_lexical, lexical_rules, spellings_of}
 use Rattle.grammar_load.proofs.ListLemmas.{each_append, each_map, each_filter}
 use Rattle.grammar_load.proofs.BoundLemmas.{IsFit, file_bound}
 

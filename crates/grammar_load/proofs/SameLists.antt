@@ -9,13 +9,13 @@ use Rattle.fs_model.specs.Claims.{Path}
 use Rattle.fs_model.specs.Sources.{Reader, IsSameStructure}
 use Rattle.fs_model.specs.Table.{walk}
 use Rattle.fs_graph.specs.GraphMap.{GraphMap, table_of, type_at, arcs_at, arc_to, node_at, reader_of}
-use Rattle.word_lists.specs.Words.{Word}
+use Rattle.lexicon.specs.Words.{Word}
 use Rattle.closed_lists.specs.Names.{ListTree}
 use Rattle.closed_lists.specs.Lists.{IsAtOrBelow, arc_named, Elements, ends, goes_on, HasList}
 use Rattle.closed_lists.specs.Strings.{string_of, AreSpoken, HasWords}
 use Rattle.closed_lists.proofs.ListLemmas.{list_one}
 use Rattle.closed_lists.proofs.WordLemmas.{spoken_one}
-use Rattle.instance_shapes.specs.Shapes.{MayHave, HasDaughters, of_rule, no_rule}
+use Rattle.book_shapes.specs.Daughters.{MayHave, HasDaughters, of_rule, no_rule}
 
 pub same_back : (a b : Reader) → IsSameStructure a b → IsSameStructure b a
 same_back a b s = record { there = s.there_back; there_back = s.there; equal = s.equal_back; equal_back = s.equal; types = λ p n m e f. sym (s.types p m n f e) }

@@ -9,10 +9,10 @@ use Rattle.type_hierarchy.specs.Table.{TypeTable}
 use Rattle.fs_unify.specs.Rules.{Grammar}
 use Rattle.constraint_expand.specs.declared.books.Book.{Book}
 use Rattle.constraint_expand.specs.Books.{Numbered, numbered_of, InstanceMap}
-use Rattle.word_lists.specs.Words.{Word, Each}
+use Rattle.lexicon.specs.Words.{Word, Each}
 use Rattle.lexicon.specs.Entries.{EntryTree, IsLexiconOf}
 use Rattle.closed_lists.specs.Strings.{HasWords}
-use Rattle.instance_shapes.specs.Shapes.{HasDaughters}
+use Rattle.book_shapes.specs.Daughters.{HasDaughters}
 use Rattle.book_shapes.specs.Shapes.{lists_of, is_entry, instances_of, entries_in, HasItsDaughters, HasWordsAt, HasItsWords, of_entry, no_entry, IsFirstPlace, AreEntriesOf}
 use Rattle.book_shapes.proofs.PlaceLemmas.{each_at}
 use Rattle.fs_graph.specs.GraphMap.{reader_of}

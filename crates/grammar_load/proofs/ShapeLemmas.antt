@@ -3,21 +3,21 @@ use Rattle.std.proofs.Common.{ℕ, ◌≡◌, ◌<◌, ◌≤◌, List, length, 
 use Rattle.std.proofs.lemmas.List.{length-map}
 use Rattle.std.proofs.lemmas.Slice.Zip.{AllZip-long}
 use Rattle.type_hierarchy.specs.Decls.{texts}
-use Rattle.placed_statements.specs.Placings.{PlacedTree}
-use Rattle.placed_statements.specs.Statements.{instances_in, name_of}
+use Rattle.grammar_files.specs.Placings.{PlacedTree}
+use Rattle.grammar_files.specs.Statements.{instances_in, name_of}
 use Rattle.constraint_expand.specs.declared.books.Book.{Book}
 use Rattle.constraint_expand.specs.Books.{instance_of, IsInstanceOf}
-use Rattle.word_lists.specs.Words.{Word, Each}
+use Rattle.lexicon.specs.Words.{Word, Each}
 use Rattle.spelling_rules.specs.Trees.{RuleTree, LineTree, SpellingTree}
-use Rattle.rule_spelling.specs.Spellings.{lexical_rules, spellings_of}
-use Rattle.rule_spelling.specs.IrregularLines.{lines_said}
+use Rattle.grammar_load.specs.Spellings.{lexical_rules, spellings_of}
+use Rattle.grammar_load.specs.IrregularLines.{lines_said}
 use Rattle.grammar_files.specs.declared.fault.LoadFault.{LoadFault}
 use Rattle.grammar_files.specs.declared.fault.LoadFault.TheVariants.{NoMemory, Found}
 use Rattle.grammar_files.specs.declared.fault.Why.TheVariants.{Arity, Orthography}
 use Rattle.grammar_files.specs.Faults.{FoundFault, IsFaultBy}
 use Rattle.grammar_files.specs.Walks.{WalkedTree}
 use Rattle.grammar_types.specs.Typings.{fault_of, statement_at}
-use Rattle.grammar_model.specs.Expanding.{names_by, IsBook}
+use Rattle.grammar_load.specs.Expanding.{names_by, IsBook}
 use Rattle.book_shapes.specs.Shapes.{instances_of, HasItsDaughters, HasItsWords, IsFirstPlace}
 use Rattle.grammar_load.specs.Loaded.{orth_path, spelling_said}
 use Rattle.grammar_load.specs.Loads.{IsShapeFault, of_arity, of_words}

@@ -8,9 +8,9 @@ use Rattle.fs_model.specs.Sources.{Tells}
 use Rattle.fs_graph.specs.GraphMap.{GraphMap, reader_of}
 use Rattle.fs_unify.specs.Rules.{Grammar, IsGrammar, system_of}
 use Rattle.fs_unify.specs.Placing.{IsAnswerIn}
-use Rattle.placed_statements.specs.Statements.{is_status}
+use Rattle.grammar_files.specs.Statements.{is_status}
 use Rattle.constraint_expand.specs.Books.{InstanceMap}
-use Rattle.word_lists.specs.Words.{Each}
+use Rattle.lexicon.specs.Words.{Each}
 use Rattle.lexicon.specs.Entries.{EntryTree}
 use Rattle.spelling_rules.specs.Trees.{AreBound}
 use Rattle.book_shapes.specs.Shapes.{instances_of, entries_in, HasItsDaughters}

@@ -3,3 +3,17 @@ pub mod Loads
 pub mod Conditions
 pub mod Outcomes
 pub mod Views
+pub use Rattle.grammar_settings.specs.Forms
+pub use Rattle.grammar_settings.specs.SettingsFiles
+pub use Rattle.grammar_settings.specs.Settled
+pub use Rattle.grammar_settings.specs.SettingsViews
+pub use Rattle.grammar_files.specs.FileNames
+pub use Rattle.grammar_files.specs.Environments
+pub use Rattle.grammar_files.specs.Faults
+pub use Rattle.grammar_files.specs.Walks
+pub use Rattle.grammar_files.specs.TextViews
+pub use Rattle.grammar_files.specs.WalkViews
+pub use Rattle.grammar_types.specs.Typings
+pub mod Expanding
+pub mod Spellings
+pub mod IrregularLines

@@ -1,18 +1,18 @@
 -- The grammar of what was read (DELPH-IN TDL; Copestake 2002).
 use Rattle.std.specs.Prelude.{ℕ, ◌≡◌, List, map, Option}
 use Rattle.type_hierarchy.specs.Decls.{Name, texts}
-use Rattle.placed_statements.specs.Placings.{PlacedTree}
-use Rattle.placed_statements.specs.Statements.{instances_in, name_of}
+use Rattle.grammar_files.specs.Placings.{PlacedTree}
+use Rattle.grammar_files.specs.Statements.{instances_in, name_of}
 use Rattle.constraint_expand.specs.declared.books.Book.{Book}
 use Rattle.constraint_expand.specs.Books.{feature_named}
-use Rattle.word_lists.specs.Words.{Each}
+use Rattle.lexicon.specs.Words.{Each}
 use Rattle.lexicon.specs.Entries.{EntryTree, IsLexiconOf}
 use Rattle.spelling_rules.specs.Trees.{SpellingTree}
-use Rattle.rule_spelling.specs.Spellings.{lexical_rules, spellings_of}
-use Rattle.rule_spelling.specs.IrregularLines.{lines_said}
+use Rattle.grammar_load.specs.Spellings.{lexical_rules, spellings_of}
+use Rattle.grammar_load.specs.IrregularLines.{lines_said}
 use Rattle.grammar_settings.specs.Settled.{SettingsTree}
-use Rattle.grammar_model.specs.Expanding.{IsBook}
-use Rattle.grammar_reading.specs.Reads.{ReadTree}
+use Rattle.grammar_load.specs.Expanding.{IsBook}
+use Rattle.grammar_files.specs.Reads.{ReadTree}
 use Rattle.book_shapes.specs.Shapes.{instances_of, HasItsDaughters, AreEntriesOf}
 
 -- what contracts see of a grammar

@@ -1,15 +1,15 @@
 -- The grammar of the files, or their first fault.
 use Rattle.std.specs.Prelude.{ℕ, ◌<◌, Bool, length, Option, Result, Ok, Err}
 use Rattle.constraint_expand.specs.declared.books.Book.{Book}
-use Rattle.placed_statements.specs.Statements.{instances_in}
-use Rattle.word_lists.specs.Words.{Each}
+use Rattle.grammar_files.specs.Statements.{instances_in}
+use Rattle.lexicon.specs.Words.{Each}
 use Rattle.grammar_settings.specs.Forms.{Name}
 use Rattle.grammar_files.specs.declared.fault.Why.TheVariants.{Arity, Orthography}
 use Rattle.grammar_files.specs.Faults.{FoundFault}
 use Rattle.grammar_files.specs.Walks.{Files, WalkedTree}
 use Rattle.grammar_types.specs.Typings.{IsTypesFault, fault_of, statement_at}
-use Rattle.grammar_model.specs.Expanding.{IsBook, IsExpandFault}
-use Rattle.grammar_reading.specs.Reads.{ReadTree, ReadsTo}
+use Rattle.grammar_load.specs.Expanding.{IsBook, IsExpandFault}
+use Rattle.grammar_files.specs.Reads.{ReadTree, ReadsTo}
 use Rattle.book_shapes.specs.Shapes.{instances_of, HasItsDaughters, HasItsWords, IsFirstPlace}
 use Rattle.grammar_load.specs.Loaded.{GrammarTree, IsGrammarOf, orth_path}
 

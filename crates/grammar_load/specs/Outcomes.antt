@@ -4,8 +4,8 @@ use Rattle.std.specs.List.{AllZip}
 use Rattle.type_hierarchy.specs.Decls.{texts}
 use Rattle.fs_model.specs.Sources.{IsSameStructure}
 use Rattle.fs_graph.specs.GraphMap.{GraphMap, reader_of}
-use Rattle.placed_statements.specs.declared.fault.ExpandFault.{ExpandFault}
-use Rattle.placed_statements.specs.declared.fault.ExpandFault.TheVariants.{UnknownName, NoIntro, Intro, NoStructure, NoMemory}
+use Rattle.grammar_files.specs.declared.expand_fault.ExpandFault.{ExpandFault}
+use Rattle.grammar_files.specs.declared.expand_fault.ExpandFault.TheVariants.{UnknownName, NoIntro, Intro, NoStructure, NoMemory}
 use Rattle.constraint_expand.specs.declared.books.Book.{Book}
 use Rattle.constraint_expand.specs.Books.{InstanceMap, numbered_of}
 use Rattle.grammar_files.specs.declared.fault.Why.{Why}
@@ -13,7 +13,7 @@ use Rattle.grammar_files.specs.declared.fault.Why.TheVariants.{Expand}
 use Rattle.grammar_files.specs.Faults.{FoundFault}
 use Rattle.grammar_files.specs.Walks.{WalkedTree}
 use Rattle.grammar_types.specs.Typings.{IsTypesFault, IsSameWhy}
-use Rattle.grammar_model.specs.Expanding.{IsBook, IsExpandFault}
+use Rattle.grammar_load.specs.Expanding.{IsBook, IsExpandFault}
 use Rattle.book_shapes.specs.Shapes.{instances_of}
 use Rattle.grammar_load.specs.Loaded.{GrammarTree}
 

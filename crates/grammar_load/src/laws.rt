@@ -3,13 +3,13 @@
 ghost use Rattle.std.specs.Prelude.{◌≡◌, ℕ, List, Bool, true, false, Option, Some, None, Result, Ok};
 ghost use Rattle.grammar_settings.specs.Forms.{Name};
 ghost use Rattle.grammar_files.specs.Faults.{FoundFault};
-ghost use Rattle.grammar_reading.specs.Reads.{ReadTree, ReadsTo};
+ghost use Rattle.grammar_files.specs.Reads.{ReadTree, ReadsTo};
 ghost use Rattle.grammar_load.specs.Loaded.{GrammarTree};
 ghost use Rattle.grammar_load.specs.Loads.{Loads};
 ghost use Rattle.grammar_load.specs.Outcomes.{IsSameOutcome, HasExpansion};
 
 use fs_model::closure_laws;
-use grammar_reading::laws::{each_read, one_read};
+use grammar_files::reading_laws::{each_read, one_read};
 use grammar_types::laws::one_settling;
 
 /// Where the files are told and the shelf doesn't fail, a top name and settings load to one grammar, or have one first fault,

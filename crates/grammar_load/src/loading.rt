@@ -1,15 +1,15 @@
 //! What the files of a grammar load to.
 
 ghost use Rattle.std.specs.Prelude.{◌≤◌, ◌≡◌, map, option_map, IfOk, IfErr, Ok, Err};
-ghost use Rattle.word_lists.specs.Words.{Each};
+ghost use Rattle.lexicon.specs.Words.{Each};
 ghost use Rattle.lexicon.specs.Groups.{given_of};
 ghost use Rattle.spelling_rules.specs.Trees.{AreBound};
-ghost use Rattle.rule_spelling.specs.Spellings.{lexical_rules, spellings_of};
+ghost use Rattle.grammar_load.specs.Spellings.{lexical_rules, spellings_of};
 ghost use Rattle.grammar_files.specs.Faults.{IsFaultBy};
 ghost use Rattle.grammar_files.specs.Walks.{has_failed};
 ghost use Rattle.grammar_files.specs.WalkViews.{walked_of, CanSettle};
-ghost use Rattle.grammar_model.specs.Expanding.{IsBook};
-ghost use Rattle.grammar_reading.specs.Views.{read_of};
+ghost use Rattle.grammar_load.specs.Expanding.{IsBook};
+ghost use Rattle.grammar_files.specs.Views.{read_of};
 ghost use Rattle.book_shapes.specs.Shapes.{instances_of, HasItsDaughters, AreEntriesOf};
 ghost use Rattle.grammar_load.specs.Loaded.{orth_path, IsGrammarOf};
 ghost use Rattle.grammar_load.specs.Loads.{Makes, Loads};
@@ -19,15 +19,12 @@ ghost use Rattle.grammar_load.specs.Views.{grammar_of};
 use crate::grammar::Grammar;
 use crate::shapes::{check_daughters, entries_with_words};
 use crate::spelling::spelling_of;
+use crate::{expand_types, instance_names, settle_types};
 use constraint_expand::Book;
-use grammar_files::LoadFault;
-use grammar_model::{expand_types, settle_types};
-use grammar_reading::{Read, read_files};
-use lexicon::Lexicon;
+use grammar_files::{LoadFault, Read, read_files};
+use lexicon::{Lexicon, NoMemory};
 use lkb_io::Shelf;
-use rule_spelling::instance_names;
 use std::alloc::Global;
-use word_lists::NoMemory;
 
 // The book of what was read, whose rules have their daughters.
 fn book_of(alloc: Global, read: &Read) -> Result<Book, LoadFault>

@@ -1,16 +1,15 @@
 //! Where a fault of shape stands.
 
 ghost use Rattle.std.specs.Prelude.{◌≡◌, ◌<◌, length, map, option_map, slice_get};
-ghost use Rattle.placed_statements.specs.Placings.{placed_of};
-ghost use Rattle.placed_statements.specs.Statements.{instances_in};
+ghost use Rattle.grammar_files.specs.Placings.{placed_of};
+ghost use Rattle.grammar_files.specs.Statements.{instances_in};
 ghost use Rattle.grammar_files.specs.Faults.{IsFaultBy};
 ghost use Rattle.grammar_files.specs.WalkViews.{walked_of};
 ghost use Rattle.grammar_types.specs.Typings.{fault_of, statement_at};
 
-use grammar_files::{LoadFault, Walked, Why, found};
+use grammar_files::placed_statements::{defines_instance, place_of};
+use grammar_files::{LoadFault, Placed, Walked, Why, found};
 use grammar_types::file_name;
-use placed_statements::Placed;
-use placed_statements::statements::{defines_instance, place_of};
 use std::alloc::Global;
 
 // The statement of an instance by its place among the instances.

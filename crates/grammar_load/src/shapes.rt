@@ -3,11 +3,11 @@
 ghost use Rattle.std.specs.Prelude.{map, IfOk, IfErr};
 ghost use Rattle.type_hierarchy.specs.Decls.{texts};
 ghost use Rattle.constraint_expand.specs.Books.{feature_named};
-ghost use Rattle.word_lists.specs.Words.{Each};
+ghost use Rattle.lexicon.specs.Words.{Each};
 ghost use Rattle.lexicon.specs.Groups.{given_of};
 ghost use Rattle.grammar_files.specs.Faults.{IsFaultBy};
 ghost use Rattle.grammar_files.specs.WalkViews.{walked_of};
-ghost use Rattle.grammar_model.specs.Expanding.{IsBook};
+ghost use Rattle.grammar_load.specs.Expanding.{IsBook};
 ghost use Rattle.book_shapes.specs.Shapes.{instances_of, HasItsDaughters, AreReadable, AreFound, AreEntriesOf};
 ghost use Rattle.grammar_load.specs.Loaded.{orth_path};
 ghost use Rattle.grammar_load.specs.Loads.{IsShapeFault};
@@ -17,8 +17,8 @@ use book_shapes::laws::readable;
 use book_shapes::{Entries, entries_of, features, first_without_daughters};
 use constraint_expand::Book;
 use grammar_files::{LoadFault, Walked, Why};
+use lexicon::NoMemory;
 use std::alloc::Global;
-use word_lists::NoMemory;
 
 /// Whether each rule has its daughters; the first that hasn't is a fault.
 pub(crate) fn check_daughters(alloc: Global, walked: &Walked, book: &Book) -> Result<(), LoadFault>

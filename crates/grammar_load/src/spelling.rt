@@ -1,16 +1,16 @@
 //! The spelling of what was read.
 
 ghost use Rattle.std.specs.Prelude.{◌≡◌, map, IfOk};
-ghost use Rattle.placed_statements.specs.Placings.{placed_of};
+ghost use Rattle.grammar_files.specs.Placings.{placed_of};
 ghost use Rattle.spelling_rules.specs.Trees.{AreBound};
-ghost use Rattle.rule_spelling.specs.Spellings.{lexical_rules, spellings_of};
+ghost use Rattle.grammar_load.specs.Spellings.{lexical_rules, spellings_of};
 ghost use Rattle.grammar_load.specs.Loaded.{spelling_said};
 
-use placed_statements::Placed;
-use rule_spelling::{irregular_lines, lexical_names, rules_written};
+use crate::{irregular_lines, lexical_names, rules_written};
+use grammar_files::Placed;
+use lexicon::NoMemory;
 use spelling_rules::Spelling;
 use std::alloc::Global;
-use word_lists::NoMemory;
 
 /// The spelling of the lexical rules that statements define, with the irregular forms of a text. More rules than a `u32` can
 /// number count as want of memory.

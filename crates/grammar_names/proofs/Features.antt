@@ -5,8 +5,8 @@ use Rattle.std.specs.List.{flat_map}
 use Rattle.fs_model.specs.Claims.{Has, here, there}
 use Rattle.type_hierarchy.specs.Decls.{Name}
 use Rattle.tdl_reader.specs.Trees.{TermTree, of_name, of_text, of_coref, of_avm, of_list, of_diff, BodyTree, no_terms, and_term, AttrTrees, no_attrs, more_attrs, ItemTrees, no_items, more_items, RestTree, closed, open_end, tail_of, StatementTree, defines, adds, begins, ends, includes, letters}
-use Rattle.placed_statements.specs.Placings.{PlacedTree}
-use Rattle.placed_statements.specs.Statements.{body_written, speaks_of_type, defines_instance}
+use Rattle.grammar_files.specs.Placings.{PlacedTree}
+use Rattle.grammar_files.specs.Statements.{body_written, speaks_of_type, defines_instance}
 use Rattle.body_facts.specs.Writing.{ListNames}
 use Rattle.body_facts.specs.BracketUses.{Used, used, path_uses, is_empty_path, is_empty_list, cell_uses, term_uses, body_uses, attrs_use, items_use, end_uses}
 use Rattle.constraint_expand.specs.Features.{AreFeatures, uses_in}

@@ -10,16 +10,16 @@ use Rattle.std.proofs.lemmas.List.Folds.{list_any-append}
 use Rattle.std.proofs.lemmas.Option.{none-some, same_Some, slice_get-map}
 use Rattle.tdl_reader.specs.declared.Status.{Status}
 use Rattle.tdl_reader.specs.declared.Status.TheVariants.{TypeDef, Entry, LexRule, Rule, Root, Other}
-use Rattle.placed_statements.specs.Names.{has_name}
-use Rattle.placed_statements.specs.Placings.{PlacedTree}
-use Rattle.placed_statements.specs.Statements.{is_status, is_define, is_of_instances, is_heeded, defines_instance, name_of, instances_in, statement_at}
+use Rattle.grammar_files.specs.Names.{has_name}
+use Rattle.grammar_files.specs.Placings.{PlacedTree}
+use Rattle.grammar_files.specs.Statements.{is_status, is_define, is_of_instances, is_heeded, defines_instance, name_of, instances_in, statement_at}
 use Rattle.type_hierarchy.specs.Decls.{Name}
 use Rattle.type_hierarchy.proofs.NameLemmas.{bytes_eq-refl}
 use Rattle.constraint_expand.specs.Books.{InstanceMap}
 use Rattle.grammar_types.specs.Typings.{defines_under, definitions_under, names_under, HasNoRepeat}
 use Rattle.book_shapes.specs.Shapes.{instances_of}
 use Rattle.grammar_files.specs.Walks.{Files}
-use Rattle.grammar_reading.specs.Reads.{ReadTree}
+use Rattle.grammar_files.specs.Reads.{ReadTree}
 use Rattle.grammar_load.specs.Loaded.{GrammarTree, IsGrammarOf}
 use Rattle.grammar_load.specs.Loads.{Loads, loads, Makes, makes}
 use Rattle.grammar_names.specs.Fitting.{IsInstanceName, AreNamedApart}

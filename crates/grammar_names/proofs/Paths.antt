@@ -9,13 +9,13 @@ use Rattle.type_hierarchy.specs.Named.{type_named}
 use Rattle.type_hierarchy.specs.Table.{TypeTable, IsDistinct, completed_count, count_of}
 use Rattle.grammar_settings.specs.Settled.{SortTree}
 use Rattle.grammar_files.specs.Walks.{Files}
-use Rattle.grammar_model.specs.Expanding.{names_by}
-use Rattle.grammar_reading.specs.Reads.{ReadTree}
+use Rattle.grammar_load.specs.Expanding.{names_by}
+use Rattle.grammar_files.specs.Reads.{ReadTree}
 use Rattle.grammar_load.specs.Loaded.{GrammarTree, IsGrammarOf}
 use Rattle.grammar_load.specs.Loads.{Loads, loads, Makes, makes}
 use Rattle.grammar_load.proofs.OneBook.{type-there}
 use Rattle.mrs_model.specs.Texts.{IsName, IsSort}
-use Rattle.mrs_paths.specs.Settled.{paths_said, sort_said}
+use Rattle.mrs_places.specs.Settled.{paths_said, sort_said}
 use Rattle.mrs_extract.specs.Asked.{ArePaths}
 use Rattle.grammar_names.proofs.Names.{IsTdlName, named, undotted}
 use Rattle.grammar_names.proofs.Walked.{WalkedNamed, read_named}

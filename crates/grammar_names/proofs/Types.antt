@@ -6,8 +6,8 @@ use Rattle.std.proofs.lemmas.Bool.{and_parts, true≢false}
 use Rattle.std.proofs.lemmas.List.{length-map}
 use Rattle.std.proofs.lemmas.List.FromFn.{length-range_with_len}
 use Rattle.tdl_reader.specs.Trees.{StatementTree, defines, adds, begins, ends, includes, letters}
-use Rattle.placed_statements.specs.Placings.{PlacedTree}
-use Rattle.placed_statements.specs.Statements.{is_define, is_of_types, name_written, defines_type}
+use Rattle.grammar_files.specs.Placings.{PlacedTree}
+use Rattle.grammar_files.specs.Statements.{is_define, is_of_types, name_written, defines_type}
 use Rattle.type_hierarchy.specs.Decls.{Name, Declared, bare, is_defined, names_of}
 use Rattle.type_hierarchy.specs.Table.{TypeTable, completed_count, count_of, glb_name}
 use Rattle.grammar_files.specs.Walks.{WalkedTree}

@@ -2,15 +2,15 @@
 use Rattle.std.proofs.Common.{ℕ, Bool, true, false, cond, ◌&&◌, List, [], ◌∷◌, ◌++◌, None, Option, Result, Ok, Err}
 use Rattle.tdl_reader.specs.declared.Status.{Status}
 use Rattle.tdl_reader.specs.Trees.{StatementTree}
-use Rattle.placed_statements.specs.Placings.{PlacedTree}
-use Rattle.placed_statements.specs.Statements.{is_definition, is_heeded}
+use Rattle.grammar_files.specs.Placings.{PlacedTree}
+use Rattle.grammar_files.specs.Statements.{is_definition, is_heeded}
 use Rattle.grammar_settings.specs.Forms.{Name}
 use Rattle.grammar_settings.specs.Settled.{SettingsTree}
 use Rattle.grammar_files.specs.Environments.{placed_by, placed_under, status_in}
 use Rattle.grammar_files.specs.Faults.{FoundFault}
 use Rattle.grammar_files.specs.FileNames.{with_ending}
 use Rattle.grammar_files.specs.Walks.{Files, IsSettled, by_default, fails_there, too_long_there, out_of_form, in_form, Says, fails_here, too_long, unlexed, unread, says, WalkState, begun, WalksFile, loops, too_many, unsaid, said, Walks, ends, ends_within, breaks_off, goes_on, stops_within, follows, WalkedTree, WalksTo, unsettled, unwalked, walked}
-use Rattle.grammar_reading.specs.Reads.{ReadTree, ReadsTo, unwalked as unwalked_files, without_forms, reads}
+use Rattle.grammar_files.specs.Reads.{ReadTree, ReadsTo, unwalked as unwalked_files, without_forms, reads}
 use Rattle.grammar_names.proofs.Settled.{AreNamed, said_named, defaults_named}
 use Rattle.grammar_names.proofs.Statements.{StatementNamed, AllStatementsNamed, file_named}
 use Rattle.grammar_names.proofs.Tokens.{tokens_good}

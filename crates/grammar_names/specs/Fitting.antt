@@ -5,7 +5,7 @@ use Rattle.constraint_expand.specs.Books.{InstanceMap}
 use Rattle.book_shapes.specs.Shapes.{instances_of}
 use Rattle.grammar_load.specs.Loaded.{GrammarTree}
 use Rattle.mrs_places.specs.Paths.{Paths}
-use Rattle.mrs_paths.specs.Settled.{paths_said}
+use Rattle.mrs_places.specs.Settled.{paths_said}
 use Rattle.mrs_extract.specs.Asked.{ArePaths}
 
 -- what the settings of a grammar say of MRSs, by its types and features

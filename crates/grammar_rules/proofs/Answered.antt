@@ -2,13 +2,13 @@
 use Rattle.std.specs.Prelude.{◌≡◌, List, map}
 use Rattle.std.proofs.Common.{refl, sym, subst}
 use Rattle.fs_model.specs.Claims.{IsOrder}
-use Rattle.cover.specs.declared.span.Span.{Span}
+use Rattle.chart_model.specs.declared.span.Span.{Span}
 use Rattle.chart_core.specs.declared.Leaf.{Leaf}
 use Rattle.chart_core.specs.declared.Limits.{Limits}
 use Rattle.chart_core.specs.Leaves.{leaf_seen}
-use Rattle.rule_model.specs.Mothers.{Agrees}
-use Rattle.rule_model.specs.Laws.{rules_full}
-use Rattle.item_model.specs.Items.{Answer}
+use Rattle.tree_model.specs.Mothers.{Agrees}
+use Rattle.tree_model.specs.Laws.{rules_full}
+use Rattle.tree_model.specs.Items.{Answer}
 use Rattle.morph_analysis.specs.Lattices.{LatticeTree}
 use Rattle.packed_items.specs.Packed.{Fit, IsFound}
 use Rattle.packed_items.specs.Answers.{answer_of}

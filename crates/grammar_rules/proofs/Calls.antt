@@ -6,23 +6,23 @@ use Rattle.fs_model.specs.Closure.{AreConsistent, IsConsistent}
 use Rattle.fs_model.specs.Sources.{Told}
 use Rattle.fs_graph.specs.GraphMap.{GraphMap, reader_of}
 use Rattle.fs_unify.specs.Rules.{Grammar, system_of}
-use Rattle.cover.specs.declared.span.Span.{Span}
+use Rattle.chart_model.specs.declared.span.Span.{Span}
 use Rattle.chart_model.specs.At.{At, here, there, at_found, to_get}
 use Rattle.chart_core.specs.declared.Leaf.{Leaf}
 use Rattle.chart_core.specs.declared.Limits.{Limits}
 use Rattle.chart_core.specs.Leaves.{leaf_seen, LeafBelongs}
 use Rattle.chart_core.proofs.Grows.{all_snoc}
 use Rattle.derivation.specs.Trees.{Derivation, lexical}
-use Rattle.rule_model.specs.Structures.{Structure}
-use Rattle.rule_model.specs.Mothers.{RuleSystem, Meant, IsAbstract, Agrees}
-use Rattle.rule_model.specs.Laws.{rules_full}
-use Rattle.rule_model.specs.Views.{view, source_alone}
-use Rattle.item_model.specs.Signs.{Signs, rule_system}
-use Rattle.item_model.specs.Lexical.{Words}
-use Rattle.item_model.specs.Trees.{Full, full_lexical, full_phrase}
-use Rattle.item_model.specs.Items.{Answer}
-use Rattle.parse_items.specs.Lattices.{Lattice}
-use Rattle.parse_items.specs.Answers.{IsParseAnswer}
+use Rattle.tree_model.specs.Structures.{Structure}
+use Rattle.tree_model.specs.Mothers.{RuleSystem, Meant, IsAbstract, Agrees}
+use Rattle.tree_model.specs.Laws.{rules_full}
+use Rattle.tree_model.specs.Views.{view, source_alone}
+use Rattle.tree_model.specs.Signs.{Signs, rule_system}
+use Rattle.tree_model.specs.Lexical.{Words}
+use Rattle.tree_model.specs.Trees.{Full, full_lexical, full_phrase}
+use Rattle.tree_model.specs.Items.{Answer}
+use Rattle.tree_model.specs.Lattices.{Lattice}
+use Rattle.tree_model.specs.Answers.{IsParseAnswer}
 use Rattle.packed_items.specs.Packed.{Fit, IsFound}
 use Rattle.packed_items.specs.Answers.{limits_in, answer_of}
 use Rattle.packed_items.specs.declared.Found.{Found}

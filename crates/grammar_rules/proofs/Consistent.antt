@@ -2,14 +2,14 @@
 use Rattle.std.specs.Prelude.{ℕ, List}
 use Rattle.fs_model.specs.Sources.{Reader, Told}
 use Rattle.fs_model.specs.Closure.{AreConsistent, IsConsistent}
-use Rattle.rule_model.specs.Structures.{Structure}
-use Rattle.rule_model.specs.Mothers.{Meant}
-use Rattle.rule_model.specs.Views.{view, IsInside, source_alone}
-use Rattle.rule_model.proofs.Closures.{grows, falls}
-use Rattle.rule_model.proofs.MotherLaws.{meant_part, meant_full, mother_consistent}
-use Rattle.rule_model.proofs.ViewLemmas.{tells_says, alone_to}
-use Rattle.item_model.specs.Signs.{Signs, rule_system}
-use Rattle.item_model.specs.Lexical.{FullUnder, under_none, under_next, IsEntry, FullLexical}
+use Rattle.tree_model.specs.Structures.{Structure}
+use Rattle.tree_model.specs.Mothers.{Meant}
+use Rattle.tree_model.specs.Views.{view, IsInside, source_alone}
+use Rattle.tree_model.proofs.Closures.{grows, falls}
+use Rattle.tree_model.proofs.MotherLaws.{meant_part, meant_full, mother_consistent}
+use Rattle.tree_model.proofs.ViewLemmas.{tells_says, alone_to}
+use Rattle.tree_model.specs.Signs.{Signs, rule_system}
+use Rattle.tree_model.specs.Lexical.{FullUnder, under_none, under_next, IsEntry, FullLexical}
 
 module _ (g : Signs) where
   entry_sound : {p : ℕ} {d : Structure} → IsEntry g p d → AreConsistent g.system (Meant (rule_system g) d)

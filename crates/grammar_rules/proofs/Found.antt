@@ -1,9 +1,9 @@
 -- What is found over the leaves of a line is its answer.
 use Rattle.std.proofs.Common.{sym, subst}
-use Rattle.parse_items.specs.Licensed.{parse_item}
-use Rattle.parse_items.specs.Answers.{IsParseAnswer}
-use Rattle.parse_items.proofs.Spanned.{licensed_are_wanted}
-use Rattle.parse_items.proofs.Answered.{found_is_answer}
+use Rattle.tree_model.specs.Licensed.{parse_item}
+use Rattle.tree_model.specs.Answers.{IsParseAnswer}
+use Rattle.tree_model.proofs.Spanned.{licensed_are_wanted}
+use Rattle.tree_model.proofs.ParseAnswered.{found_is_answer}
 use Rattle.packed_items.specs.Answers.{limits_in, answer_of}
 use Rattle.packed_items.proofs.Items.{fit_item, found_item}
 use Rattle.lexical_items.specs.Listed.{TooDeep, Trees}

@@ -1,13 +1,13 @@
 -- Lexical trees as leaves.
 use Rattle.std.specs.Prelude.{ℕ, ◌≡◌, List}
 use Rattle.std.proofs.Common.{refl, sym, ◌∙◌, ap, subst}
-use Rattle.cover.specs.Calculus.{along_none, along_more}
-use Rattle.cover.specs.declared.span.Span.{Span}
+use Rattle.chart_model.specs.Calculus.{along_none, along_more}
+use Rattle.chart_model.specs.declared.span.Span.{Span}
 use Rattle.chart_model.specs.At.{At, here, there}
-use Rattle.rule_model.specs.Structures.{Structure}
-use Rattle.item_model.specs.Signs.{Signs}
-use Rattle.item_model.specs.Items.{LeafTree, IsLeafTree}
-use Rattle.parse_items.specs.Licensed.{parse_item}
+use Rattle.tree_model.specs.Structures.{Structure}
+use Rattle.tree_model.specs.Signs.{Signs}
+use Rattle.tree_model.specs.Items.{LeafTree, IsLeafTree}
+use Rattle.tree_model.specs.Licensed.{parse_item}
 use Rattle.lexical_items.specs.Listed.{Lexeme}
 use Rattle.grammar_rules.specs.Leafed.{leaf_of, leaf_trees, IsShapeOf, AreShapes}
 use Rattle.grammar_rules.specs.Laws.{LexemesAreLeaves}

@@ -6,3 +6,4 @@ pub mod Lined
 pub mod Calls
 pub mod Kept
 pub mod Answered
+pub mod Sames

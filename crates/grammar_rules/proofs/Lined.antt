@@ -2,20 +2,20 @@
 use Rattle.std.specs.Prelude.{ℕ, ◌≡◌, ◌<◌, ◌+◌, List, [], ◌∷◌, ◌++◌, length, map}
 use Rattle.std.proofs.Common.{refl, sym, ◌∙◌, ap, subst, suc, arith}
 use Rattle.fs_model.specs.Claims.{IsOrder}
-use Rattle.cover.specs.Calculus.{Along, along_none, along_more}
-use Rattle.cover.specs.declared.span.Span.{Span}
+use Rattle.chart_model.specs.Calculus.{Along, along_none, along_more}
+use Rattle.chart_model.specs.declared.span.Span.{Span}
 use Rattle.chart_model.specs.Chart as chart
 use Rattle.chart_core.specs.declared.Leaf.{Leaf}
 use Rattle.chart_core.specs.declared.Limits.{Limits}
 use Rattle.chart_core.specs.Leaves.{leaf_seen}
-use Rattle.rule_model.specs.Structures.{Structure}
-use Rattle.rule_model.specs.Mothers.{Agrees}
-use Rattle.rule_model.specs.Laws.{rules_full}
-use Rattle.item_model.specs.Signs.{Signs, rule_system}
-use Rattle.item_model.specs.Lexical.{Words}
-use Rattle.item_model.specs.Items.{LeafTree, leaves_from}
-use Rattle.parse_items.specs.Lattices.{Lattice}
-use Rattle.parse_items.specs.Answers.{IsParseAnswer}
+use Rattle.tree_model.specs.Structures.{Structure}
+use Rattle.tree_model.specs.Mothers.{Agrees}
+use Rattle.tree_model.specs.Laws.{rules_full}
+use Rattle.tree_model.specs.Signs.{Signs, rule_system}
+use Rattle.tree_model.specs.Lexical.{Words}
+use Rattle.tree_model.specs.Items.{LeafTree, leaves_from}
+use Rattle.tree_model.specs.Lattices.{Lattice}
+use Rattle.tree_model.specs.Answers.{IsParseAnswer}
 use Rattle.packed_items.specs.Packed.{Fit, IsFound}
 use Rattle.packed_items.specs.Answers.{limits_in, answer_of}
 use Rattle.packed_items.specs.declared.Found.{Found}

@@ -1,16 +1,16 @@
 -- The full structures over a line's lexical trees, as its item has them.
 use Rattle.std.specs.Prelude.{ℕ, ◌≡◌, List, slice_get}
 use Rattle.std.proofs.Common.{refl, zero, suc}
-use Rattle.cover.specs.Calculus.{along_none, along_more}
-use Rattle.rule_model.specs.Structures.{Structure}
-use Rattle.rule_model.specs.Laws.{rules_full}
-use Rattle.item_model.specs.Signs.{Signs, rule_system, placed_rules, place_at}
-use Rattle.item_model.specs.Lexical.{Words}
-use Rattle.item_model.specs.Trees.{IsRooted}
-use Rattle.item_model.specs.Items.{Limits}
-use Rattle.item_model.specs.Forests.{wholes, leaf_at, full_at}
-use Rattle.parse_items.specs.Lattices.{Lattice}
-use Rattle.parse_items.specs.Licensed.{parse_item}
+use Rattle.chart_model.specs.Calculus.{along_none, along_more}
+use Rattle.tree_model.specs.Structures.{Structure}
+use Rattle.tree_model.specs.Laws.{rules_full}
+use Rattle.tree_model.specs.Signs.{Signs, rule_system, placed_rules, place_at}
+use Rattle.tree_model.specs.Lexical.{Words}
+use Rattle.tree_model.specs.Trees.{IsRooted}
+use Rattle.tree_model.specs.Items.{Limits}
+use Rattle.tree_model.specs.Forests.{wholes, leaf_at, full_at}
+use Rattle.tree_model.specs.Lattices.{Lattice}
+use Rattle.tree_model.specs.Licensed.{parse_item}
 use Rattle.lexical_items.specs.Listed.{Lexeme}
 use Rattle.rule_trees.specs.Wholes.{wholes_of, full_named, tree_named}
 use Rattle.grammar_rules.specs.Leafed.{leaf_trees, AreShapes}

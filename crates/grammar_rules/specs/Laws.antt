@@ -1,20 +1,20 @@
 -- What a line's lexical trees, and what is found over them, have to do with the answer to the line.
 use Rattle.std.specs.Prelude.{ℕ, ◌≡◌, ◌<◌, List, length}
 use Rattle.fs_model.specs.Claims.{IsOrder}
-use Rattle.cover.specs.Calculus.{Calculus}
-use Rattle.cover.specs.Spans.{span_join, span_size, join_all, same_span, is_span}
-use Rattle.cover.specs.declared.span.Span.{Span}
+use Rattle.chart_model.specs.Calculus.{Calculus}
+use Rattle.chart_model.specs.Spans.{span_join, span_size, join_all, same_span, is_span}
+use Rattle.chart_model.specs.declared.span.Span.{Span}
 use Rattle.chart_core.specs.declared.Limits.{Limits}
-use Rattle.rule_model.specs.Structures.{Structure}
-use Rattle.rule_model.specs.Mothers.{Agrees}
-use Rattle.rule_model.specs.Laws.{rules_calculus, rules_full}
-use Rattle.item_model.specs.Signs.{Signs, rule_system}
-use Rattle.item_model.specs.Lexical.{Words}
-use Rattle.item_model.specs.Items.{LeafTree, AreLeaves, leaves_from, Answer, LexicalDepth}
-use Rattle.item_model.specs.Forests.{wholes}
-use Rattle.parse_items.specs.Lattices.{Lattice}
-use Rattle.parse_items.specs.Licensed.{IsTooDeep, parse_item}
-use Rattle.parse_items.specs.Answers.{IsParseAnswer}
+use Rattle.tree_model.specs.Structures.{Structure}
+use Rattle.tree_model.specs.Mothers.{Agrees}
+use Rattle.tree_model.specs.Laws.{rules_calculus, rules_full}
+use Rattle.tree_model.specs.Signs.{Signs, rule_system}
+use Rattle.tree_model.specs.Lexical.{Words}
+use Rattle.tree_model.specs.Items.{LeafTree, AreLeaves, leaves_from, Answer, LexicalDepth}
+use Rattle.tree_model.specs.Forests.{wholes}
+use Rattle.tree_model.specs.Lattices.{Lattice}
+use Rattle.tree_model.specs.Licensed.{IsTooDeep, parse_item}
+use Rattle.tree_model.specs.Answers.{IsParseAnswer}
 use Rattle.rule_trees.specs.Wholes.{IsRuled}
 use Rattle.packed_items.specs.Packed.{Fit, IsFound}
 use Rattle.packed_items.specs.Answers.{limits_in, answer_of}

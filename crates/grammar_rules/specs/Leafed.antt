@@ -1,11 +1,11 @@
 -- Lexical trees with the abstractions of their full structures, as the leaves of a line.
 use Rattle.std.specs.Prelude.{List, [], ◌∷◌}
-use Rattle.cover.specs.Calculus.{Along}
-use Rattle.cover.specs.declared.span.Span.{Span}
-use Rattle.rule_model.specs.Structures.{Structure}
-use Rattle.rule_model.specs.Mothers.{IsAbstract, Meant}
-use Rattle.item_model.specs.Signs.{Signs, rule_system}
-use Rattle.item_model.specs.Items.{LeafTree}
+use Rattle.chart_model.specs.Calculus.{Along}
+use Rattle.chart_model.specs.declared.span.Span.{Span}
+use Rattle.tree_model.specs.Structures.{Structure}
+use Rattle.tree_model.specs.Mothers.{IsAbstract, Meant}
+use Rattle.tree_model.specs.Signs.{Signs, rule_system}
+use Rattle.tree_model.specs.Items.{LeafTree}
 use Rattle.lexical_items.specs.Listed.{Lexeme}
 
 -- a lexical tree covers what lies between its nodes

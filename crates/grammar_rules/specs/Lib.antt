@@ -5,3 +5,4 @@ pub mod Lined
 pub mod Lines
 pub mod Remembered
 pub mod LineLeaves
+pub mod Told

@@ -2,8 +2,8 @@
 use Rattle.std.specs.Prelude.{ℕ, List, All, map}
 use Rattle.chart_core.specs.Leaves.{LeafBelongs}
 use Rattle.morph_analysis.specs.Lattices.{LatticeTree}
-use Rattle.item_model.specs.Lexical.{Words}
-use Rattle.parse_items.specs.Licensed.{IsTooDeep}
+use Rattle.tree_model.specs.Lexical.{Words}
+use Rattle.tree_model.specs.Licensed.{IsTooDeep}
 use Rattle.book_signs.specs.Trees.{SignTree, signs_of}
 use Rattle.grammar_shapes.specs.declared.shapes.GrammarShapes.{GrammarShapes}
 use Rattle.grammar_shapes.specs.Spanned.{span_calculus}

@@ -1,12 +1,12 @@
 -- The leaves of a chart over a line: its lexical trees in order, named by their numbers, with shapes that stand for the abstractions of
 -- their full structures.
 use Rattle.std.specs.Prelude.{◌≡◌, List, map}
-use Rattle.cover.specs.declared.span.Span.{Span}
+use Rattle.chart_model.specs.declared.span.Span.{Span}
 use Rattle.chart_core.specs.declared.Leaf.{Leaf}
 use Rattle.chart_core.specs.Leaves.{leaf_seen}
-use Rattle.rule_model.specs.Structures.{Structure}
-use Rattle.item_model.specs.Signs.{Signs}
-use Rattle.item_model.specs.Items.{leaves_from}
+use Rattle.tree_model.specs.Structures.{Structure}
+use Rattle.tree_model.specs.Signs.{Signs}
+use Rattle.tree_model.specs.Items.{leaves_from}
 use Rattle.lexical_items.specs.Listed.{Lexeme}
 use Rattle.grammar_rules.specs.Leafed.{leaf_trees, AreShapes}
 

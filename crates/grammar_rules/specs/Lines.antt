@@ -5,10 +5,10 @@ use Rattle.lexicon.specs.Entries.{EntryTree}
 use Rattle.spelling_rules.specs.Trees.{SpellingTree}
 use Rattle.morph_analysis.specs.Allowed.{FeedsTree}
 use Rattle.morph_analysis.specs.Lattices.{LatticeTree}
-use Rattle.item_model.specs.Signs.{rule_system}
-use Rattle.item_model.specs.Lexical.{Words}
-use Rattle.item_model.specs.Items.{Answer}
-use Rattle.parse_items.specs.Answers.{IsParseAnswer}
+use Rattle.tree_model.specs.Signs.{rule_system}
+use Rattle.tree_model.specs.Lexical.{Words}
+use Rattle.tree_model.specs.Items.{Answer}
+use Rattle.tree_model.specs.Answers.{IsParseAnswer}
 use Rattle.packed_items.specs.Answers.{limits_in}
 use Rattle.lexical_items.specs.Said.{AreNumbered, words_said}
 use Rattle.lexical_items.specs.Seen.{lattice_seen, ForbidsNone}

@@ -1,8 +1,8 @@
 -- What lines share: the shapes of full structures.
 use Rattle.std.specs.Prelude.{◌≡◌}
-use Rattle.rule_model.specs.Structures.{Structure}
-use Rattle.rule_model.specs.Mothers.{Meant, IsAbstract}
-use Rattle.item_model.specs.Signs.{rule_system}
+use Rattle.tree_model.specs.Structures.{Structure}
+use Rattle.tree_model.specs.Mothers.{Meant, IsAbstract}
+use Rattle.tree_model.specs.Signs.{rule_system}
 use Rattle.book_signs.specs.Trees.{SignTree, signs_of}
 use Rattle.grammar_shapes.specs.declared.shapes.GrammarShapes.{GrammarShapes}
 use Rattle.grammar_shapes.specs.Shaped.{Shape}

@@ -1,7 +1,7 @@
 -- What contracts see of answers.
 use Rattle.std.specs.Prelude.{map}
 use Rattle.derivation.specs.Views.{derivation_of}
-use Rattle.item_model.specs.Items.{Answer, LexicalDepth, ByUnaryChain, ByEdges, Readings, Trees}
+use Rattle.tree_model.specs.Items.{Answer, LexicalDepth, ByUnaryChain, ByEdges, Readings, Trees}
 use Rattle.grammar_rules.specs.declared.ItemAnswer.{ItemAnswer}
 use Rattle.grammar_rules.specs.declared.ItemAnswer.TheVariants as answers
 

@@ -2,9 +2,9 @@
 
 ghost use Rattle.std.specs.Prelude.{◌≡◌, ◌<◌, ◌+◌, ◌^◌, ◌++◌, ◌∷◌, [], List, All, IfOk, OnOk, map};
 ghost use Rattle.fs_model.specs.Closure.{AreConsistent};
-ghost use Rattle.rule_model.specs.Mothers.{Meant, IsAbstract};
-ghost use Rattle.cover.specs.Spans.{is_span};
-ghost use Rattle.item_model.specs.Signs.{rule_system};
+ghost use Rattle.tree_model.specs.Mothers.{Meant, IsAbstract};
+ghost use Rattle.chart_model.specs.Spans.{is_span};
+ghost use Rattle.tree_model.specs.Signs.{rule_system};
 ghost use Rattle.chart_core.specs.Leaves.{LeafBelongs};
 ghost use Rattle.morph_analysis.specs.Lattices.{IsValid};
 ghost use Rattle.morph_analysis.specs.LatticeViews.{lattice_of};
@@ -25,7 +25,7 @@ use crate::desk::LineWork;
 use crate::grammar::LineGrammar;
 use crate::remembered::RunMemory;
 use chart_core::Leaf;
-use cover::Span;
+use chart_model::Span;
 use fs_unify::Scratch;
 use grammar_shapes::{GrammarShapes, Place};
 use lexical_items::{LexTree, LexTrees, lexical_trees};

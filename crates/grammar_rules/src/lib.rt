@@ -5,20 +5,26 @@
 
 ghost use Rattle.grammar_rules.specs.Laws.{LexemesAreLeaves, FullsFit, FoundIsAnswer, LinesAreAnswered};
 
+mod asked;
 mod desk;
 mod grammar;
 mod leaves;
+mod line;
+mod mother_remembered;
 mod parsing;
+mod parts;
 mod remembered;
 
 use derivation::Tree;
 pub use desk::{Desk, LineWork};
 pub use grammar::LineGrammar;
 pub use leaves::{LineLeaves, line_leaves};
+pub use line::RememberedLine;
+pub use mother_remembered::RememberedMothers;
 use packed_items::Found;
 pub use parsing::{Search, parse_alone, parse_words};
 pub use remembered::{LineShapes, RunMemory, run_shapes};
-use std::alloc::{AllocError, AllocFailed};
+pub use std::alloc::AllocError as NoMemory;
 
 /// The answer to a line.
 #[derive(Debug, Drop)]
@@ -33,64 +39,6 @@ pub enum ItemAnswer {
     Readings,
     /// the number of packed classes, and all licensed trees, each once, in the order of trees
     Trees { classes: u32, trees: Vec<Tree> },
-}
-
-/// Memory ran out.
-#[derive(Debug, Drop, Clone, Copy, PartialEq, Eq)]
-pub struct NoMemory;
-
-impl From<AllocError> for NoMemory {
-    fn from(_error: AllocError) -> NoMemory {
-        NoMemory
-    }
-}
-
-impl<T: Drop> From<AllocFailed<T>> for NoMemory {
-    fn from(_error: AllocFailed<T>) -> NoMemory {
-        NoMemory
-    }
-}
-
-impl From<cover::NoMemory> for NoMemory {
-    fn from(_error: cover::NoMemory) -> NoMemory {
-        NoMemory
-    }
-}
-
-impl From<lexical_items::NoMemory> for NoMemory {
-    fn from(_error: lexical_items::NoMemory) -> NoMemory {
-        NoMemory
-    }
-}
-
-impl From<answer_memo::NoMemory> for NoMemory {
-    fn from(_error: answer_memo::NoMemory) -> NoMemory {
-        NoMemory
-    }
-}
-
-impl From<mother_memo::NoMemory> for NoMemory {
-    fn from(_error: mother_memo::NoMemory) -> NoMemory {
-        NoMemory
-    }
-}
-
-impl From<rule_trees::NoMemory> for NoMemory {
-    fn from(_error: rule_trees::NoMemory) -> NoMemory {
-        NoMemory
-    }
-}
-
-impl From<packed_items::NoMemory> for NoMemory {
-    fn from(_error: packed_items::NoMemory) -> NoMemory {
-        NoMemory
-    }
-}
-
-impl From<word_lists::NoMemory> for NoMemory {
-    fn from(_error: word_lists::NoMemory) -> NoMemory {
-        NoMemory
-    }
 }
 
 impl ItemAnswer {

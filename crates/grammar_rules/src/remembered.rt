@@ -1,18 +1,17 @@
 //! What lines share: the full structures of lexical trees with their shapes, and what phrase rules made of full structures.
 
 ghost use Rattle.std.specs.Prelude.{IfOk, IfSome, ◌≡◌};
-ghost use Rattle.rule_model.specs.Structures.{Structure};
+ghost use Rattle.tree_model.specs.Structures.{Structure};
 ghost use Rattle.grammar_shapes.specs.Systems.{Belongs};
 ghost use Rattle.rule_trees.specs.Mothers.{view_in};
 ghost use Rattle.grammar_rules.specs.Remembered.{IsFullShape, IsMemoryOf};
 
-use crate::NoMemory;
+use crate::{NoMemory, RememberedMothers};
 use answer_memo::{Asked, Memo};
 use book_signs::SignBook;
-use cover::Shapes;
+use chart_model::Shapes;
 use grammar_shapes::{GrammarShapes, Place};
-use lexical_memo::RememberedFulls;
-use mother_memo::RememberedMothers;
+use lexical_items::RememberedFulls;
 use rule_trees::{FullStructure, SignFulls};
 use shape_memo::RememberedShapes;
 use std::alloc::Global;

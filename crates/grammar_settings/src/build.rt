@@ -8,7 +8,7 @@ ghost use Rattle.grammar_settings.specs.Settled.{given, word_or, path_or, words_
 ghost use Rattle.grammar_settings.specs.SettingsViews.{settings_of, names_in, sort_of};
 ghost use Rattle.grammar_settings.specs.Groups.{AreTypeNames, AreListFeatures, AreGrammarPaths, AreMrsPaths, AreRelationFeatures, AreSkips};
 
-use crate::fault::NoMemory;
+use crate::NoMemory;
 use crate::forms::{limit_in, name_of, path_of, spelled};
 use crate::lines::Entry;
 use crate::settings::{Settings, SortLine};

@@ -6,7 +6,7 @@ ghost use Rattle.std.specs.Char.{is_ascii_digit, is_ascii_lowercase};
 ghost use Rattle.grammar_settings.specs.Forms.{is_among, written_types, form_of, form_of_one, is_word, features, is_path, name_of, path_of, without_plus, value_of_digits, is_number, limit_in, fits, has_form};
 ghost use Rattle.grammar_settings.specs.Kept.{words_in};
 
-use crate::fault::NoMemory;
+use crate::NoMemory;
 use std::alloc::{AllocError, Global};
 use tdl_lexer::is_name;
 use type_hierarchy::is_glb_name;

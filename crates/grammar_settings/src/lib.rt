@@ -2,11 +2,10 @@
 #![tactic(auto)]
 
 mod build;
-mod fault;
 mod forms;
 mod lines;
 mod settings;
 
-pub use fault::NoMemory;
 pub use forms::ValueForm;
 pub use settings::{Settings, SettingsFault, SortLine};
+pub use std::alloc::AllocError as NoMemory;

@@ -8,7 +8,7 @@ ghost use Rattle.grammar_settings.specs.Kept.{words_in, entry_in, entries_in};
 ghost use Rattle.grammar_settings.specs.SettingsFiles.{words, is_comment, entry_of, line_gives, entries_from, last_line};
 ghost use Rattle.grammar_settings.specs.SettingsViews.{IsLineOf};
 
-use crate::fault::NoMemory;
+use crate::NoMemory;
 use crate::forms::{gives_written_type, has_form, spelled};
 use crate::settings::SettingsFault;
 use std::alloc::{AllocError, Global};

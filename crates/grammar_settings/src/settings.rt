@@ -4,8 +4,8 @@ ghost use Rattle.std.specs.Prelude.{◌≡◌, ◌<◌, ◌^◌, ◌⊎◌, leng
 ghost use Rattle.grammar_settings.specs.Settled.{settings_in, default_settings};
 ghost use Rattle.grammar_settings.specs.SettingsViews.{settings_of, IsLineOf};
 
+use crate::NoMemory;
 use crate::build::settings_by;
-use crate::fault::NoMemory;
 use crate::lines::{entries_of, line_of_types};
 use std::alloc::{AllocError, AllocFailed, Global};
 
@@ -98,17 +98,6 @@ pub enum SettingsFault {
     Line { line: u32 },
     /// Memory was wanting.
     NoMemory,
-}
-
-impl From<NoMemory> for SettingsFault {
-    ghost use Rattle.grammar_settings.specs.declared.settings.SettingsFault.{SettingsFault};
-    ghost use Rattle.std.specs.Prelude.{◌≡◌};
-
-    ghost from_gives = { λ _ e. e ≡ SettingsFault.NoMemory };
-
-    fn from(_: NoMemory) -> SettingsFault {
-        SettingsFault::NoMemory
-    }
 }
 
 impl From<AllocError> for SettingsFault {

@@ -9,11 +9,11 @@ use Rattle.fs_unify.specs.Entering.{IsWellFormed}
 use Rattle.fs_unify.specs.Owing.{OwedRules, ListsOwed}
 use Rattle.fs_unify.specs.Placing.{PlacedGraph, source_of, IsPlacedIn}
 use Rattle.fs_trim.specs.Cutting.{owed_of, IsShort}
-use Rattle.rule_model.specs.Cuts.{Cut}
-use Rattle.rule_model.specs.Structures.{over}
-use Rattle.rule_model.specs.Mothers.{IsShapeAt}
-use Rattle.rule_model.specs.Views.{IsTrimmed}
-use Rattle.rule_model.proofs.AllLaws.{tests_are_subsumption}
+use Rattle.tree_model.specs.Cuts.{Cut}
+use Rattle.tree_model.specs.Structures.{over}
+use Rattle.tree_model.specs.Mothers.{IsShapeAt}
+use Rattle.tree_model.specs.Views.{IsTrimmed}
+use Rattle.tree_model.proofs.AllLaws.{tests_are_subsumption}
 use Rattle.grammar_shapes.specs.declared.phrase_rule.PhraseRule.{PhraseRule}
 use Rattle.grammar_shapes.specs.Ruled.{places_of, IsRuleIn, system_in, rule_of}
 use Rattle.grammar_shapes.specs.Inner.Parts.{parts_for, daughters_at}

@@ -5,10 +5,10 @@ use Rattle.std.proofs.Common.{refl, sym, ◌∙◌, subst, eqb-true}
 use Rattle.fs_model.specs.Claims.{Path, Claim, System}
 use Rattle.fs_model.specs.Closure.{Closure, given_claim}
 use Rattle.fs_model.specs.Sources.{Reader, Source, Told}
-use Rattle.rule_model.specs.Cuts.{Cut, has_feature, Kept, kept_exists, kept_same, kept_below, Trimmed}
-use Rattle.rule_model.specs.Views.{IsTrimmed}
-use Rattle.rule_model.proofs.Closures.{keeps_more, trimmed_inside}
-use Rattle.rule_model.proofs.ViewLemmas.{shows_same}
+use Rattle.tree_model.specs.Cuts.{Cut, has_feature, Kept, kept_exists, kept_same, kept_below, Trimmed}
+use Rattle.tree_model.specs.Views.{IsTrimmed}
+use Rattle.tree_model.proofs.Closures.{keeps_more, trimmed_inside}
+use Rattle.tree_model.proofs.ViewLemmas.{shows_same}
 use Rattle.grammar_shapes.specs.Cutting.{CutsNoMore, cuts_no_more}
 
 both : (a b : Bool) → a && b ≡ true → (a ≡ true) × (b ≡ true)

@@ -2,10 +2,10 @@
 use Rattle.std.proofs.Common.{◌≡◌, true, List, sym, subst}
 use Rattle.fs_model.specs.Claims.{Path, System}
 use Rattle.fs_model.specs.Sources.{Reader, IsSameStructure, Subsumes}
-use Rattle.rule_model.specs.Structures.{IsPartialOrder}
-use Rattle.rule_model.specs.Views.{view}
-use Rattle.rule_model.proofs.Overs.{over_one}
-use Rattle.rule_model.proofs.ViewLemmas.{subsumes_over}
+use Rattle.tree_model.specs.Structures.{IsPartialOrder}
+use Rattle.tree_model.specs.Views.{view}
+use Rattle.tree_model.proofs.Overs.{over_one}
+use Rattle.tree_model.proofs.ViewLemmas.{subsumes_over}
 
 subsumed : (s : System) → IsPartialOrder s → (a b : Reader) → IsSameStructure a b → Subsumes s a b
 subsumed s o a b h = record {

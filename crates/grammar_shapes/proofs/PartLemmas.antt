@@ -2,11 +2,11 @@
 use Rattle.std.specs.Prelude.{◌≡◌, ◌≤◌, ◌++◌, Vec, List, [], ◌∷◌, length, map}
 use Rattle.std.specs.Global.{Global}
 use Rattle.std.proofs.Common.{refl, ap, suc, arith}
-use Rattle.fs_paths.specs.Facts.{path_of}
-use Rattle.fs_paths.specs.declared.facts.Feat.{Feat}
+use Rattle.fs_graph.specs.Facts.{path_of}
+use Rattle.fs_graph.specs.declared.facts.Feat.{Feat}
 use Rattle.fs_model.specs.Claims.{Path}
-use Rattle.cover.specs.declared.Tuple.{Tuple}
-use Rattle.cover.specs.Tuples.{shapes_of, parts_of, IsTuple}
+use Rattle.chart_model.specs.declared.covers.Tuple.{Tuple}
+use Rattle.chart_model.specs.Tuples.{shapes_of, parts_of, IsTuple}
 use Rattle.fs_graph.specs.GraphMap.{GraphMap}
 use Rattle.fs_unify.specs.Owing.{OwedRules}
 use Rattle.fs_unify.specs.Placing.{PlacedGraph}

@@ -11,8 +11,8 @@ use Rattle.fs_graph.specs.GraphMap.{GraphMap, IsGraph, table_of, arcs_at, arc_to
 use Rattle.fs_closing.specs.Rules.{Grammar, system_of}
 use Rattle.fs_unify.specs.Entering.{IsGraphIn}
 use Rattle.fs_trim.specs.Cutting.{IsShort}
-use Rattle.rule_model.specs.Views.{source_alone}
-use Rattle.rule_model.proofs.ViewLemmas.{alone_back}
+use Rattle.tree_model.specs.Views.{source_alone}
+use Rattle.tree_model.proofs.ViewLemmas.{alone_back}
 
 found : (arcs : List GraphArc) (f m : ℕ) → arc_to arcs f ≡ Some m → (a : GraphArc) × Has a arcs × (a.feat.0 ≡ f)
 found [] f m e = absurd (cc)

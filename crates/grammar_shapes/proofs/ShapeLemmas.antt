@@ -9,16 +9,16 @@ use Rattle.fs_closing.specs.Rules.{Grammar, system_of}
 use Rattle.fs_unify.specs.Owing.{OwedRules}
 use Rattle.fs_unify.specs.Placing.{part_of, source_of}
 use Rattle.fs_trim.specs.Cutting.{IsShort}
-use Rattle.rule_model.specs.Cuts.{Cut}
-use Rattle.rule_model.specs.Structures.{Structure}
-use Rattle.rule_model.specs.Mothers.{RuleSystem, Applies, IsShapeAt, AppliesAt}
-use Rattle.rule_model.specs.Views.{view, IsInside, AllInside, inside_none, inside_more, IsTrimmed, parts_at, source_of as source_at}
-use Rattle.rule_model.specs.Said.{rule_alone}
-use Rattle.rule_model.proofs.AllLaws.{shapes_are_made, none_where_refused}
-use Rattle.rule_model.proofs.SaidLemmas.{said_trims, said_is_consistent}
-use Rattle.rule_model.proofs.PathLemmas.{has_path_below}
-use Rattle.rule_model.proofs.Closures.{grows, falls}
-use Rattle.rule_model.proofs.ViewLemmas.{parts_to, parts_back}
+use Rattle.tree_model.specs.Cuts.{Cut}
+use Rattle.tree_model.specs.Structures.{Structure}
+use Rattle.tree_model.specs.Mothers.{RuleSystem, Applies, IsShapeAt, AppliesAt}
+use Rattle.tree_model.specs.Views.{view, IsInside, AllInside, inside_none, inside_more, IsTrimmed, parts_at, source_of as source_at}
+use Rattle.tree_model.specs.Said.{rule_alone}
+use Rattle.tree_model.proofs.AllLaws.{shapes_are_made, none_where_refused}
+use Rattle.tree_model.proofs.SaidLemmas.{said_trims, said_is_consistent}
+use Rattle.tree_model.proofs.PathLemmas.{has_path_below}
+use Rattle.tree_model.proofs.Closures.{grows, falls}
+use Rattle.tree_model.proofs.ViewLemmas.{parts_to, parts_back}
 use Rattle.grammar_shapes.specs.declared.phrase_rule.PhraseRule.{PhraseRule}
 use Rattle.grammar_shapes.specs.Ruled.{places_of, rule_of, paths_in, system_in, IsRuleIn}
 use Rattle.grammar_shapes.specs.Inner.Parts.{parts_for, daughters_at}

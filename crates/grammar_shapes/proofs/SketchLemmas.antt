@@ -9,14 +9,14 @@ use Rattle.fs_closing.specs.Rules.{Grammar, system_of}
 use Rattle.sieve.specs.Sketches.{sketch_of, below_place}
 use Rattle.sieve.specs.Unifying.{NoneUnify}
 use Rattle.sieve.proofs.Lines.{has_own}
-use Rattle.rule_model.specs.Cuts.{Cut}
-use Rattle.rule_model.specs.Structures.{Structure, Beside, beside_here, beside_there}
-use Rattle.rule_model.specs.Mothers.{RuleSystem, Parts, of_rule, of_daughter, AppliesAt}
-use Rattle.rule_model.specs.Views.{view}
-use Rattle.rule_model.proofs.Closures.{grows, moved}
-use Rattle.rule_model.proofs.MotherLaws.{beside_begins}
-use Rattle.rule_model.proofs.SaidLemmas.{said_is_says}
-use Rattle.rule_model.proofs.ViewLemmas.{tells_says, at_root}
+use Rattle.tree_model.specs.Cuts.{Cut}
+use Rattle.tree_model.specs.Structures.{Structure, Beside, beside_here, beside_there}
+use Rattle.tree_model.specs.Mothers.{RuleSystem, Parts, of_rule, of_daughter, AppliesAt}
+use Rattle.tree_model.specs.Views.{view}
+use Rattle.tree_model.proofs.Closures.{grows, moved}
+use Rattle.tree_model.proofs.MotherLaws.{beside_begins}
+use Rattle.tree_model.proofs.SaidLemmas.{said_is_says}
+use Rattle.tree_model.proofs.ViewLemmas.{tells_says, at_root}
 use Rattle.grammar_shapes.specs.declared.phrase_rule.PhraseRule.{PhraseRule}
 use Rattle.grammar_shapes.specs.Ruled.{places_of, rule_of, paths_in, system_in, IsRuleIn}
 use Rattle.grammar_shapes.specs.Shaped.{Shape, graph_of, meaning_in, BelongsIn}

@@ -7,10 +7,10 @@ use Rattle.fs_model.proofs.TableLemmas.{walk_ends}
 use Rattle.fs_graph.specs.GraphMap.{GraphMap, IsGraph, node_at, type_at, table_of, reader_of}
 use Rattle.type_hierarchy.specs.Table.{TypeTable, count_of, is_below}
 use Rattle.type_hierarchy.specs.Laws.{HasTypeLaws}
-use Rattle.rule_model.specs.Structures.{IsPartialOrder}
+use Rattle.tree_model.specs.Structures.{IsPartialOrder}
 use Rattle.fs_closing.specs.Rules.{Grammar, system_of}
-use Rattle.fs_paths.specs.Facts.{path_of}
-use Rattle.fs_paths.specs.declared.facts.Feat.{Feat}
+use Rattle.fs_graph.specs.Facts.{path_of}
+use Rattle.fs_graph.specs.declared.facts.Feat.{Feat}
 use Rattle.fs_unify.specs.Entering.{IsGraphIn}
 use Rattle.grammar_shapes.specs.declared.phrase_rule.PhraseRule.{PhraseRule}
 use Rattle.sieve.specs.Sketches.{TypeAt, AreTypesIn, type_along, paths_of}

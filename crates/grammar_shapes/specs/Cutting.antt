@@ -2,7 +2,7 @@
 use Rattle.std.specs.Prelude.{◌≡◌, ◌&&◌, Bool, true}
 use Rattle.std.specs.List.{list_all}
 use Rattle.fs_model.specs.Claims.{Path}
-use Rattle.rule_model.specs.Cuts.{Cut, has_feature, is_kept}
+use Rattle.tree_model.specs.Cuts.{Cut, has_feature, is_kept}
 
 -- what the second cut keeps, the first one keeps
 abbrev pub CutsNoMore : Cut → Cut → Type 0

@@ -4,9 +4,9 @@ use Rattle.fs_model.specs.Claims.{Path, Has}
 use Rattle.fs_graph.specs.GraphMap.{reader_of}
 use Rattle.fs_closing.specs.Rules.{Grammar, system_of}
 use Rattle.fs_unify.specs.Entering.{IsWellFormed}
-use Rattle.rule_model.specs.Cuts.{Cut}
-use Rattle.rule_model.specs.Mothers.{Rule, RuleSystem}
-use Rattle.rule_model.specs.Said.{rule_said}
+use Rattle.tree_model.specs.Cuts.{Cut}
+use Rattle.tree_model.specs.Mothers.{Rule, RuleSystem}
+use Rattle.tree_model.specs.Said.{rule_said}
 pub use Rattle.fs_trim.specs.Cutting.{paths_in}
 use Rattle.fs_trim.specs.Cutting.{IsShort}
 use Rattle.grammar_shapes.specs.declared.phrase_rule.PhraseRule.{PhraseRule}

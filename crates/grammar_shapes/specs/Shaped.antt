@@ -7,9 +7,9 @@ use Rattle.fs_model.specs.Claims.{Path}
 use Rattle.fs_graph.specs.GraphMap.{GraphMap, reader_of}
 use Rattle.fs_closing.specs.Rules.{Grammar, system_of}
 use Rattle.fs_unify.specs.Owing.{IsWellFormedBut}
-use Rattle.rule_model.specs.Cuts.{Cut}
-use Rattle.rule_model.specs.Structures.{Structure}
-use Rattle.rule_model.specs.Views.{view}
+use Rattle.tree_model.specs.Cuts.{Cut}
+use Rattle.tree_model.specs.Structures.{Structure}
+use Rattle.tree_model.specs.Views.{view}
 use Rattle.fs_trim.specs.Cutting.{owed_of, IsShort}
 use Rattle.grammar_shapes.specs.declared.place.Place.{Place}
 use Rattle.sieve.specs.Sketches.{sketch_of}

@@ -1,13 +1,13 @@
 -- The laws of rules over spans.
 use Rattle.std.specs.Prelude.{ℕ, ◌<◌, ◌≤◌, List, [], ◌∷◌, All, length, map, slice_get}
 use Rattle.std.proofs.Common.{zero, suc, arith}
-use Rattle.cover.specs.Calculus.{Laws}
-use Rattle.cover.specs.SpanLaws.{span_laws}
-use Rattle.rule_model.specs.Structures.{IsPartialOrder, over}
+use Rattle.chart_model.specs.Calculus.{Laws}
+use Rattle.chart_model.specs.SpanLaws.{span_laws}
+use Rattle.tree_model.specs.Structures.{IsPartialOrder, over}
 use Rattle.fs_closing.specs.Rules.{Grammar, system_of}
-use Rattle.rule_model.specs.Cuts.{Cut}
-use Rattle.rule_model.specs.Mothers.{arity_at, AppliesAt, IsShapeAt}
-use Rattle.rule_model.proofs.AllLaws.{rules_keep_shapes}
+use Rattle.tree_model.specs.Cuts.{Cut}
+use Rattle.tree_model.specs.Mothers.{arity_at, AppliesAt, IsShapeAt}
+use Rattle.tree_model.proofs.AllLaws.{rules_keep_shapes}
 use Rattle.grammar_shapes.specs.declared.phrase_rule.PhraseRule.{PhraseRule}
 use Rattle.grammar_shapes.specs.Ruled.{rule_of, system_in, IsRuleIn}
 use Rattle.grammar_shapes.specs.Spanned.{span_calculus}

@@ -1,10 +1,10 @@
 -- Rules over spans.
-use Rattle.cover.specs.Calculus.{Calculus}
-use Rattle.cover.specs.declared.span.Span.{Span}
-use Rattle.cover.specs.Spans.{span_join, span_size, join_all, same_span, is_span}
-use Rattle.rule_model.specs.Structures.{Structure}
-use Rattle.rule_model.specs.Mothers.{RuleSystem}
-use Rattle.rule_model.specs.Laws.{rules_calculus}
+use Rattle.chart_model.specs.Calculus.{Calculus}
+use Rattle.chart_model.specs.declared.span.Span.{Span}
+use Rattle.chart_model.specs.Spans.{span_join, span_size, join_all, same_span, is_span}
+use Rattle.tree_model.specs.Structures.{Structure}
+use Rattle.tree_model.specs.Mothers.{RuleSystem}
+use Rattle.tree_model.specs.Laws.{rules_calculus}
 
 -- a mother covers what her daughters cover, from end to end
 abbrev pub span_calculus : RuleSystem → Calculus Structure Span

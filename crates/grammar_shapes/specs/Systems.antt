@@ -1,14 +1,14 @@
 -- The rules that shapes are of, and daughters of them.
 use Rattle.std.specs.Prelude.{ℕ, ◌≡◌, ◌<◌, ◌≤◌, ◌++◌, ◌-◌, Bool, Some, List, All, length, map, slice_get}
-use Rattle.cover.specs.declared.Tuple.{Tuple}
-use Rattle.cover.specs.Tuples.{shapes_of, IsTuple}
+use Rattle.chart_model.specs.declared.covers.Tuple.{Tuple}
+use Rattle.chart_model.specs.Tuples.{shapes_of, IsTuple}
 use Rattle.fs_model.specs.Claims.{Path}
 use Rattle.fs_graph.specs.GraphMap.{reader_of}
 use Rattle.fs_closing.specs.Rules.{Grammar}
 use Rattle.fs_trim.specs.Cutting.{cut_of}
-use Rattle.rule_model.specs.Structures.{Structure}
-use Rattle.rule_model.specs.Mothers.{RuleSystem, arity_at}
-use Rattle.rule_model.specs.Laws.{rules_applies}
+use Rattle.tree_model.specs.Structures.{Structure}
+use Rattle.tree_model.specs.Mothers.{RuleSystem, arity_at}
+use Rattle.tree_model.specs.Laws.{rules_applies}
 use Rattle.grammar_shapes.specs.declared.phrase_rule.PhraseRule.{PhraseRule}
 use Rattle.grammar_shapes.specs.declared.shapes.GrammarShapes.{GrammarShapes}
 use Rattle.sieve.specs.Sketches.{TypeAt, sketch_of, below_place, sketches_meet}

@@ -2,12 +2,12 @@
 
 ghost use Rattle.std.specs.Prelude.{◌≡◌};
 ghost use Rattle.std.specs.List.{list_all};
-ghost use Rattle.fs_paths.specs.Facts.{path_of};
+ghost use Rattle.fs_graph.specs.Facts.{path_of};
 ghost use Rattle.fs_trim.specs.Cutting.{cut_of};
-ghost use Rattle.rule_model.specs.Cuts.{has_feature};
+ghost use Rattle.tree_model.specs.Cuts.{has_feature};
 ghost use Rattle.grammar_shapes.specs.Cutting.{cuts_no_more};
 
-use fs_paths::Feat;
+use fs_graph::Feat;
 use fs_trim::Cut;
 
 // Whether a feature is one of these.

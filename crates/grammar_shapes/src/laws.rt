@@ -8,7 +8,7 @@ ghost use Rattle.fs_graph.specs.GraphMap.{reader_of};
 ghost use Rattle.fs_closing.specs.Rules.{system_of};
 ghost use Rattle.fs_unify.specs.Entering.{IsGraphIn};
 ghost use Rattle.fs_trim.specs.Cutting.{IsShort};
-ghost use Rattle.rule_model.specs.Views.{source_alone};
+ghost use Rattle.tree_model.specs.Views.{source_alone};
 
 use fs_graph::Graph;
 use fs_unify::TypeSystem;

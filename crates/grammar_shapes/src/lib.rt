@@ -14,8 +14,8 @@ mod shapes;
 mod sketched;
 mod spans;
 
-pub use cover::NoMemory;
 pub use laws::structure_laws;
 pub use phrase_rule::PhraseRule;
 pub use place::Place;
 pub use shapes::GrammarShapes;
+pub use std::alloc::AllocError as NoMemory;

@@ -1,14 +1,14 @@
 //! A rule with daughters at their places.
 
 ghost use Rattle.std.specs.Prelude.{◌≡◌, ◌≤◌, ◌++◌, length, map, IfOk, OnOk};
-ghost use Rattle.cover.specs.Tuples.{shapes_of, IsTuple};
+ghost use Rattle.chart_model.specs.Tuples.{shapes_of, IsTuple};
 ghost use Rattle.grammar_shapes.specs.Ruled.{places_of};
 ghost use Rattle.grammar_shapes.specs.Inner.Parts.{parts_for, daughter_at};
 ghost use Rattle.grammar_shapes.specs.Shaped.{graph_of};
 
 use crate::phrase_rule::PhraseRule;
 use crate::place::Place;
-use cover::Tuple;
+use chart_model::Tuple;
 use fs_unify::{NoMemory, Owed, Parts};
 use std::alloc::Global;
 use std::sync::Arc;

@@ -1,7 +1,6 @@
 //! Phrase rules.
 
-use fs_graph::Graph;
-use fs_paths::Feat;
+use fs_graph::{Feat, Graph};
 
 /// A phrase rule: its place among the instances of the grammar, its structure, and the path of each daughter from left to right.
 #[derive(Drop)]

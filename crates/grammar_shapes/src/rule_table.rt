@@ -2,7 +2,7 @@
 
 ghost use Rattle.std.specs.Prelude.{◌≡◌, ◌<◌, length, map, All, IfOk, Some, slice_get};
 ghost use Rattle.fs_graph.specs.GraphMap.{reader_of};
-ghost use Rattle.fs_paths.specs.Facts.{path_of};
+ghost use Rattle.fs_graph.specs.Facts.{path_of};
 ghost use Rattle.fs_closing.specs.Rules.{system_of};
 ghost use Rattle.fs_unify.specs.Entering.{IsWellFormed};
 ghost use Rattle.fs_model.specs.Claims.{Path};
@@ -12,9 +12,8 @@ ghost use Rattle.grammar_shapes.specs.Inner.Tables.{rule_sketches, row_of};
 ghost use Rattle.grammar_shapes.specs.declared.phrase_rule.PhraseRule.{PhraseRule};
 
 use crate::phrase_rule::PhraseRule;
-use cover::NoMemory;
-use fs_graph::Graph;
-use fs_paths::Feat;
+use chart_model::NoMemory;
+use fs_graph::{Feat, Graph};
 use fs_unify::TypeSystem;
 use sieve::{Sketch, SketchPaths};
 use std::alloc::Global;

@@ -2,8 +2,8 @@
 
 use crate::place::Place;
 use crate::shapes::GrammarShapes;
-use cover::{Span, Tuple};
-use sieved_shapes::{Sketched, Sketches};
+use chart_model::{Span, Tuple};
+use shape_memo::{Sketched, Sketches};
 use std::sync::Arc;
 use type_hierarchy::Types;
 

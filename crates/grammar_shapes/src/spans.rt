@@ -2,20 +2,20 @@
 
 use crate::place::Place;
 use crate::shapes::GrammarShapes;
-use cover::{NoMemory, Shapes, Span, Tuple};
+use chart_model::{NoMemory, Shapes, Span, Tuple};
 use fs_unify::Scratch;
 use std::alloc::Global;
 use std::sync::Arc;
 
 impl<'a> Shapes for GrammarShapes<'a> {
     ghost use Rattle.std.specs.Prelude.{ℕ, ◌≡◌, ◌↔◌, false, map, IfOk, IsOk, IsTrue, refl};
-    ghost use Rattle.cover.specs.Calculus.{NoneApplies};
-    ghost use Rattle.cover.specs.Tuples.{shapes_of, covers_of, IsFor};
+    ghost use Rattle.chart_model.specs.Calculus.{NoneApplies};
+    ghost use Rattle.chart_model.specs.Tuples.{shapes_of, covers_of, IsFor};
     ghost use Rattle.fs_trim.specs.Cutting.{cut_of};
-    ghost use Rattle.rule_model.specs.Structures.{Structure};
-    ghost use Rattle.rule_model.specs.Mothers.{Agrees};
-    ghost use Rattle.rule_model.specs.Laws.{rules_full, rules_applies};
-    ghost use Rattle.rule_model.proofs.AllLaws.{rules_agree};
+    ghost use Rattle.tree_model.specs.Structures.{Structure};
+    ghost use Rattle.tree_model.specs.Mothers.{Agrees};
+    ghost use Rattle.tree_model.specs.Laws.{rules_full, rules_applies};
+    ghost use Rattle.tree_model.proofs.AllLaws.{rules_agree};
     ghost use Rattle.grammar_shapes.specs.Spanned.{span_calculus};
     ghost use Rattle.grammar_shapes.specs.SpanLaws.{rule_laws};
     ghost use Rattle.grammar_shapes.specs.Systems.{rules_of, grammar_of, list_of, meaning_of, Belongs, IsMet};

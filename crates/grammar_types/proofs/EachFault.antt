@@ -11,8 +11,8 @@ use Rattle.type_hierarchy.specs.declared.decl.TypeFault.TheVariants.{Duplicate, 
 use Rattle.type_hierarchy.specs.Decls.{Declared, bare, at_place, is_type, unwritten, parents_of}
 use Rattle.type_hierarchy.specs.Order.{Has, here, there, IsBelow}
 use Rattle.type_hierarchy.specs.Faults.{IsFirst, IsUnknown, IsCyclic, IsReserved, is_glb_name, most_types, HasNoDuplicate, HasNoUnknown, HasNoCycle, HasNoReserved, IsFaultless, NamesFirst, NamesFirstUnknown, IsFaultOf}
-use Rattle.placed_statements.specs.Placings.{PlacedTree}
-use Rattle.placed_statements.specs.Statements.{is_status, is_of_types, is_define, name_of, body_of, defines_type}
+use Rattle.grammar_files.specs.Placings.{PlacedTree}
+use Rattle.grammar_files.specs.Statements.{is_status, is_of_types, is_define, name_of, body_of, defines_type}
 use Rattle.grammar_settings.specs.Forms.{Name}
 use Rattle.grammar_files.specs.declared.fault.Why.TheVariants.{Typing}
 use Rattle.grammar_files.specs.Faults.{FoundFault}

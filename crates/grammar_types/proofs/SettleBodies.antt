@@ -9,7 +9,7 @@ use Rattle.tdl_reader.specs.declared.Term.{Term, Name as NameTerm, Coref}
 use Rattle.tdl_reader.specs.Trees.{body_tree, attrs_of, items_of}
 use Rattle.tdl_reader.specs.Views.{term_of, body_in, attr_of, rest_of}
 use Rattle.tdl_reader.proofs.Rows.{view_of_name, view_of_coref, view_of_closed, view_of_open}
-use Rattle.placed_statements.specs.BodyStrings.{strings_of_term, strings_of_body, strings_of_attrs, strings_of_items, strings_of_rest}
+use Rattle.grammar_files.specs.BodyStrings.{strings_of_term, strings_of_body, strings_of_attrs, strings_of_items, strings_of_rest}
 use Rattle.grammar_settings.specs.Forms.{Name}
 use Rattle.grammar_types.specs.Typings.{top_name, top_names}
 

@@ -6,9 +6,9 @@ use Rattle.std.specs.Str.{bytes_eq}
 use Rattle.std.specs.Option.{option_map_or, unwrap_or}
 use Rattle.std.proofs.lemmas.List.{at_drop_more, at_drop_all, append-nil, map-append}
 use Rattle.std.proofs.lemmas.List.Concat.{flat_map_single}
-use Rattle.placed_statements.specs.declared.Placed.{Placed}
-use Rattle.placed_statements.specs.Placings.{PlacedTree, placed_of}
-use Rattle.placed_statements.specs.Statements.{defines_type}
+use Rattle.grammar_files.specs.declared.placed.Placed.{Placed}
+use Rattle.grammar_files.specs.Placings.{PlacedTree, placed_of}
+use Rattle.grammar_files.specs.Statements.{defines_type}
 use Rattle.type_hierarchy.specs.declared.decl.Decl.{Decl}
 use Rattle.type_hierarchy.specs.Decls.{Declared, declared, decls_of, texts}
 use Rattle.grammar_settings.specs.Forms.{Name}

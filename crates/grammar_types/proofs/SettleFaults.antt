@@ -5,13 +5,13 @@ use Rattle.std.specs.Borrow.{Bor}
 use Rattle.std.specs.List.{find}
 use Rattle.std.specs.Str.{bytes_eq}
 use Rattle.std.specs.String.{string_bytes}
-use Rattle.placed_statements.specs.declared.Placed.{Placed}
-use Rattle.placed_statements.specs.Placings.{PlacedTree, placed_of}
+use Rattle.grammar_files.specs.declared.placed.Placed.{Placed}
+use Rattle.grammar_files.specs.Placings.{PlacedTree, placed_of}
 use Rattle.type_hierarchy.specs.declared.decl.TypeFault.{TypeFault}
 use Rattle.type_hierarchy.specs.declared.decl.TypeFault.TheVariants.{Duplicate}
 use Rattle.type_hierarchy.specs.Faults.{IsFirst, IsFaultOf}
 use Rattle.type_hierarchy.specs.Table.{TypeTable}
-use Rattle.glb_completion.specs.Completion.{HasTooMany}
+use Rattle.grammar_types.specs.Completion.{HasTooMany}
 use Rattle.grammar_files.specs.declared.fault.LoadFault.{LoadFault}
 use Rattle.grammar_files.specs.declared.fault.LoadFault.TheVariants.{NoMemory, Found}
 use Rattle.grammar_files.specs.declared.fault.Why.TheVariants.{Typing, TooManyTypes}

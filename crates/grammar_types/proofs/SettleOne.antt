@@ -6,13 +6,13 @@ use Rattle.std.specs.Str.{bytes_eq}
 use Rattle.std.specs.String.{string_bytes}
 use Rattle.std.proofs.lemmas.Bool.{cases_lt}
 use Rattle.std.proofs.lemmas.Option.{same_Some}
-use Rattle.placed_statements.specs.Placings.{PlacedTree}
+use Rattle.grammar_files.specs.Placings.{PlacedTree}
 use Rattle.type_hierarchy.specs.declared.decl.TypeFault.{TypeFault}
 use Rattle.type_hierarchy.specs.declared.decl.TypeFault.TheVariants.{Duplicate, Unknown, Cycle, Reserved, TooMany, NoMemory}
 use Rattle.type_hierarchy.specs.Decls.{Declared, at_place}
 use Rattle.type_hierarchy.specs.Faults.{IsFirst, IsUnknown, NamesFirst, NamesFirstUnknown, IsFaultOf, IsFaultless, most_types}
 use Rattle.type_hierarchy.specs.Table.{TypeTable}
-use Rattle.glb_completion.specs.Completion.{IsCompletionOf, HasTooMany}
+use Rattle.grammar_types.specs.Completion.{IsCompletionOf, HasTooMany}
 use Rattle.grammar_files.specs.declared.fault.Why.TheVariants.{Typing}
 use Rattle.grammar_files.specs.Faults.{FoundFault}
 use Rattle.grammar_settings.specs.Forms.{Name}

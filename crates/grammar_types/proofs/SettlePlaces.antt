@@ -6,8 +6,8 @@ use Rattle.std.specs.String.{string_bytes}
 use Rattle.std.proofs.lemmas.List.{get_or-map, length-map, take-map}
 use Rattle.std.proofs.lemmas.Option.{slice_get-get_or}
 use Rattle.tdl_reader.specs.declared.Status.TheVariants.{TypeDef}
-use Rattle.placed_statements.specs.Placings.{PlacedTree}
-use Rattle.placed_statements.specs.Statements.{defines_type}
+use Rattle.grammar_files.specs.Placings.{PlacedTree}
+use Rattle.grammar_files.specs.Statements.{defines_type}
 use Rattle.type_hierarchy.specs.declared.decl.TypeFault.{TypeFault}
 use Rattle.type_hierarchy.specs.declared.decl.TypeFault.TheVariants.{Duplicate, Unknown, Cycle, Reserved, TooMany, NoMemory}
 use Rattle.type_hierarchy.specs.Decls.{bare, at_place}

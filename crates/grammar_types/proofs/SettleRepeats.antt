@@ -9,8 +9,8 @@ use Rattle.std.proofs.lemmas.List.{take_more, map-append, append-nil, get_or-map
 use Rattle.std.proofs.lemmas.List.Elements.{filter-append}
 use Rattle.tdl_reader.specs.declared.Status.{Status}
 use Rattle.tdl_reader.specs.declared.Status.TheVariants.{TypeDef, Entry, LexRule, Rule, Root, Other}
-use Rattle.placed_statements.specs.declared.Placed.{Placed}
-use Rattle.placed_statements.specs.Placings.{PlacedTree, placed_of}
+use Rattle.grammar_files.specs.declared.placed.Placed.{Placed}
+use Rattle.grammar_files.specs.Placings.{PlacedTree, placed_of}
 use Rattle.type_hierarchy.specs.Decls.{texts}
 use Rattle.grammar_types.specs.Typings.{is_heeded}
 use Rattle.grammar_settings.specs.Forms.{Name}

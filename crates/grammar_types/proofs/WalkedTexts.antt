@@ -6,9 +6,9 @@ use Rattle.tdl_reader.specs.declared.Term.{Term, Name as NameTerm, Text, Coref, 
 use Rattle.tdl_reader.specs.Trees.{body_tree}
 use Rattle.tdl_reader.specs.Views.{term_of, statement_of}
 use Rattle.type_hierarchy.specs.Order.{Has, here, there}
-use Rattle.placed_statements.specs.declared.Placed.{Placed}
-use Rattle.placed_statements.specs.Placings.{PlacedTree, placed_of}
-use Rattle.placed_statements.specs.Statements.{is_define, name_of, body_of, name_written, body_written}
+use Rattle.grammar_files.specs.declared.placed.Placed.{Placed}
+use Rattle.grammar_files.specs.Placings.{PlacedTree, placed_of}
+use Rattle.grammar_files.specs.Statements.{is_define, name_of, body_of, name_written, body_written}
 use Rattle.grammar_settings.specs.Forms.{Name}
 use Rattle.grammar_files.specs.declared.walking.Walked.{Walked}
 use Rattle.grammar_files.specs.WalkViews.{walked_of}

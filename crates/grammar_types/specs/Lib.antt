@@ -1,3 +1,5 @@
 pub mod Typings
 pub mod SettleViews
 pub mod Outcomes
+pub mod Completion
+pub mod Inner

@@ -2,8 +2,8 @@
 use Rattle.std.specs.Prelude.{◌≡◌, true, List, String, string_bytes}
 use Rattle.std.specs.Global.{Global}
 use Rattle.type_hierarchy.specs.Order.{Has}
-use Rattle.placed_statements.specs.Placings.{PlacedTree}
-use Rattle.placed_statements.specs.Statements.{is_define, name_of, body_of}
+use Rattle.grammar_files.specs.Placings.{PlacedTree}
+use Rattle.grammar_files.specs.Statements.{is_define, name_of, body_of}
 use Rattle.grammar_settings.specs.Forms.{Name}
 use Rattle.grammar_types.specs.Typings.{top_names}
 

@@ -6,11 +6,11 @@ use Rattle.std.specs.Option.{option_map_or}
 use Rattle.std.specs.Str.{bytes_eq}
 use Rattle.std.specs.String.{string_bytes}
 use Rattle.tdl_reader.specs.declared.Status.{Status}
-use Rattle.placed_statements.specs.Placings.{PlacedTree}
-use Rattle.placed_statements.specs.Statements.{defines_type}
-pub use Rattle.placed_statements.specs.Names.{with_each}
+use Rattle.grammar_files.specs.Placings.{PlacedTree}
+use Rattle.grammar_files.specs.Statements.{defines_type}
+pub use Rattle.grammar_files.specs.Names.{with_each}
 use Rattle.type_hierarchy.specs.Decls.{Declared, texts}
-use Rattle.placed_statements.specs.BodyStrings.{strings_of_body}
+use Rattle.grammar_files.specs.BodyStrings.{strings_of_body}
 use Rattle.grammar_settings.specs.Forms.{Name}
 use Rattle.grammar_types.specs.Typings.{is_heeded, IsRepeatUnder, IsRepeat, body_written, name_written, names_under, has_name, adds_to, top_names, defines_under}
 

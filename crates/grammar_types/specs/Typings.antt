@@ -6,17 +6,17 @@ use Rattle.std.specs.List.{list_any}
 use Rattle.std.specs.Str.{bytes_eq}
 use Rattle.tdl_reader.specs.declared.Status.{Status}
 use Rattle.tdl_reader.specs.Trees.{TermTree, of_name, of_text, of_coref, of_avm, of_list, of_diff, BodyTree, no_terms, and_term, StatementTree}
-use Rattle.placed_statements.specs.Placings.{PlacedTree}
-use Rattle.placed_statements.specs.BodyStrings.{strings_of_body}
-pub use Rattle.placed_statements.specs.Names.{has_name}
-pub use Rattle.placed_statements.specs.Statements.{is_status, is_heeded, place_of, is_define, is_addendum, name_written, body_written, type_definitions, adds_to, no_statement, statement_at}
+use Rattle.grammar_files.specs.Placings.{PlacedTree}
+use Rattle.grammar_files.specs.BodyStrings.{strings_of_body}
+pub use Rattle.grammar_files.specs.Names.{has_name}
+pub use Rattle.grammar_files.specs.Statements.{is_status, is_heeded, place_of, is_define, is_addendum, name_written, body_written, type_definitions, adds_to, no_statement, statement_at}
 use Rattle.type_hierarchy.specs.declared.decl.TypeFault.{TypeFault}
 use Rattle.type_hierarchy.specs.declared.decl.TypeFault.TheVariants.{Duplicate, Unknown, Cycle, Reserved, TooMany, NoMemory}
 use Rattle.type_hierarchy.specs.Decls.{Declared}
 use Rattle.type_hierarchy.specs.Faults.{IsFirst, IsFaultOf, IsFaultless, most_types}
 use Rattle.type_hierarchy.specs.Laws.{IsHierarchy}
 use Rattle.type_hierarchy.specs.Table.{TypeTable, IsHierarchyOf}
-use Rattle.glb_completion.specs.Completion.{IsCompletionOf, HasTooMany}
+use Rattle.grammar_types.specs.Completion.{IsCompletionOf, HasTooMany}
 use Rattle.grammar_files.specs.declared.fault.Why.{Why}
 use Rattle.grammar_files.specs.declared.fault.Why.TheVariants.{Typing, TooManyTypes}
 use Rattle.grammar_files.specs.Faults.{FoundFault}

@@ -2,17 +2,17 @@
 
 ghost use Rattle.std.specs.Prelude.{◌≡◌, ℕ, ◌≤◌, ◌++◌, [], map, length, find, flat_map, slice_get, if◌then◌else◌, IfOk, OnOk, MatchOption, true, false, option_map, string_bytes};
 ghost use Rattle.std.specs.Str.{bytes_eq};
-ghost use Rattle.placed_statements.specs.Placings.{placed_of};
+ghost use Rattle.grammar_files.specs.Placings.{placed_of};
 ghost use Rattle.tdl_reader.specs.Views.{term_of, body_in};
 ghost use Rattle.type_hierarchy.specs.Decls.{decls_of, texts};
 ghost use Rattle.grammar_settings.specs.Forms.{Name};
 ghost use Rattle.grammar_types.specs.SettleViews.{IsEntered, IsEarliest, IsEarliestOfAll, parents_noted, parents_by, decl_by, defines_type_named};
 ghost use Rattle.grammar_types.specs.Typings.{is_status, defines_under, name_written, top_name, top_names, parents_added, type_definitions, decls_in};
 
+use grammar_files::Placed;
+use grammar_files::placed_statements::{defines_type, is_of_types, is_status, name_of};
 use grammar_settings::NoMemory;
 use indexmap::{IndexMap, IndexSet};
-use placed_statements::Placed;
-use placed_statements::statements::{defines_type, is_of_types, is_status, name_of};
 use std::alloc::Global;
 use tdl_reader::{Body, Statement, Status, Term};
 use type_hierarchy::Decl;

@@ -1,7 +1,7 @@
 //! The types that a grammar's statements settle.
 
 ghost use Rattle.std.specs.Prelude.{◌≡◌, ◌≢◌, ℕ, ◌<◌, length, map, IfOk, IfErr, MatchOption, string_bytes};
-ghost use Rattle.placed_statements.specs.Placings.{PlacedTree, placed_of};
+ghost use Rattle.grammar_files.specs.Placings.{PlacedTree, placed_of};
 ghost use Rattle.type_hierarchy.specs.Decls.{decls_of};
 ghost use Rattle.type_hierarchy.specs.Faults.{IsFirst, IsFaultOf};
 ghost use Rattle.type_hierarchy.specs.declared.decl.TypeFault.{TypeFault};
@@ -11,10 +11,9 @@ ghost use Rattle.grammar_files.specs.WalkViews.{walked_of, CanSettle};
 
 use crate::declarations::{declarations, definition_at, definition_of, first_repeat};
 use crate::strings::strings_in;
-use glb_completion::{CompleteFault, complete};
-use grammar_files::{LoadFault, NoMemory, Walked, Why, found};
-use placed_statements::Placed;
-use placed_statements::statements::place_of;
+use crate::{CompleteFault, complete};
+use grammar_files::placed_statements::place_of;
+use grammar_files::{LoadFault, NoMemory, Placed, Walked, Why, found};
 use std::alloc::Global;
 use tdl_reader::Statement;
 use type_hierarchy::{Decl, Hierarchy, MOST_TYPES, TypeFault, Types};

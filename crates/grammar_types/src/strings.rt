@@ -1,18 +1,18 @@
 //! The strings that stand in the bodies of statements.
 
 ghost use Rattle.std.specs.Prelude.{◌≡◌, ◌∷◌, [], map, IfOk, OnOk, string_bytes};
-ghost use Rattle.placed_statements.specs.Placings.{placed_of};
+ghost use Rattle.grammar_files.specs.Placings.{placed_of};
 ghost use Rattle.tdl_reader.specs.Trees.{attrs_of, items_of};
 ghost use Rattle.tdl_reader.specs.Views.{term_of, attr_of, body_in, rest_of};
 ghost use Rattle.type_hierarchy.specs.Decls.{texts};
-ghost use Rattle.placed_statements.specs.BodyStrings.{strings_of_term, strings_of_body, strings_of_attrs, strings_of_items, strings_of_rest};
+ghost use Rattle.grammar_files.specs.BodyStrings.{strings_of_term, strings_of_body, strings_of_attrs, strings_of_items, strings_of_rest};
 ghost use Rattle.grammar_types.specs.SettleViews.{with_each, strings_written};
 ghost use Rattle.grammar_types.specs.Typings.{strings_in};
 
+use grammar_files::Placed;
+use grammar_files::placed_statements::is_heeded;
 use grammar_settings::NoMemory;
 use indexmap::IndexSet;
-use placed_statements::Placed;
-use placed_statements::statements::is_heeded;
 use std::alloc::{AllocError, Global};
 use tdl_reader::{Attr, Body, Rest, Statement, Term};
 

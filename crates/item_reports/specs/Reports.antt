@@ -3,7 +3,7 @@ use Rattle.std.specs.Prelude.{ℕ, Bool, true, false, List, [], ◌∷◌, ◌++
 use Rattle.std.specs.Fmt.{decimal}
 use Rattle.derivation.specs.Trees.{Derivation}
 use Rattle.derivation.specs.Text.{text_of}
-use Rattle.item_model.specs.Items.{Answer, LexicalDepth, ByUnaryChain, ByEdges, Readings, Trees}
+use Rattle.tree_model.specs.Items.{Answer, LexicalDepth, ByUnaryChain, ByEdges, Readings, Trees}
 
 -- `item N TEXT`
 abbrev pub item_line : ℕ → List ℕ → List ℕ

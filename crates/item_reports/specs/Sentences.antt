@@ -1,7 +1,7 @@
 -- The words of a line that is parsed.
 use Rattle.std.specs.Prelude.{ℕ, List, map, encode_utf8_all}
 use Rattle.caseless.specs.Caseless.{default_case_fold}
-use Rattle.word_lists.specs.Words.{Word}
+use Rattle.lexicon.specs.Words.{Word}
 use Rattle.closed_lists.specs.Strings.{words}
 
 -- a run of characters, folded

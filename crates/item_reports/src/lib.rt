@@ -9,4 +9,4 @@ pub use report::{
     lines_of_trees, tree_line,
 };
 pub use sentence::words_of_line;
-pub use word_lists::NoMemory;
+pub use std::alloc::AllocError as NoMemory;

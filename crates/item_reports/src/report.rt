@@ -6,8 +6,8 @@ ghost use Rattle.derivation.specs.Views.{derivation_of};
 ghost use Rattle.item_reports.specs.Reports.{item_line, no_text_line, no_lattice_line, no_mrs_line, refused_line, counts, tree_line, trees_lines};
 
 use derivation::{Tree, write};
+use lexicon::NoMemory;
 use std::alloc::Global;
-use word_lists::NoMemory;
 
 /// `item N refused NAME`: the one line of an item that is refused, by the name of the limit that it breaks or of what isn't answered.
 pub fn lines_of_refusal(alloc: Global, number: u64, name: &str) -> Result<Vec<Vec<u8>>, NoMemory>

@@ -8,8 +8,8 @@ ghost use Rattle.closed_lists.specs.Strings.{words};
 ghost use Rattle.item_reports.specs.Sentences.{folded, words_of_line};
 
 use caseless::default_case_fold_str;
+use lexicon::NoMemory;
 use std::alloc::{AllocError, Global};
-use word_lists::NoMemory;
 
 // The runs of letters that aren't white space.
 fn runs<'a>(alloc: Global, letters: &'a [char]) -> Result<Vec<&'a [char]>, AllocError>

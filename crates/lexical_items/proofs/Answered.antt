@@ -3,17 +3,17 @@ use Rattle.std.specs.Prelude.{ℕ, ◌≡◌, ◌<◌, ◌≤◌, ◌+◌, List,
 use Rattle.std.proofs.Common.{inl, inr, refl, sym, ◌∙◌, ap, subst, zero, suc, arith}
 use Rattle.std.specs.Ordering.{ordering_reverse}
 use Rattle.std.specs.declared.cmp.Ordering.TheVariants.{Less, Greater}
-use Rattle.word_lists.specs.Words.{Has, Each}
+use Rattle.lexicon.specs.Words.{Has, Each}
 use Rattle.chart_model.specs.At.{At, here, there}
 use Rattle.derivation.specs.Trees.{Derivation}
-use Rattle.rule_model.specs.Structures.{Structure}
+use Rattle.tree_model.specs.Structures.{Structure}
 use Rattle.lexicon.specs.Entries.{EntryTree}
 use Rattle.spelling_rules.specs.Trees.{SpellingTree}
-use Rattle.item_model.specs.Signs.{Signs, an_entry, a_lexical_rule}
-use Rattle.item_model.specs.Lexical as item
-use Rattle.item_model.specs.Trees.{full_lexical}
-use Rattle.parse_items.specs.Lattices.{spans_lexical}
-use Rattle.parse_items.specs.Licensed.{IsLexicalTree, IsTooDeep}
+use Rattle.tree_model.specs.Signs.{Signs, an_entry, a_lexical_rule}
+use Rattle.tree_model.specs.Lexical as item
+use Rattle.tree_model.specs.Trees.{full_lexical}
+use Rattle.tree_model.specs.Lattices.{spans_lexical}
+use Rattle.tree_model.specs.Licensed.{IsLexicalTree, IsTooDeep}
 use Rattle.morph_analysis.specs.Lattices.{LatticeTree, IsValid}
 use Rattle.morph_analysis.specs.Allowed.{FeedsTree}
 use Rattle.morph_analysis.specs.Chains.{ChainTree, chain_order, AreInOrder, IsChain}

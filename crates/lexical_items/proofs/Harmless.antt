@@ -2,10 +2,10 @@
 use Rattle.std.specs.Prelude.{ℕ, ◌≡◌, ◌<◌, ◌⊎◌, Bool, true, false, List, ◌∷◌, length}
 use Rattle.std.proofs.Common.{inl, inr, sym, ◌∙◌, subst}
 use Rattle.chart_model.specs.At.{At, at_one}
-use Rattle.cover.specs.Calculus.{Along, along_none, along_more}
-use Rattle.rule_model.specs.Structures.{Structure}
-use Rattle.item_model.specs.Signs.{Signs}
-use Rattle.item_model.specs.Lexical.{FullUnder, under_next, IsUnderRule}
+use Rattle.chart_model.specs.Calculus.{Along, along_none, along_more}
+use Rattle.tree_model.specs.Structures.{Structure}
+use Rattle.tree_model.specs.Signs.{Signs}
+use Rattle.tree_model.specs.Lexical.{FullUnder, under_next, IsUnderRule}
 use Rattle.morph_analysis.specs.Allowed.{FeedsTree, AllMay, in_table, IsAllowed, AreAllowedAfter}
 use Rattle.morph_analysis.proofs.Lists.{bools}
 use Rattle.lexical_items.specs.Places.{place_in}

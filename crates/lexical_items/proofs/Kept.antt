@@ -2,11 +2,11 @@
 use Rattle.std.specs.Prelude.{ℕ, ◌≡◌, ◌<◌, ◌≤◌, ◌+◌, ◌⊎◌, All, List, [], ◌∷◌, ◌++◌, length, map}
 use Rattle.std.proofs.Common.{get_or, inl, inr, refl, sym, ◌∙◌, ap, subst, arith, zero, suc}
 use Rattle.std.proofs.lemmas.List.{map-append}
-use Rattle.word_lists.specs.Words.{Has}
-use Rattle.rule_model.specs.Structures.{Structure}
+use Rattle.lexicon.specs.Words.{Has}
+use Rattle.tree_model.specs.Structures.{Structure}
 use Rattle.lexicon.specs.Entries.{EntryTree}
 use Rattle.spelling_rules.specs.Trees.{SpellingTree}
-use Rattle.item_model.specs.Signs.{Signs, an_entry, a_lexical_rule}
+use Rattle.tree_model.specs.Signs.{Signs, an_entry, a_lexical_rule}
 use Rattle.morph_analysis.specs.Chains.{ChainTree, IsChain, AreInOrder}
 use Rattle.morph_analysis.specs.Made.{MadeTree, IsMadeChain, AreMadeChains}
 use Rattle.morph_analysis.specs.Allowed.{FeedsTree}
@@ -14,7 +14,7 @@ use Rattle.morph_analysis.specs.Lattices.{LatticeTree, IsValid}
 use Rattle.morph_analysis.specs.Views.{made_of}
 use Rattle.morph_analysis.specs.declared.made.MadeChain.{MadeChain}
 use Rattle.morph_analysis.proofs.Lists.{Has-snoc, Has-at, Has-map, has_map}
-use Rattle.parse_items.specs.Licensed.{IsTooDeep}
+use Rattle.tree_model.specs.Licensed.{IsTooDeep}
 use Rattle.lexical_items.specs.Places.{ArePlaces}
 use Rattle.lexical_items.specs.Said.{AreNumbered, words_said}
 use Rattle.lexical_items.proofs.Saying.{are_said}

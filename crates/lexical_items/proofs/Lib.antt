@@ -7,3 +7,9 @@ pub mod Answered
 pub mod Kept
 pub mod Harmless
 pub mod Outwards
+pub mod Keys
+pub mod Words
+pub mod Chains
+pub mod Levels
+pub mod RouteTrees
+pub mod Sames

@@ -3,9 +3,9 @@ use Rattle.std.specs.Prelude.{ℕ, ◌≡◌, ◌<◌, ◌+◌, List, [], ◌∷
 use Rattle.std.specs.List.{range_with_len}
 use Rattle.std.proofs.Common.{inl, inr, refl, ◌∙◌, ap, subst, zero, suc, arith}
 use Rattle.fs_model.specs.Claims as claims
-use Rattle.word_lists.specs.Words as lists
+use Rattle.lexicon.specs.Words as lists
 use Rattle.chart_model.specs.At.{At, here, there}
-use Rattle.cover.specs.Calculus.{Along, along_none, along_more}
+use Rattle.chart_model.specs.Calculus.{Along, along_none, along_more}
 use Rattle.lexical_items.specs.Places.{place_in}
 
 module _ {A : Type 0} where

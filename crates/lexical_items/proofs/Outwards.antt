@@ -3,11 +3,11 @@ use Rattle.std.specs.Prelude.{ℕ, ◌≡◌, ◌<◌, ◌≤◌, true, false, L
 use Rattle.std.proofs.Common.{inl, inr, refl, sym, subst, arith}
 use Rattle.std.proofs.lemmas.List.{map-append}
 use Rattle.fs_model.specs.Claims.{IsOrder}
-use Rattle.rule_model.specs.Structures.{Structure}
-use Rattle.item_model.specs.Signs.{Signs}
-use Rattle.item_model.specs.Lexical.{FullUnder, under_none, IsEntry, IsUnderRule}
-use Rattle.item_model.specs.Trees.{full_lexical}
-use Rattle.item_model.proofs.Once.{one}
+use Rattle.tree_model.specs.Structures.{Structure}
+use Rattle.tree_model.specs.Signs.{Signs}
+use Rattle.tree_model.specs.Lexical.{FullUnder, under_none, IsEntry, IsUnderRule}
+use Rattle.tree_model.specs.Trees.{full_lexical}
+use Rattle.tree_model.proofs.Once.{one}
 use Rattle.morph_analysis.specs.Allowed.{FeedsTree, may_go_on}
 use Rattle.morph_analysis.proofs.Lists.{Has-left, Has-right, Has-snoc, true_not_false}
 use Rattle.morph_analysis.proofs.RouteLemmas.{allowed_more, allowed_less}

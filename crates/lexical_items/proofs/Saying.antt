@@ -2,11 +2,11 @@
 use Rattle.std.specs.Prelude.{ℕ, ◌≡◌, ◌<◌, ◌==◌, ◌+◌, ◌⊎◌, true, false, List, [], ◌∷◌, length, map}
 use Rattle.std.specs.List.{range_with_len}
 use Rattle.std.proofs.Common.{inl, inr, refl, sym, ◌∙◌, ap, subst, zero, suc, arith}
-use Rattle.word_lists.specs.Words as lists
+use Rattle.lexicon.specs.Words as lists
 use Rattle.chart_model.specs.At.{At, here, there, at_below}
 use Rattle.lexicon.specs.Entries.{EntryTree}
 use Rattle.spelling_rules.specs.Trees.{SpellingTree}
-use Rattle.item_model.specs.Lexical.{Words}
+use Rattle.tree_model.specs.Lexical.{Words}
 use Rattle.morph_analysis.proofs.Lists.{bools, same_eq, eq_same}
 use Rattle.lexical_items.specs.Said.{AreNumbered, number_in, words_in, words_said}
 

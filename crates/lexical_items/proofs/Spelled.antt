@@ -2,14 +2,14 @@
 use Rattle.std.specs.Prelude.{ℕ, ◌≡◌, ◌<◌, ◌≤◌, List, [], ◌∷◌, ◌++◌, length, map}
 use Rattle.std.specs.List.{range_with_len}
 use Rattle.std.proofs.Common.{inl, inr, refl, sym, ◌∙◌, ap, subst, arith}
-use Rattle.word_lists.specs.Words as lists
+use Rattle.lexicon.specs.Words as lists
 use Rattle.chart_model.specs.At.{At, there, at_one, at_below}
-use Rattle.cover.specs.Calculus.{Along, along_none, along_more}
+use Rattle.chart_model.specs.Calculus.{Along, along_none, along_more}
 use Rattle.lexicon.specs.Entries.{EntryTree}
 use Rattle.spelling_rules.specs.Trees.{SpellingTree}
 use Rattle.spelling_rules.specs.Forms.{HasForm}
-use Rattle.item_model.specs.Lexical as item
-use Rattle.parse_items.specs.Lattices as parse
+use Rattle.tree_model.specs.Lexical as item
+use Rattle.tree_model.specs.Lattices as parse
 use Rattle.morph_analysis.specs.Lattices as morph
 use Rattle.morph_analysis.specs.Chains.{Leads, there, by, Spells, HaveWords}
 use Rattle.lexical_items.specs.Said.{AreNumbered}

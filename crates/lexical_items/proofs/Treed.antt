@@ -3,14 +3,14 @@ use Rattle.std.specs.Prelude.{ℕ, ◌≡◌, ◌<◌, ◌≤◌, ◌⊎◌, All
 use Rattle.std.proofs.Common.{inl, inr, refl, sym, ◌∙◌, ap, subst, zero, suc, arith}
 use Rattle.std.proofs.lemmas.Bool.{cases_order}
 use Rattle.chart_model.specs.At.{At, there, at_found}
-use Rattle.cover.specs.Calculus.{Along, along_none, along_more}
+use Rattle.chart_model.specs.Calculus.{Along, along_none, along_more}
 use Rattle.derivation.specs.Trees.{Derivation, lexical, phrase}
-use Rattle.rule_model.specs.Structures.{Structure}
+use Rattle.tree_model.specs.Structures.{Structure}
 use Rattle.lexicon.specs.Entries.{EntryTree}
 use Rattle.spelling_rules.specs.Trees.{SpellingTree}
-use Rattle.item_model.specs.Signs.{Signs, an_entry, a_lexical_rule}
-use Rattle.item_model.specs.Lexical as item
-use Rattle.parse_items.specs.Licensed.{IsLexicalTree}
+use Rattle.tree_model.specs.Signs.{Signs, an_entry, a_lexical_rule}
+use Rattle.tree_model.specs.Lexical as item
+use Rattle.tree_model.specs.Licensed.{IsLexicalTree}
 use Rattle.morph_analysis.specs.Lattices.{LatticeTree}
 use Rattle.morph_analysis.specs.Allowed.{FeedsTree}
 use Rattle.morph_analysis.specs.Chains.{ChainTree, Leads, there, by, Spells, IsChain}

@@ -2,13 +2,13 @@
 use Rattle.std.specs.Prelude.{ℕ, ◌≡◌, List, [], ◌∷◌, ◌++◌, Some, None, slice_get}
 use Rattle.std.proofs.Common.{refl, sym, subst}
 use Rattle.fs_model.specs.Claims.{IsOrder}
-use Rattle.rule_model.specs.Structures.{Structure}
-use Rattle.rule_model.specs.Mothers.{IsFull}
-use Rattle.rule_model.proofs.Closures.{closure_ends, kept_ends}
-use Rattle.item_model.specs.Signs.{Signs, Instance, rule_system}
-use Rattle.item_model.specs.Lexical.{FullUnder, under_none, under_next, IsEntry, IsUnderRule, FullLexical}
-use Rattle.item_model.specs.Trees.{full_lexical}
-use Rattle.item_model.proofs.Once.{one_structure, one}
+use Rattle.tree_model.specs.Structures.{Structure}
+use Rattle.tree_model.specs.Mothers.{IsFull}
+use Rattle.tree_model.proofs.Closures.{closure_ends, kept_ends}
+use Rattle.tree_model.specs.Signs.{Signs, Instance, rule_system}
+use Rattle.tree_model.specs.Lexical.{FullUnder, under_none, under_next, IsEntry, IsUnderRule, FullLexical}
+use Rattle.tree_model.specs.Trees.{full_lexical}
+use Rattle.tree_model.proofs.Once.{one_structure, one}
 
 pub under_more : {g : Signs} {d e f : Structure} {ps : List ℕ} {p : ℕ} → FullUnder g d ps e → IsUnderRule g p e f → FullUnder g d (ps ++ p ∷ []) f
 under_more under_none y = under_next y under_none

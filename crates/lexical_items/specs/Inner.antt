@@ -2,3 +2,5 @@
 pub mod Kept
 pub mod Feeding
 pub mod Making
+pub mod Keyed
+pub mod Routes

@@ -5,3 +5,7 @@ pub mod Seen
 pub mod Listed
 pub mod Views
 pub mod Inner
+pub mod Inflected
+pub mod Forms
+pub mod InflectedViews
+pub mod Known

@@ -2,12 +2,12 @@
 use Rattle.std.specs.Prelude.{ℕ, ◌≡◌, ◌<◌, List}
 use Rattle.chart_model.specs.At.{At}
 use Rattle.derivation.specs.Trees.{Derivation}
-use Rattle.rule_model.specs.Structures.{Structure}
-use Rattle.item_model.specs.Signs.{Signs}
-use Rattle.item_model.specs.Lexical.{Words}
-use Rattle.item_model.specs.Trees.{Full}
-use Rattle.parse_items.specs.Lattices.{Lattice, Spans}
-use Rattle.parse_items.specs.Licensed.{IsLeaf, IsTooDeep}
+use Rattle.tree_model.specs.Structures.{Structure}
+use Rattle.tree_model.specs.Signs.{Signs}
+use Rattle.tree_model.specs.Lexical.{Words}
+use Rattle.tree_model.specs.Trees.{Full}
+use Rattle.tree_model.specs.Lattices.{Lattice, Spans}
+use Rattle.tree_model.specs.Licensed.{IsLeaf, IsTooDeep}
 
 -- a lexical tree with the nodes between which it lies and its full structure
 pub record Lexeme : Type 0 where

@@ -1,7 +1,7 @@
 -- The places of entries and of lexical rules, which lexicons, spellings and chains number in order of place.
 use Rattle.std.specs.Prelude.{ℕ, ◌≡◌, ◌<◌, Some, List, slice_get, slice_index_or}
 use Rattle.chart_model.specs.At.{At}
-use Rattle.item_model.specs.Signs.{Kind, Instance, Signs}
+use Rattle.tree_model.specs.Signs.{Kind, Instance, Signs}
 
 -- a list has the places of the instances of a kind, in order
 pub record ArePlaces (g : Signs) (kind : Kind) (places : List ℕ) : Type 0 where

@@ -1,7 +1,7 @@
 -- What a lexicon and a spelling say of words, by the places of entries and lexical rules.
 use Rattle.std.specs.Prelude.{ℕ, ◌≡◌, ◌==◌, ◌+◌, if◌then◌else◌, List, [], ◌∷◌, length, map}
 use Rattle.std.specs.List.{range_with_len}
-use Rattle.item_model.specs.Lexical.{Word, Words}
+use Rattle.tree_model.specs.Lexical.{Word, Words}
 use Rattle.lexicon.specs.Entries.{EntryTree}
 use Rattle.spelling_rules.specs.Trees.{SpellingTree}
 use Rattle.morph_analysis.specs.Chains.{HaveWords}

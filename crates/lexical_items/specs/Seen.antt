@@ -1,11 +1,11 @@
 -- Lattices and chains in the words of lexical trees.
 use Rattle.std.specs.Prelude.{ℕ, Some, List, map}
 use Rattle.derivation.specs.Trees.{Derivation, lexical}
-use Rattle.item_model.specs.Signs.{Signs}
-use Rattle.item_model.specs.Lexical.{FullLexical}
-use Rattle.rule_model.specs.Structures.{Structure}
-use Rattle.parse_items.specs.Lattices.{Lattice, Step}
-use Rattle.cover.specs.Calculus.{Along}
+use Rattle.tree_model.specs.Signs.{Signs}
+use Rattle.tree_model.specs.Lexical.{FullLexical}
+use Rattle.tree_model.specs.Structures.{Structure}
+use Rattle.tree_model.specs.Lattices.{Lattice, Step}
+use Rattle.chart_model.specs.Calculus.{Along}
 use Rattle.chart_model.specs.At.{At}
 use Rattle.morph_analysis.specs.Lattices.{StepTree, LatticeTree}
 use Rattle.morph_analysis.specs.Chains.{ChainTree}

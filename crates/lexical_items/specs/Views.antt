@@ -1,7 +1,7 @@
 -- What contracts see of lexical trees.
 use Rattle.std.specs.Prelude.{map}
 use Rattle.derivation.specs.Views.{derivation_of}
-use Rattle.rule_model.specs.Structures.{Structure}
+use Rattle.tree_model.specs.Structures.{Structure}
 use Rattle.lexical_items.specs.declared.lexeme.LexTree.{LexTree}
 use Rattle.lexical_items.specs.declared.LexTrees.{LexTrees}
 use Rattle.lexical_items.specs.declared.LexTrees.TheVariants as found

@@ -3,9 +3,9 @@
 ghost use Rattle.std.specs.Prelude.{◌≡◌, ℕ, List, false, IfOk, MatchOption};
 ghost use Rattle.fs_model.specs.Claims.{IsOrder};
 ghost use Rattle.chart_model.specs.At.{At};
-ghost use Rattle.rule_model.specs.Structures.{Structure};
-ghost use Rattle.item_model.specs.Signs.{Signs, an_entry, a_lexical_rule};
-ghost use Rattle.item_model.specs.Lexical.{IsEntry, IsUnderRule};
+ghost use Rattle.tree_model.specs.Structures.{Structure};
+ghost use Rattle.tree_model.specs.Signs.{Signs, an_entry, a_lexical_rule};
+ghost use Rattle.tree_model.specs.Lexical.{IsEntry, IsUnderRule};
 ghost use Rattle.lexical_items.specs.Fulls.{IsLexicalFull};
 ghost use Rattle.lexical_items.specs.Places.{ArePlaces};
 

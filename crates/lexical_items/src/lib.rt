@@ -11,49 +11,37 @@ ghost use Rattle.lexical_items.specs.Seen.{lattice_seen, ForbidsNone};
 ghost use Rattle.lexical_items.specs.Listed.{IsLexicalAnswer};
 ghost use Rattle.lexical_items.specs.Views.{lexical_seen};
 
+mod asked;
+mod entry_words;
 mod feeding;
+mod forms;
 mod fulls;
+mod grown;
+mod inflected;
 mod lexeme;
 mod making;
+mod marked;
+mod remembered;
+mod route;
+mod routes;
+mod tree;
 mod trees;
 
 pub use feeding::feeds_of;
+pub use forms::forms_of;
 pub use fulls::LexicalFulls;
+pub use inflected::inflected_trees;
 pub use lexeme::LexTree;
 use lexicon::Lexicon;
 use making::FullChains;
+pub use marked::MarkedFulls;
 use morph_analysis::{Feeds, Halt, Lattice, made_chains};
+pub use remembered::RememberedFulls;
 use spelling_rules::Spelling;
-use std::alloc::{AllocError, AllocFailed, Global};
+pub use std::alloc::AllocError as NoMemory;
+use std::alloc::Global;
+pub use tree::InflectedTree;
 use trees::trees_of;
-
-/// Memory ran out.
-#[derive(Debug, Drop, Clone, Copy, PartialEq, Eq)]
-pub struct NoMemory;
-
-impl From<AllocError> for NoMemory {
-    fn from(_error: AllocError) -> NoMemory {
-        NoMemory
-    }
-}
-
-impl<T: Drop> From<AllocFailed<T>> for NoMemory {
-    fn from(_error: AllocFailed<T>) -> NoMemory {
-        NoMemory
-    }
-}
-
-impl From<derivation::NoMemory> for NoMemory {
-    fn from(_error: derivation::NoMemory) -> NoMemory {
-        NoMemory
-    }
-}
-
-impl From<word_lists::NoMemory> for NoMemory {
-    fn from(_error: word_lists::NoMemory) -> NoMemory {
-        NoMemory
-    }
-}
 
 /// What is found of the lexical trees of a lattice.
 #[derive(Drop)]

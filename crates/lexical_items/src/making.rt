@@ -16,7 +16,7 @@ pub(crate) struct FullChains<'a, F> {
 }
 
 impl<'a, F: LexicalFulls> Maker for FullChains<'a, F> {
-    ghost use Rattle.rule_model.specs.Structures.{Structure};
+    ghost use Rattle.tree_model.specs.Structures.{Structure};
     ghost use Rattle.lexical_items.specs.Inner.Making.{IsAllowedFull};
     ghost use Rattle.std.specs.Prelude.{◌<◌, length};
 

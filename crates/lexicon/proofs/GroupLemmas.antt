@@ -9,8 +9,8 @@ use Rattle.std.proofs.lemmas.List.{append-nil, map-append, take_more, length-map
 use Rattle.std.specs.List.{slice_get}
 use Rattle.std.specs.List.Sorted.{IsNonDecreasingBy}
 use Rattle.lexicon.specs.declared.entries.Entry.{Entry}
-use Rattle.word_lists.specs.Words.{Word, Has, Each}
-use Rattle.word_lists.proofs.WordLemmas.{bools, true_not_false, bytes_eq-same, bytes_eq-refl}
+use Rattle.lexicon.specs.Words.{Word, Has, Each}
+use Rattle.lexicon.proofs.WordLemmas.{bools, true_not_false, bytes_eq-same, bytes_eq-refl}
 use Rattle.lexicon.specs.declared.groups.Group.{Group}
 use Rattle.lexicon.specs.Entries.{EntryTree, same_words, with_words, last_word}
 use Rattle.lexicon.specs.Groups.{GroupTree, group_of, found, AreApart, AreGroupsOf}

@@ -1,8 +1,8 @@
 -- Entries with the same words, under their last word.
 use Rattle.std.specs.Prelude.{ℕ, ◌≡◌, false, List, [], ◌∷◌, String, Vec, map, if◌then◌else◌, string_bytes}
 use Rattle.std.specs.Global.{Global}
-use Rattle.word_lists.specs.Words.{Word, Each}
-pub use Rattle.word_lists.specs.Words.{words_in}
+use Rattle.lexicon.specs.Words.{Word, Each}
+pub use Rattle.lexicon.specs.Words.{words_in}
 use Rattle.lexicon.specs.declared.groups.Group.{Group}
 use Rattle.lexicon.specs.Entries.{EntryTree, same_words, with_words, last_word}
 

@@ -1,3 +1,4 @@
 pub mod Entries
 pub mod Groups
 pub mod Inner
+pub mod Words

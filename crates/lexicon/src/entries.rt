@@ -5,8 +5,8 @@ ghost use Rattle.lexicon.specs.Entries.{last_word, same_words};
 ghost use Rattle.lexicon.specs.Groups.{given_of};
 ghost use Rattle.lexicon.specs.Inner.Index.{entry_of};
 
+use crate::{NoMemory, copied};
 use std::alloc::Global;
-use word_lists::{NoMemory, copied};
 
 /// An entry: its number, and its words.
 #[derive(Drop)]

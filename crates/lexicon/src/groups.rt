@@ -6,9 +6,9 @@ ghost use Rattle.lexicon.specs.Groups.{group_of};
 ghost use Rattle.lexicon.specs.Inner.Index.{entry_of, with_entry, IsIndexOf, IsPlaceOf};
 
 use crate::entries::{Entry, are_same, last_of};
+use crate::{NoMemory, copied};
 use indexmap::IndexMap;
 use std::alloc::Global;
-use word_lists::{NoMemory, copied};
 
 /// The entries that have the same words.
 #[derive(Drop)]

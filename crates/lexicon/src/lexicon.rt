@@ -3,14 +3,14 @@
 ghost use Rattle.std.specs.Prelude.{◌≡◌, List, map, IfOk, string_bytes};
 ghost use Rattle.lexicon.specs.Entries.{EntryTree, IsLexiconOf, HasNumber, with_words};
 ghost use Rattle.lexicon.specs.Groups.{given_of, group_of, AreGroupsOf};
-ghost use Rattle.word_lists.specs.Words.{Word, Has};
+ghost use Rattle.lexicon.specs.Words.{Word, Has};
 
 use crate::entries::{Entry, entries_copied, last_of};
 use crate::groups::{Group, index_of, place_of};
+use crate::{NoMemory, noted};
 use indexmap::IndexMap;
 use std::alloc::Global;
 use std::marker::Model;
-use word_lists::{NoMemory, noted};
 
 /// The entries of a grammar by number, and by their words.
 #[derive(Drop)]

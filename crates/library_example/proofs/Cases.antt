@@ -58,25 +58,28 @@ pub comes : (K : Form → Type 0) (mean : Form → Meaning) (f : Form) (one : (k
     → (s : Status)
     → ((bytes before after : List ℕ) → (s ≡ Done) ⊎ (s ≡ Items) → left ≡ Some bytes → w0 ≡ Some before → w1 ≡ Some after
     → (form : Form) × (pieces : List (List ℕ)) × K form × (mean form).report F (lines_of bytes) pieces (is_items s) × (after ≡ before ++ concat pieces) × through form)
-    → ((s ≡ Done) ⊎ (s ≡ Items) → x1 ≡ x0)
+    → ((bytes : List ℕ) → (s ≡ Done) ⊎ (s ≡ Items) → left ≡ Some bytes → (form : Form) × (notes : List ℕ) × K form × (mean form).notes F false (lines_of bytes) notes × Tells x0 x1 0 0 notes)
+    → ((texts : List (List ℕ)) (notes : List ℕ) → (mean f).notes F false texts notes → notes ≡ [])
     → (s ≡ Usage → (form : Form) → K form → ⊥)
-    → (s ≡ Grammar → (form : Form) × (first : FileFault) × K form × (mean form).first F (λ name. false) first × Tells x0 x1 0 0 first.text × (w1 ≡ w0))
+    → (s ≡ Grammar → (form : Form) × (first : FileFault) × K form × (mean form).first F (λ name. false) first × Tells x0 x1 0 0 (first.text ++ first.details) × (w1 ≡ w0))
     → ((form : Form) → K form → ((mean form).loadable F → ⊥) → (s ≡ Grammar) ⊎ (s ≡ NoMemory))
     → (s ≡ WriteFault → ⊥)
     → ((form : Form) (bytes : List ℕ) → K form → left ≡ Some bytes → (mean form).loadable F → AreReadable (lines_of bytes) → IsWhole (mean form) h o bytes s)
     → Comes (mean f) F lines report fault s
-comes K mean f one has F h o left w0 w1 x0 x1 lines report fault through il iw jw ix jx Done whole silent usage grammar without write complete =
+comes K mean f one has F h o left w0 w1 x0 x1 lines report fault through il iw jw ix jx Done whole noted quiet usage grammar without write complete =
     let p = whole lines [] report (inl refl) il iw jw in
-    ((p.1, subst (λ m. (mean m).report F (lines_of lines) p.1 false) (one p.0 p.2) p.3, p.4), some-same fault [] (sym jx ∙ silent (inl refl) ∙ ix))
-comes K mean f one has F h o left w0 w1 x0 x1 lines report fault through il iw jw ix jx Items whole silent usage grammar without write complete =
+    let n = noted lines (inl refl) il in
+    ((p.1, subst (λ m. (mean m).report F (lines_of lines) p.1 false) (one p.0 p.2) p.3, p.4), told-of x0 x1 fault n.1 ix jx n.4 ∙ quiet (lines_of lines) n.1 (subst (λ k. (mean k).notes F false (lines_of lines) n.1) (one n.0 n.2) n.3))
+comes K mean f one has F h o left w0 w1 x0 x1 lines report fault through il iw jw ix jx Items whole noted quiet usage grammar without write complete =
     let p = whole lines [] report (inr refl) il iw jw in
-    ((p.1, subst (λ m. (mean m).report F (lines_of lines) p.1 true) (one p.0 p.2) p.3, p.4), some-same fault [] (sym jx ∙ silent (inr refl) ∙ ix))
-comes K mean f one has F h o left w0 w1 x0 x1 lines report fault through il iw jw ix jx Grammar whole silent usage grammar without write complete =
+    let n = noted lines (inr refl) il in
+    ((p.1, subst (λ m. (mean m).report F (lines_of lines) p.1 true) (one p.0 p.2) p.3, p.4), told-of x0 x1 fault n.1 ix jx n.4 ∙ quiet (lines_of lines) n.1 (subst (λ k. (mean k).notes F false (lines_of lines) n.1) (one n.0 n.2) n.3))
+comes K mean f one has F h o left w0 w1 x0 x1 lines report fault through il iw jw ix jx Grammar whole noted quiet usage grammar without write complete =
     let p = grammar refl in
-    ((p.1, subst (λ m. (mean m).first F (λ name. false) p.1) (one p.0 p.2) p.3, told-of x0 x1 fault p.1.text ix jx p.4), some-same report [] (sym jw ∙ p.5 ∙ iw))
-comes K mean f one has F h o left w0 w1 x0 x1 lines report fault through il iw jw ix jx ReadFault whole silent usage grammar without write complete =
+    ((p.1, subst (λ m. (mean m).first F (λ name. false) p.1) (one p.0 p.2) p.3, told-of x0 x1 fault (p.1.text ++ p.1.details) ix jx p.4), some-same report [] (sym jw ∙ p.5 ∙ iw))
+comes K mean f one has F h o left w0 w1 x0 x1 lines report fault through il iw jw ix jx ReadFault whole noted quiet usage grammar without write complete =
     unreadable (mean f) h o lines ReadFault ((mean f).loadable F) (without f has) (λ load can. complete f lines has il load can) refl
-comes K mean f one has F h o left w0 w1 x0 x1 lines report fault through il iw jw ix jx Gaps whole silent usage grammar without write complete = tt
-comes K mean f one has F h o left w0 w1 x0 x1 lines report fault through il iw jw ix jx NoMemory whole silent usage grammar without write complete = tt
-comes K mean f one has F h o left w0 w1 x0 x1 lines report fault through il iw jw ix jx Usage whole silent usage grammar without write complete = usage refl f has
-comes K mean f one has F h o left w0 w1 x0 x1 lines report fault through il iw jw ix jx WriteFault whole silent usage grammar without write complete = write refl
+comes K mean f one has F h o left w0 w1 x0 x1 lines report fault through il iw jw ix jx Gaps whole noted quiet usage grammar without write complete = tt
+comes K mean f one has F h o left w0 w1 x0 x1 lines report fault through il iw jw ix jx NoMemory whole noted quiet usage grammar without write complete = tt
+comes K mean f one has F h o left w0 w1 x0 x1 lines report fault through il iw jw ix jx Usage whole noted quiet usage grammar without write complete = usage refl f has
+comes K mean f one has F h o left w0 w1 x0 x1 lines report fault through il iw jw ix jx WriteFault whole noted quiet usage grammar without write complete = write refl

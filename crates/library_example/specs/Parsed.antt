@@ -1,5 +1,5 @@
 -- What comes of lines that are parsed with a grammar in memory.
-use Rattle.std.specs.Prelude.{◌≡◌, ℕ, List, [], ◌∷◌, Bool, true, false, Some, codes}
+use Rattle.std.specs.Prelude.{◌≡◌, ℕ, List, [], ◌∷◌, ◌++◌, Bool, true, false, Some, codes}
 use Rattle.std.specs.List.{concat}
 use Rattle.lkb_io.specs.Lines.{lines_of}
 use Rattle.lkb_io.specs.Shelves.{NamedFile, file_or_empty}
@@ -28,9 +28,9 @@ shelf_of grammar = record { name = codes "grammar.tdl"; text = grammar } ∷ []
 abbrev pub files_of : List ℕ → Files
 files_of grammar = Some (file_or_empty (shelf_of grammar))
 
--- This line tells the first fault of these files.
-abbrev pub IsFirstFault : Meaning → Files → (line : List ℕ) → Type 0
-IsFirstFault meaning files line = (fault : FileFault) × meaning.first files (λ name. false) fault × (line ≡ fault.text)
+-- This text tells the first fault of these files.
+abbrev pub IsFirstFault : Meaning → Files → (text : List ℕ) → Type 0
+IsFirstFault meaning files text = (fault : FileFault) × meaning.first files (λ name. false) fault × (text ≡ fault.text ++ fault.details)
 
 -- These bytes are the report over the lines, as the meaning has it: for `parse`, for each line in turn exactly the trees that the grammar
 -- licenses, or the limit that it breaks. The last says whether a line is refused.

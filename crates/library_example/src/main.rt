@@ -13,6 +13,7 @@ use std::io;
 use std::io::{Read, Write};
 use std::sync::Wait;
 use std::thread::Threads;
+use top_call::laws::nothing_noted;
 use top_call::run;
 use worker_gate::OpenGate;
 
@@ -81,6 +82,7 @@ pub fn parse_text<R: AllocGlobal + Threads + Wait + Sync>(
         → Comes asked (files_of grammar.items) lines.items report fault a.status) }
 {
     one_form();
+    nothing_noted();
     let words = words(rt.alloc())?;
     let mut shelf = shelf(rt.alloc(), grammar)?;
     let mut input = WholeSource::new(lines);

@@ -1,18 +1,18 @@
 -- A lattice has one answer, and it goes with that of its trees.
 use Rattle.std.specs.Prelude.{ℕ, ◌≡◌, ◌⊎◌, List, length}
 use Rattle.std.proofs.Common.{refl, sym, ◌∙◌, inl, inr}
-use Rattle.cover.specs.declared.span.Span.{Span}
+use Rattle.chart_model.specs.declared.span.Span.{Span}
 use Rattle.type_hierarchy.specs.Table.{TypeTable}
 use Rattle.fs_model.specs.Claims.{IsOrder}
 use Rattle.chart_model.specs.Limits.{LimitAnswer, UnaryChain, Edges, Within, IsLimitAnswer}
-use Rattle.item_model.specs.Signs.{Signs}
-use Rattle.item_model.specs.Lexical.{Words}
-use Rattle.item_model.specs.Items.{LeafTree, AreLeaves, Limits, Answer, calculus, leaves_from, chart_limits}
-use Rattle.item_model.specs.Items as item
-use Rattle.parse_items.specs.Lattices.{Lattice}
-use Rattle.parse_items.specs.Licensed.{IsTooDeep, parse_item}
-use Rattle.parse_items.specs.Answers.{IsAnswerBy, IsParseAnswer}
-use Rattle.parse_items.proofs.Spanned.{licensed_are_wanted}
+use Rattle.tree_model.specs.Signs.{Signs}
+use Rattle.tree_model.specs.Lexical.{Words}
+use Rattle.tree_model.specs.Items.{LeafTree, AreLeaves, Limits, Answer, calculus, leaves_from, chart_limits}
+use Rattle.tree_model.specs.Items as item
+use Rattle.tree_model.specs.Lattices.{Lattice}
+use Rattle.tree_model.specs.Licensed.{IsTooDeep, parse_item}
+use Rattle.tree_model.specs.Answers.{IsAnswerBy, IsParseAnswer}
+use Rattle.tree_model.proofs.Spanned.{licensed_are_wanted}
 use Rattle.line_charts.specs.Answers.{ChartAnswer, LexicalDepth, ByUnaryChain, ByEdges, Forest, IsChartBy, IsChartAnswer}
 use Rattle.line_charts.specs.Laws.{ChartAnswersAreOne, Matches, ChartsMatchParses}
 use Rattle.line_charts.proofs.OverLeaves.{limit_one, count_one}

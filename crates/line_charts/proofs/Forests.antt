@@ -4,8 +4,8 @@ use Rattle.std.proofs.Common.{suc, ap, sym, subst}
 use Rattle.std.specs.declared.cmp.Ordering.TheVariants.{Less}
 use Rattle.std.specs.List.Sorted.{IsSortedBy}
 use Rattle.std.specs.Ordering.{is_lt}
-use Rattle.cover.specs.Calculus.{Along, along_none, along_more}
-use Rattle.cover.specs.declared.span.Span.{Span}
+use Rattle.chart_model.specs.Calculus.{Along, along_none, along_more}
+use Rattle.chart_model.specs.declared.span.Span.{Span}
 use Rattle.type_hierarchy.specs.Table.{TypeTable}
 use Rattle.chart_model.specs.At.{At, here, from_get}
 use Rattle.chart_model.specs.At.{there as next}
@@ -17,9 +17,9 @@ use Rattle.chart_core.specs.declared.Row.{Row}
 use Rattle.chart_core.specs.View as seen
 use Rattle.derivation.specs.Trees.{Derivation}
 use Rattle.fs_model.specs.Claims.{Path}
-use Rattle.rule_model.specs.Structures.{Structure}
-use Rattle.item_model.specs.Signs.{Signs}
-use Rattle.item_model.specs.Items.{Item, LeafTree, Limits, calculus, leaves_from, chart_limits}
+use Rattle.tree_model.specs.Structures.{Structure}
+use Rattle.tree_model.specs.Signs.{Signs}
+use Rattle.tree_model.specs.Items.{Item, LeafTree, Limits, calculus, leaves_from, chart_limits}
 use Rattle.packed_forests.specs.Rows.{AreMakerRows, RowsAreMakers, makers_of}
 use Rattle.line_charts.specs.Keys.{compare_keys}
 use Rattle.line_charts.specs.Charts.{Keyed, Maker, ToldClass, IsKeyed, IsTold, AreMakers, IsPackedForest, classes_of}

@@ -1,7 +1,7 @@
 -- The row of a host has a shape, and the graph of each shape is short.
 use Rattle.std.specs.Prelude.{◌≡◌, ℕ, ◌<◌, Option, Some, None, MatchOption, length, slice_get}
 use Rattle.std.proofs.Common.{◌∙◌, ap, sym, subst}
-use Rattle.cover.specs.declared.span.Span.{Span}
+use Rattle.chart_model.specs.declared.span.Span.{Span}
 use Rattle.chart_model.specs.At.{from_get, at_below}
 use Rattle.chart_core.specs.declared.Row.{Row}
 use Rattle.chart_core.specs.declared.ended.Finished.{Finished}

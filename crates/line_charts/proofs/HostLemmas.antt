@@ -3,8 +3,8 @@ use Rattle.std.specs.Prelude.{◌≡◌, ℕ, ◌<◌, Some, None, Option, List,
 use Rattle.std.proofs.Common.{◌∙◌, ap, sym, subst, get_or, arith, ⊎_elim}
 use Rattle.std.proofs.lemmas.Bool.{cases_order}
 use Rattle.std.specs.Option.{option_map}
-use Rattle.cover.specs.Calculus.{Calculus, Along, along_none, along_more}
-use Rattle.cover.specs.declared.span.Span.{Span}
+use Rattle.chart_model.specs.Calculus.{Calculus, Along, along_none, along_more}
+use Rattle.chart_model.specs.declared.span.Span.{Span}
 use Rattle.chart_model.specs.At.{At, here, to_get, from_get, at_below}
 use Rattle.chart_model.specs.At.{there as next}
 use Rattle.chart_model.specs.Chart.{Chart, OfLeaf, OfPartial, OfWhole, Kind}
@@ -16,7 +16,7 @@ use Rattle.chart_core.specs.CoreView.{chart_of}
 use Rattle.chart_core.specs.Kept.{core_of, rows_in}
 use Rattle.chart_core.specs.View as seen
 use Rattle.fs_model.specs.Claims.{Path}
-use Rattle.rule_model.specs.Structures.{Structure}
+use Rattle.tree_model.specs.Structures.{Structure}
 use Rattle.packed_forests.specs.declared.ClassRows.{ClassRows}
 use Rattle.packed_forests.specs.Rows.{AreClassRows, AreMakerRows, AreItsMakers, IsMadeBy, Counts, makers_of}
 use Rattle.line_charts.specs.Inner.Stages.{AreApart, AreLiveHosts, IsTellable, IsTellableAt}

@@ -8,20 +8,20 @@ use Rattle.std.specs.declared.cmp.Ordering.TheVariants.{Less, Equal, Greater}
 use Rattle.std.specs.Ordering.{ordering_then, nat_cmp}
 use Rattle.std.specs.Cmp.{IsTotalOrder}
 use Rattle.std.specs.Cmp.Lexicographic.{slice_cmp}
-use Rattle.cover.specs.declared.span.Span.{Span}
+use Rattle.chart_model.specs.declared.span.Span.{Span}
 use Rattle.type_hierarchy.specs.Table.{TypeTable}
 use Rattle.fs_model.specs.Claims.{Path, Has, here, there}
 use Rattle.fs_model.specs.Sources.{Reader, IsSameStructure}
-use Rattle.fs_paths.specs.Text.{text_of}
+use Rattle.fs_graph.specs.Text.{text_of}
 use Rattle.fs_graph.specs.declared.graph.GraphArc.{GraphArc}
 use Rattle.fs_graph.specs.GraphMap.{GraphMap, reader_of, IsGraph}
 use Rattle.fs_graph.proofs.OneList.{lists_are_one}
 use Rattle.fs_graph.proofs.SameLemmas.{one_graph}
 use Rattle.chart_model.specs.Classes.{Class}
-use Rattle.rule_model.specs.Structures.{Structure, pairs_of}
-use Rattle.rule_model.specs.Views.{view_type, same_node, view, IsInside}
-use Rattle.rule_model.proofs.Closures.{has_pair}
-use Rattle.item_model.specs.Signs.{Signs}
+use Rattle.tree_model.specs.Structures.{Structure, pairs_of}
+use Rattle.tree_model.specs.Views.{view_type, same_node, view, IsInside}
+use Rattle.tree_model.proofs.Closures.{has_pair}
+use Rattle.tree_model.specs.Signs.{Signs}
 use Rattle.line_charts.specs.Keys.{Key, IsGraphText, compare_arcs, compare_graphs, compare_keys}
 use Rattle.line_charts.specs.Charts.{Keyed, IsKeyed}
 

@@ -1,16 +1,16 @@
 -- The answer to a line by what a chart over its leaves gives.
 use Rattle.std.specs.Prelude.{ℕ, ◌<◌, List, All, length}
 use Rattle.std.proofs.lemmas.List.Elements.{All-map}
-use Rattle.cover.specs.declared.span.Span.{Span}
+use Rattle.chart_model.specs.declared.span.Span.{Span}
 use Rattle.type_hierarchy.specs.Table.{TypeTable, count_of}
 use Rattle.chart_core.specs.declared.Leaf.{Leaf}
 use Rattle.chart_core.specs.Leaves.{LeafBelongs}
 use Rattle.derivation.specs.Trees.{Derivation}
-use Rattle.item_model.specs.Lexical.{Words}
-use Rattle.item_model.specs.Items.{Limits, LeafTree}
+use Rattle.tree_model.specs.Lexical.{Words}
+use Rattle.tree_model.specs.Items.{Limits, LeafTree}
 use Rattle.morph_analysis.specs.Lattices.{LatticeTree}
-use Rattle.parse_items.specs.Lattices.{Step}
-use Rattle.parse_items.specs.Licensed.{parse_item}
+use Rattle.tree_model.specs.Lattices.{Step}
+use Rattle.tree_model.specs.Licensed.{parse_item}
 use Rattle.book_signs.specs.Trees.{SignTree, signs_of}
 use Rattle.grammar_shapes.specs.declared.shapes.GrammarShapes.{GrammarShapes}
 use Rattle.grammar_shapes.specs.Shaped.{Shape}

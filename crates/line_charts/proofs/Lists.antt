@@ -2,7 +2,7 @@
 use Rattle.std.specs.Prelude.{◌≡◌, ℕ, ◌<◌, List, [], ◌∷◌, ◌++◌, length, map, refl}
 use Rattle.std.proofs.Common.{zero, suc, get_or, arith}
 use Rattle.chart_model.specs.At.{At, here, there}
-use Rattle.cover.specs.Calculus.{Along, along_none, along_more}
+use Rattle.chart_model.specs.Calculus.{Along, along_none, along_more}
 
 module _ {A : Type 0} where
   pub at_or : {xs : List A} {i : ℕ} {x : A} → At xs i x → (d : A) → get_or xs i d ≡ x

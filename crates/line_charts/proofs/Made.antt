@@ -2,17 +2,17 @@
 use Rattle.std.specs.Prelude.{◌≡◌, ℕ, ◌+◌, true, Some, List, [], ◌∷◌, map, slice_get, refl}
 use Rattle.std.proofs.Common.{suc, ◌∙◌, ap, sym, subst, arith, ⊎_elim}
 use Rattle.std.proofs.lemmas.Bool.{cases_order}
-use Rattle.cover.specs.Calculus.{Along}
-use Rattle.cover.specs.declared.span.Span.{Span}
+use Rattle.chart_model.specs.Calculus.{Along}
+use Rattle.chart_model.specs.declared.span.Span.{Span}
 use Rattle.chart_model.specs.At.{At, here, there, at_one, to_get, from_get}
 use Rattle.chart_model.specs.Chart.{Kind, OfLeaf, OfWhole, Chart, Row, all_free}
 use Rattle.chart_model.specs.Chart as model
 use Rattle.chart_model.specs.Classes.{Class, IsHost}
 use Rattle.chart_model.specs.Finished.{IsComplete}
 use Rattle.derivation.specs.Trees.{Derivation}
-use Rattle.rule_model.specs.Structures.{Structure}
-use Rattle.item_model.specs.Signs.{Signs}
-use Rattle.item_model.specs.Items.{Item, LeafTree, Limits, calculus, leaves_from, chart_limits}
+use Rattle.tree_model.specs.Structures.{Structure}
+use Rattle.tree_model.specs.Signs.{Signs}
+use Rattle.tree_model.specs.Items.{Item, LeafTree, Limits, calculus, leaves_from, chart_limits}
 use Rattle.packed_forests.specs.Makers.{IsOwnLeaf, IsOwnTuple}
 use Rattle.packed_forests.specs.Rows.{Counts, IsMadeBy, AreMakerRows, AreItsMakers}
 use Rattle.line_charts.specs.Charts.{Maker, by_tree, by_rule, compare_makers, IsMaker, AreMakers}

@@ -4,22 +4,22 @@ use Rattle.std.proofs.Common.{sym, subst, zero, suc, arith}
 use Rattle.std.proofs.lemmas.List.{length-map}
 use Rattle.std.proofs.lemmas.List.Elements.{All-nil, All-cons}
 use Rattle.std.proofs.lemmas.Option.{slice_get_within}
-use Rattle.cover.specs.Calculus.{Along, along_none, along_more}
-use Rattle.cover.specs.declared.span.Span.{Span}
+use Rattle.chart_model.specs.Calculus.{Along, along_none, along_more}
+use Rattle.chart_model.specs.declared.span.Span.{Span}
 use Rattle.type_hierarchy.specs.Table.{TypeTable, count_of}
 use Rattle.chart_model.specs.At.{At, here, there}
 use Rattle.chart_model.specs.Classes.{Class}
 use Rattle.derivation.specs.Trees.{Derivation, Daughters, lexical, phrase, no_more, first}
 use Rattle.derivation.specs.Text.{IsNamed, AreNamed}
-use Rattle.rule_model.specs.Structures.{Structure}
-use Rattle.rule_model.specs.Mothers.{Rule}
-use Rattle.item_model.specs.Signs.{Signs, placed_rules, place_at}
-use Rattle.item_model.specs.Lexical.{Words, FullUnder, under_next}
-use Rattle.item_model.specs.Trees.{Full, Fulls, full_lexical, full_phrase, more_fulls}
-use Rattle.item_model.specs.Items.{Item, LeafTree, AreLeaves, Limits}
-use Rattle.item_model.proofs.Places.{get_found, place_of}
-use Rattle.parse_items.specs.Lattices.{Lattice}
-use Rattle.parse_items.specs.Licensed.{parse_item}
+use Rattle.tree_model.specs.Structures.{Structure}
+use Rattle.tree_model.specs.Mothers.{Rule}
+use Rattle.tree_model.specs.Signs.{Signs, placed_rules, place_at}
+use Rattle.tree_model.specs.Lexical.{Words, FullUnder, under_next}
+use Rattle.tree_model.specs.Trees.{Full, Fulls, full_lexical, full_phrase, more_fulls}
+use Rattle.tree_model.specs.Items.{Item, LeafTree, AreLeaves, Limits}
+use Rattle.tree_model.proofs.Places.{get_found, place_of}
+use Rattle.tree_model.specs.Lattices.{Lattice}
+use Rattle.tree_model.specs.Licensed.{parse_item}
 use Rattle.line_charts.specs.Charts.{Maker, by_tree, by_rule, ToldClass, Keyed, IsMaker, IsTold}
 use Rattle.line_charts.specs.Answers.{ChartAnswer, LexicalDepth, ByUnaryChain, ByEdges, Forest, IsChartAnswer}
 use Rattle.line_charts.specs.Views.{IsMakerNamed, IsChartNamed}

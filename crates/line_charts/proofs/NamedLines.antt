@@ -5,8 +5,8 @@ use Rattle.std.proofs.lemmas.List.Elements.{All-cons}
 use Rattle.fs_model.specs.Claims.{Path, Has, here, there}
 use Rattle.fs_model.specs.Listing.{IsShown}
 use Rattle.fs_model.specs.Table.{walk}
-use Rattle.fs_paths.specs.Facts.{Line}
-use Rattle.fs_paths.specs.Text.{IsNamed, NamesPath}
+use Rattle.fs_graph.specs.Facts.{Line}
+use Rattle.fs_graph.specs.Text.{IsNamed, NamesPath}
 use Rattle.fs_graph.specs.declared.graph.GraphArc.{GraphArc}
 use Rattle.fs_graph.specs.GraphMap.{GraphMap, arc_to, arcs_at, table_of, reader_of, IsGraph}
 use Rattle.fs_graph.specs.PathLists.{IsPathList, IsLineOf}

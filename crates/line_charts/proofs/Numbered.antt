@@ -1,7 +1,7 @@
 -- The numbers of packed classes, by the rows of their hosts.
 use Rattle.std.specs.Prelude.{◌≡◌, ℕ, Some, List, map}
 use Rattle.std.proofs.Common.{◌∙◌, ap, sym, subst}
-use Rattle.cover.specs.Calculus.{Calculus, Along, along_none, along_more}
+use Rattle.chart_model.specs.Calculus.{Calculus, Along, along_none, along_more}
 use Rattle.chart_model.specs.At.{At, at_one}
 use Rattle.chart_model.specs.Chart.{Chart, Row, Leaf, Limits}
 use Rattle.chart_model.specs.Classes.{Class, IsHost}

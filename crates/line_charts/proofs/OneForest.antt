@@ -4,18 +4,18 @@ use Rattle.std.specs.declared.cmp.Ordering.TheVariants.{Less}
 use Rattle.std.proofs.Common.{refl, sym, ◌∙◌, ap, subst, suc, inl, inr}
 use Rattle.std.proofs.lemmas.Bool.{cases_order}
 use Rattle.std.proofs.lemmas.List.{length-map}
-use Rattle.cover.specs.Calculus.{Along, along_none, along_more}
-use Rattle.cover.specs.declared.span.Span.{Span}
+use Rattle.chart_model.specs.Calculus.{Along, along_none, along_more}
+use Rattle.chart_model.specs.declared.span.Span.{Span}
 use Rattle.type_hierarchy.specs.Table.{TypeTable}
 use Rattle.fs_model.specs.Claims.{IsOrder}
 use Rattle.chart_model.specs.At.{At}
 use Rattle.chart_model.specs.Classes.{Class}
 use Rattle.chart_model.specs.Limits.{IsLowClass, IsClassCount}
-use Rattle.rule_model.specs.Structures.{Structure}
-use Rattle.item_model.specs.Signs.{Signs}
-use Rattle.item_model.specs.Lexical.{Words}
-use Rattle.item_model.specs.Items.{Item, IsItem, LeafTree, AreLeaves, Limits, calculus, leaves_from, chart_limits}
-use Rattle.parse_items.specs.Lattices.{Lattice, Step}
+use Rattle.tree_model.specs.Structures.{Structure}
+use Rattle.tree_model.specs.Signs.{Signs}
+use Rattle.tree_model.specs.Lexical.{Words}
+use Rattle.tree_model.specs.Items.{Item, IsItem, LeafTree, AreLeaves, Limits, calculus, leaves_from, chart_limits}
+use Rattle.tree_model.specs.Lattices.{Lattice, Step}
 use Rattle.line_charts.specs.Keys.{compare_keys}
 use Rattle.line_charts.specs.Charts.{Keyed, classes_of, IsKeyed, ToldClass, IsTold, IsPackedForest}
 use Rattle.line_charts.specs.Unknown.{AreUnknown, unknown_none, unknown_passed, unknown_here}

@@ -3,19 +3,19 @@ use Rattle.std.specs.Prelude.{ℕ, ◌≡◌, ◌<◌, List, [], ◌∷◌, All,
 use Rattle.std.proofs.Common.{◌∙◌, refl, ap, sym, subst}
 use Rattle.std.proofs.lemmas.List.{get_or-map, length-map}
 use Rattle.std.proofs.lemmas.List.Elements.{All-map}
-use Rattle.cover.specs.Calculus.{Calculus, along_none, along_more}
+use Rattle.chart_model.specs.Calculus.{Calculus, along_none, along_more}
 use Rattle.chart_model.specs.Chart as model
 use Rattle.chart_core.specs.declared.Leaf.{Leaf}
 use Rattle.chart_core.specs.Leaves.{leaf_seen, LeafBelongs}
-use Rattle.cover.specs.declared.span.Span.{Span}
+use Rattle.chart_model.specs.declared.span.Span.{Span}
 use Rattle.chart_model.specs.At.{At}
 use Rattle.chart_model.specs.Limits.{LimitAnswer, IsLimitAnswer}
 use Rattle.derivation.specs.Trees.{Derivation}
 use Rattle.derivation.specs.Views.{derivation_of}
-use Rattle.rule_model.specs.Structures.{Structure}
-use Rattle.rule_model.specs.Mothers.{RuleSystem}
-use Rattle.item_model.specs.Signs.{Signs, rule_system}
-use Rattle.item_model.specs.Items.{LeafTree, leaves_from}
+use Rattle.tree_model.specs.Structures.{Structure}
+use Rattle.tree_model.specs.Mothers.{RuleSystem}
+use Rattle.tree_model.specs.Signs.{Signs, rule_system}
+use Rattle.tree_model.specs.Items.{LeafTree, leaves_from}
 use Rattle.book_signs.specs.Trees.{SignTree, signs_of}
 use Rattle.grammar_shapes.specs.declared.shapes.GrammarShapes.{GrammarShapes}
 use Rattle.grammar_shapes.specs.Shaped.{Shape}

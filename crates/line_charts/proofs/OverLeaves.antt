@@ -2,22 +2,22 @@
 use Rattle.std.specs.Prelude.{ℕ, ◌≡◌, ◌+◌, true, List}
 use Rattle.std.specs.declared.cmp.Ordering.TheVariants.{Less}
 use Rattle.std.proofs.Common.{sym, ◌∙◌, ap, subst, inl, inr}
-use Rattle.cover.specs.declared.span.Span.{Span}
+use Rattle.chart_model.specs.declared.span.Span.{Span}
 use Rattle.fs_model.specs.Claims.{IsOrder}
-use Rattle.cover.specs.Calculus.{Calculus}
+use Rattle.chart_model.specs.Calculus.{Calculus}
 use Rattle.chart_model.specs.At.{At, at_one}
 use Rattle.chart_model.specs.Chart as chart
 use Rattle.chart_model.specs.Classes.{Class, Member, of_leaf, of_rule, Members, no_members, more_members}
 use Rattle.chart_model.specs.Limits.{LimitAnswer, HasChain, IsLowClass, HasEdges, IsBroken, IsLeastBroken, IsLimitAnswer, UnaryChain, Edges, Within, IsClassCount}
 use Rattle.chart_model.proofs.Decided.{answers_are_one}
-use Rattle.rule_model.specs.Structures.{Structure}
-use Rattle.rule_model.specs.Mothers.{IsAbstract, Meant}
-use Rattle.rule_model.proofs.Closures.{closure_ends, kept_ends}
-use Rattle.item_model.specs.Signs.{Signs, rule_system}
-use Rattle.item_model.specs.Trees.{Full}
-use Rattle.item_model.specs.Items.{Item, IsItem, LeafTree, AreLeaves, Limits, calculus, leaves_from, chart_limits}
-use Rattle.item_model.proofs.Once.{one, one_structure}
-use Rattle.item_model.proofs.Places.{leaf_to, leaf_from}
+use Rattle.tree_model.specs.Structures.{Structure}
+use Rattle.tree_model.specs.Mothers.{IsAbstract, Meant}
+use Rattle.tree_model.proofs.Closures.{closure_ends, kept_ends}
+use Rattle.tree_model.specs.Signs.{Signs, rule_system}
+use Rattle.tree_model.specs.Trees.{Full}
+use Rattle.tree_model.specs.Items.{Item, IsItem, LeafTree, AreLeaves, Limits, calculus, leaves_from, chart_limits}
+use Rattle.tree_model.proofs.Once.{one, one_structure}
+use Rattle.tree_model.proofs.Places.{leaf_to, leaf_from}
 use Rattle.packed_forests.specs.Makers.{IsOwnLeaf, IsOwnTuple}
 use Rattle.line_charts.specs.Charts.{Maker, by_tree, by_rule, IsMaker, AreMakers, compare_makers}
 use Rattle.line_charts.proofs.MakerLaws.{makers_total}

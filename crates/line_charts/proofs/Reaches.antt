@@ -2,13 +2,13 @@
 use Rattle.std.proofs.Common.{ℕ, zero, suc, ◌≡◌, ◌<◌, ◌≤◌, ◌+◌, ◌⊎◌, inl, inr, Bool, true, false, ◌==◌, if◌then◌else◌, Option, Some, None, List, [], ◌∷◌, ◌++◌, length, map, take, drop, get_or, refl, sym, ◌∙◌, ap, subst, arith, length-append}
 use Rattle.std.proofs.lemmas.Bool.Decides.{Decides-eqb}
 use Rattle.std.specs.List.{filter_map, cons_option}
-use Rattle.word_lists.specs.Words.{Word, Has}
+use Rattle.lexicon.specs.Words.{Word, Has}
 use Rattle.chart_model.specs.At.{At}
 use Rattle.derivation.specs.Trees.{Derivation, lexical, phrase}
-use Rattle.item_model.specs.Signs.{Signs}
-use Rattle.item_model.specs.Lexical.{Words}
-use Rattle.parse_items.specs.Lattices as parse
-use Rattle.parse_items.specs.Licensed.{IsLeaf}
+use Rattle.tree_model.specs.Signs.{Signs}
+use Rattle.tree_model.specs.Lexical.{Words}
+use Rattle.tree_model.specs.Lattices as parse
+use Rattle.tree_model.specs.Licensed.{IsLeaf}
 use Rattle.morph_analysis.specs.Lattices.{StepTree, LatticeTree, Carries, stays, goes, HaveSame, IsValid}
 use Rattle.morph_analysis.proofs.Lists.{Each-at}
 use Rattle.morph_analysis.proofs.StepLemmas.{carries_same}

@@ -1,7 +1,7 @@
 -- The daughters of a row, and the rows of a slice.
 use Rattle.std.specs.Prelude.{◌≡◌, ℕ, ◌<◌, Option, Some, None, IfSome, All, List, length}
 use Rattle.std.proofs.Common.{suc, get_or, arith}
-use Rattle.cover.specs.Tuples.{on_list}
+use Rattle.chart_model.specs.Tuples.{on_list}
 use Rattle.chart_core.specs.declared.RowId.{RowId}
 use Rattle.chart_core.specs.declared.Daughters.{Daughters}
 use Rattle.chart_core.specs.View.{number_of, list_of}

@@ -2,7 +2,7 @@
 use Rattle.std.specs.Prelude.{◌≡◌, ℕ, ◌<◌, ◌≤◌, ◌+◌, Bool, true, false, List, [], ◌∷◌, if◌then◌else◌, length, map, slice_get, refl}
 use Rattle.std.proofs.Common.{zero, suc, arith, ⊎_elim}
 use Rattle.std.proofs.lemmas.Bool.{cases_order}
-use Rattle.item_model.specs.Signs.{Signs, Instance, is_phrase_rule, phrase_rules, placed_rules, place_at, rule_system}
+use Rattle.tree_model.specs.Signs.{Signs, Instance, is_phrase_rule, phrase_rules, placed_rules, place_at, rule_system}
 
 low : (p : ℕ) (is : List Instance) (n : ℕ) → n < length (phrase_rules p is) → p ≤ place_at (slice_get (phrase_rules p is) n)
 low p [] n h = absurd (omega (arith, h))

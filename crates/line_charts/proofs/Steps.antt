@@ -2,8 +2,8 @@
 use Rattle.std.specs.Prelude.{◌≡◌, ℕ, ◌+◌, ◌<◌, Option, Some, None, List, [], ◌∷◌, ◌++◌, length, map, slice_get, refl}
 use Rattle.std.proofs.Common.{◌∙◌, ap, sym, subst, take, get_or, append_assoc, append-nil}
 use Rattle.std.proofs.lemmas.List.{take_more, map-append}
-use Rattle.cover.specs.Calculus.{Along}
-use Rattle.cover.specs.Tuples.{on_list}
+use Rattle.chart_model.specs.Calculus.{Along}
+use Rattle.chart_model.specs.Tuples.{on_list}
 use Rattle.chart_core.specs.declared.Daughters.{Daughters}
 use Rattle.chart_core.specs.View.{number_of, one_of, list_of}
 use Rattle.line_charts.specs.Inner.Stages.{IsNumber}

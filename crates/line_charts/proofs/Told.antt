@@ -5,8 +5,8 @@ use Rattle.std.specs.List.Sorted.{IsSortedBy}
 use Rattle.std.specs.Ordering.{is_lt}
 use Rattle.std.specs.Option.{option_map}
 use Rattle.std.proofs.lemmas.List.Sorted.{All-permutation}
-use Rattle.cover.specs.Calculus.{Along}
-use Rattle.cover.specs.declared.span.Span.{Span}
+use Rattle.chart_model.specs.Calculus.{Along}
+use Rattle.chart_model.specs.declared.span.Span.{Span}
 use Rattle.chart_model.specs.At.{At, at_below, from_get}
 use Rattle.chart_model.specs.Chart.{Chart}
 use Rattle.chart_model.specs.Chart as model
@@ -21,14 +21,14 @@ use Rattle.fs_model.specs.Claims.{Path}
 use Rattle.fs_graph.specs.GraphMap.{reader_of}
 use Rattle.fs_unify.specs.Rules.{Grammar}
 use Rattle.fs_trim.specs.Cutting.{paths_in}
-use Rattle.rule_model.specs.Structures.{Structure}
-use Rattle.rule_model.specs.Mothers.{RuleSystem}
-use Rattle.rule_model.specs.Views.{view}
-use Rattle.item_model.specs.Signs.{rule_system}
-use Rattle.item_model.specs.Lexical.{Words}
-use Rattle.item_model.specs.Items.{LeafTree, leaves_from}
-use Rattle.parse_items.specs.Lattices.{Lattice}
-use Rattle.parse_items.specs.Licensed.{parse_item}
+use Rattle.tree_model.specs.Structures.{Structure}
+use Rattle.tree_model.specs.Mothers.{RuleSystem}
+use Rattle.tree_model.specs.Views.{view}
+use Rattle.tree_model.specs.Signs.{rule_system}
+use Rattle.tree_model.specs.Lexical.{Words}
+use Rattle.tree_model.specs.Items.{LeafTree, leaves_from}
+use Rattle.tree_model.specs.Lattices.{Lattice}
+use Rattle.tree_model.specs.Licensed.{parse_item}
 use Rattle.packed_items.specs.Answers.{limits_in}
 use Rattle.packed_forests.specs.declared.ClassRows.{ClassRows}
 use Rattle.packed_forests.specs.Rows.{AreMakerRows, makers_of}

@@ -6,7 +6,7 @@ use Rattle.std.proofs.lemmas.List.Elements.{contains_decides, Decides-contains, 
 use Rattle.std.proofs.lemmas.List.Sorted.{IsPermutation-sym, IsPermutation-map}
 use Rattle.std.specs.List.{IsAnyAnswer, filter_map, cons_option}
 use Rattle.std.specs.List.Sorted.{IsNonDecreasingBy, IsPermutation}
-use Rattle.word_lists.specs.Words.{Word, Has}
+use Rattle.lexicon.specs.Words.{Word, Has}
 use Rattle.morph_analysis.specs.Lattices.{StepTree, Carries, AreFronts}
 use Rattle.morph_analysis.proofs.ArrivalLemmas.{has_place, contains_has, has_contains, has_moved, same_get}
 use Rattle.morph_analysis.proofs.Lists.{all_taken, map_take_next}

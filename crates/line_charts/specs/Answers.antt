@@ -1,13 +1,13 @@
 -- The answer to a lattice whose packed forest is asked for.
 use Rattle.std.specs.Prelude.{ℕ, List}
-use Rattle.cover.specs.declared.span.Span.{Span}
+use Rattle.chart_model.specs.declared.span.Span.{Span}
 use Rattle.type_hierarchy.specs.Table.{TypeTable}
 use Rattle.chart_model.specs.Limits.{IsLimitAnswer, UnaryChain, Edges, Within}
-use Rattle.item_model.specs.Signs.{Signs}
-use Rattle.item_model.specs.Lexical.{Words}
-use Rattle.item_model.specs.Items.{LeafTree, AreLeaves, Limits, calculus, leaves_from, chart_limits}
-use Rattle.parse_items.specs.Lattices.{Lattice, Step}
-use Rattle.parse_items.specs.Licensed.{IsTooDeep, parse_item}
+use Rattle.tree_model.specs.Signs.{Signs}
+use Rattle.tree_model.specs.Lexical.{Words}
+use Rattle.tree_model.specs.Items.{LeafTree, AreLeaves, Limits, calculus, leaves_from, chart_limits}
+use Rattle.tree_model.specs.Lattices.{Lattice, Step}
+use Rattle.tree_model.specs.Licensed.{IsTooDeep, parse_item}
 use Rattle.line_charts.specs.Charts.{ToldClass, IsPackedForest}
 use Rattle.line_charts.specs.Unknown.{AreUnknown}
 

@@ -1,11 +1,11 @@
 -- What a chart over the leaves of a line gives: the limit that is broken, or the packed classes.
 use Rattle.std.specs.Prelude.{ℕ, ◌<◌, All, List, map}
-use Rattle.cover.specs.declared.span.Span.{Span}
+use Rattle.chart_model.specs.declared.span.Span.{Span}
 use Rattle.type_hierarchy.specs.Table.{TypeTable, count_of}
 use Rattle.chart_model.specs.Limits.{IsLimitAnswer, UnaryChain, Edges, Within}
-use Rattle.item_model.specs.Signs.{Signs}
-use Rattle.parse_items.specs.Lattices.{Step}
-use Rattle.item_model.specs.Items.{Item, LeafTree, Limits, calculus, leaves_from, chart_limits}
+use Rattle.tree_model.specs.Signs.{Signs}
+use Rattle.tree_model.specs.Lattices.{Step}
+use Rattle.tree_model.specs.Items.{Item, LeafTree, Limits, calculus, leaves_from, chart_limits}
 use Rattle.line_charts.specs.declared.forest.Charted.{Charted}
 use Rattle.line_charts.specs.declared.forest.Charted.TheVariants as charted
 use Rattle.line_charts.specs.Charts.{IsPackedForest}

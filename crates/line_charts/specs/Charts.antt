@@ -4,8 +4,8 @@ use Rattle.std.specs.Ordering.{ordering_then, nat_cmp}
 use Rattle.std.specs.Cmp.Lexicographic.{slice_cmp}
 use Rattle.std.specs.declared.cmp.Ordering.{Ordering}
 use Rattle.std.specs.declared.cmp.Ordering.TheVariants.{Less, Greater}
-use Rattle.cover.specs.Calculus.{Along}
-use Rattle.cover.specs.declared.span.Span.{Span}
+use Rattle.chart_model.specs.Calculus.{Along}
+use Rattle.chart_model.specs.declared.span.Span.{Span}
 use Rattle.type_hierarchy.specs.Table.{TypeTable}
 use Rattle.fs_graph.specs.GraphMap.{type_at}
 use Rattle.chart_model.specs.At.{At}
@@ -13,10 +13,10 @@ use Rattle.chart_model.specs.Classes.{Class}
 use Rattle.chart_model.specs.Limits.{IsLowClass}
 use Rattle.derivation.specs.Trees.{Derivation, lexical, phrase}
 use Rattle.derivation.specs.Order.{compare_trees, outermost}
-use Rattle.rule_model.specs.Structures.{Structure}
-use Rattle.item_model.specs.Signs.{Signs, placed_rules, place_at}
-use Rattle.item_model.specs.Trees.{IsRooted}
-use Rattle.item_model.specs.Items.{Item, LeafTree, Limits, calculus, leaves_from, chart_limits}
+use Rattle.tree_model.specs.Structures.{Structure}
+use Rattle.tree_model.specs.Signs.{Signs, placed_rules, place_at}
+use Rattle.tree_model.specs.Trees.{IsRooted}
+use Rattle.tree_model.specs.Items.{Item, LeafTree, Limits, calculus, leaves_from, chart_limits}
 use Rattle.packed_forests.specs.Makers.{IsOwnLeaf, IsOwnTuple}
 use Rattle.line_charts.specs.Keys.{Key, IsGraphOf, IsGraphText, compare_keys}
 

@@ -5,13 +5,13 @@ use Rattle.std.specs.Ordering.{nat_cmp, then_cmp, on}
 use Rattle.std.specs.declared.cmp.Ordering.{Ordering}
 use Rattle.type_hierarchy.specs.Table.{TypeTable}
 use Rattle.fs_model.specs.Claims.{Path}
-use Rattle.fs_paths.specs.Facts.{Line}
-use Rattle.fs_paths.specs.Text.{text_of}
+use Rattle.fs_graph.specs.Facts.{Line}
+use Rattle.fs_graph.specs.Text.{text_of}
 use Rattle.fs_graph.specs.declared.graph.GraphArc.{GraphArc}
 use Rattle.fs_graph.specs.GraphMap.{GraphMap, IsGraph, reader_of}
 use Rattle.fs_graph.specs.PathLists.{IsPathList}
-use Rattle.rule_model.specs.Structures.{Structure}
-use Rattle.rule_model.specs.Views.{view, IsInside}
+use Rattle.tree_model.specs.Structures.{Structure}
+use Rattle.tree_model.specs.Views.{view, IsInside}
 
 -- a graph is this structure: that which it has on the paths that may be, and no path goes further
 pub record IsGraphOf (paths : List Path) (m : Structure) (graph : GraphMap) : Type 0 where

@@ -3,10 +3,10 @@ use Rattle.std.specs.Prelude.{ℕ, ◌+◌, Bool, true, false, if◌then◌else�
 use Rattle.std.specs.Fmt.{decimal}
 use Rattle.std.specs.List.{flat_map}
 use Rattle.type_hierarchy.specs.Table.{TypeTable}
-use Rattle.fs_paths.specs.Text.{type_text}
+use Rattle.fs_graph.specs.Text.{type_text}
 use Rattle.derivation.specs.Text.{text_of, name_of}
 use Rattle.item_reports.specs.Reports.{item_line, refused_line}
-use Rattle.parse_items.specs.Lattices.{Step}
+use Rattle.tree_model.specs.Lattices.{Step}
 use Rattle.line_charts.specs.Charts.{Maker, by_tree, by_rule, ToldClass}
 use Rattle.line_charts.specs.Answers.{ChartAnswer, LexicalDepth, ByUnaryChain, ByEdges, Forest}
 

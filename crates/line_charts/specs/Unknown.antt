@@ -1,10 +1,10 @@
 -- The words of a lattice that no lexical tree covers.
 use Rattle.std.specs.Prelude.{ℕ, ◌≡◌, Some, List, [], ◌∷◌, ◌++◌}
 use Rattle.derivation.specs.Trees.{Derivation, lexical}
-use Rattle.item_model.specs.Signs.{Signs}
-use Rattle.item_model.specs.Lexical.{Word, Words}
-use Rattle.parse_items.specs.Lattices.{Lattice, Step, Carries}
-use Rattle.parse_items.specs.Licensed.{IsLeaf}
+use Rattle.tree_model.specs.Signs.{Signs}
+use Rattle.tree_model.specs.Lexical.{Word, Words}
+use Rattle.tree_model.specs.Lattices.{Lattice, Step, Carries}
+use Rattle.tree_model.specs.Licensed.{IsLeaf}
 
 -- some path that carries the words of a lexical tree from its first node to its last takes this step
 pub record Covers (lattice : Lattice) (t : Derivation) (s : Step) : Type 0 where

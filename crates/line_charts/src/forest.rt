@@ -3,12 +3,12 @@
 ghost use Rattle.std.specs.Prelude.{◌≡◌, ◌<◌, ℕ, List, All, length, map, string_bytes, IfOk};
 ghost use Rattle.chart_core.specs.Kept.{InRange, limits_seen};
 ghost use Rattle.chart_core.specs.Leaves.{LeafBelongs, leaf_seen};
-ghost use Rattle.cover.specs.declared.span.Span.{Span as SpanValue};
+ghost use Rattle.chart_model.specs.declared.span.Span.{Span as SpanValue};
 ghost use Rattle.type_hierarchy.specs.Table.{count_of};
-ghost use Rattle.item_model.specs.Lexical.{Words};
-ghost use Rattle.item_model.specs.Items.{LeafTree, leaves_from};
-ghost use Rattle.parse_items.specs.Lattices.{Lattice};
-ghost use Rattle.parse_items.specs.Licensed.{parse_item};
+ghost use Rattle.tree_model.specs.Lexical.{Words};
+ghost use Rattle.tree_model.specs.Items.{LeafTree, leaves_from};
+ghost use Rattle.tree_model.specs.Lattices.{Lattice};
+ghost use Rattle.tree_model.specs.Licensed.{parse_item};
 ghost use Rattle.book_signs.specs.Trees.{signs_of};
 ghost use Rattle.grammar_shapes.specs.Spanned.{span_calculus};
 ghost use Rattle.grammar_shapes.specs.Systems.{rules_of, meaning_of, Belongs};

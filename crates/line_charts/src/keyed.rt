@@ -10,7 +10,7 @@ use crate::NoMemory;
 use crate::hosts::Host;
 use crate::keys::{ClassKey, class_key};
 use chart_core::{Finished, RowId};
-use cover::{Shapes, Span};
+use chart_model::{Shapes, Span};
 use grammar_shapes::{GrammarShapes, Place};
 use packed_forests::ClassRows;
 use std::alloc::Global;

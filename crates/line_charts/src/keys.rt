@@ -10,8 +10,7 @@ ghost use Rattle.line_charts.specs.Keys.{IsGraphText, compare_arcs, compare_grap
 ghost use Rattle.line_charts.specs.Inner.Keyed.{key_seen};
 
 use crate::NoMemory;
-use fs_graph::{Graph, GraphArc, Node};
-use fs_paths::print;
+use fs_graph::{Graph, GraphArc, Node, print};
 use std::alloc::Global;
 use std::cmp::Ordering;
 use type_hierarchy::{Ty, Types};

@@ -16,12 +16,12 @@ mod telling;
 mod texts;
 mod unknown;
 
-ghost use Rattle.line_charts.specs.Laws.{ChartAnswersAreOne, ChartsMatchParses};
+ghost use Rattle.line_charts.specs.Laws.{ChartAnswersAreOne, ChartsMatchParses, UnknownAreOne};
 
 use derivation::Tree;
-pub use line::line_chart;
+pub use line::{line_chart, unknown_words};
 use morph_analysis::Step;
-use std::alloc::{AllocError, AllocFailed};
+pub use std::alloc::AllocError as NoMemory;
 pub use texts::{is_refused, lines_of_chart};
 use type_hierarchy::Ty;
 
@@ -61,39 +61,11 @@ pub enum ChartAnswer {
     },
 }
 
-/// Memory was wanting.
-#[derive(Debug, Drop, Clone, Copy, PartialEq, Eq)]
-pub struct NoMemory;
-
-impl From<AllocError> for NoMemory {
-    fn from(_error: AllocError) -> NoMemory {
-        NoMemory
-    }
-}
-
-impl<T: Drop> From<AllocFailed<T>> for NoMemory {
-    fn from(_error: AllocFailed<T>) -> NoMemory {
-        NoMemory
-    }
-}
-
-impl From<derivation::NoMemory> for NoMemory {
-    fn from(_error: derivation::NoMemory) -> NoMemory {
-        NoMemory
-    }
-}
-
-// (of words, lattices and report lines alike)
-impl From<morph_analysis::NoMemory> for NoMemory {
-    fn from(_error: morph_analysis::NoMemory) -> NoMemory {
-        NoMemory
-    }
-}
-
-/// Laws: a lattice has one such answer (`one`), and it goes with that of its trees (`parses`): both are refused by the same limit, where one of
+/// Laws: a lattice has one such answer (`one`) and one list of unknown words (`unknown`), and the answer goes with that of its trees (`parses`): both are refused by the same limit, where one of
 /// them is by a limit on lexical rules, unary chains or packed classes, and otherwise there are as many packed classes as are counted there.
 /// It does nothing.
 pub fn chart_laws()
     ensures one { ChartAnswersAreOne }
     ensures parses { ChartsMatchParses }
+    ensures unknown { UnknownAreOne }
 {}

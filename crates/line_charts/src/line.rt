@@ -1,15 +1,18 @@
 //! The packed forest of a line.
 
-ghost use Rattle.std.specs.Prelude.{◌≡◌, length, map, string_bytes, IfOk};
+ghost use Rattle.std.specs.Prelude.{◌≡◌, ℕ, length, map, string_bytes, IfOk};
 ghost use Rattle.chart_core.specs.Kept.{InRange};
 ghost use Rattle.morph_analysis.specs.Lattices.{IsValid};
 ghost use Rattle.morph_analysis.specs.LatticeViews.{lattice_of, step_of};
-ghost use Rattle.item_model.specs.Lexical.{Words};
-ghost use Rattle.book_signs.specs.Trees.{signs_of};
+ghost use Rattle.tree_model.specs.Lexical.{Words};
+ghost use Rattle.tree_model.specs.Licensed.{IsTooDeep};
+ghost use Rattle.book_signs.specs.Trees.{SignTree, signs_of};
+ghost use Rattle.grammar_shapes.specs.declared.shapes.GrammarShapes.{GrammarShapes};
 ghost use Rattle.packed_items.specs.Answers.{limits_in};
 ghost use Rattle.lexical_items.specs.Seen.{lattice_seen, step_seen};
 ghost use Rattle.grammar_rules.specs.Lines.{AreShapesOf};
 ghost use Rattle.grammar_rules.specs.LineLeaves.{AreLineLeaves};
+ghost use Rattle.line_charts.specs.Unknown.{AreUnknown};
 ghost use Rattle.line_charts.specs.Answers.{IsChartAnswer};
 ghost use Rattle.line_charts.specs.Charted.{answer_by};
 ghost use Rattle.line_charts.specs.Views.{chart_answer, IsChartNamed};
@@ -66,4 +69,22 @@ pub fn line_chart<'s>(
     let unknown = unknown_of(alloc, lattice, &trees)?;
     let found = chart_over(alloc, work, signs, shapes, feats, &trees, leaves, limits)?;
     Ok(answered(unknown, found))
+}
+
+/// The words of a lattice that no lexical tree covers, in the order of its steps, by the leaves of its chart. Where a lexical tree is too deep
+/// it gives none.
+pub fn unknown_words(
+    alloc: Global,
+    lattice: &Lattice,
+    leaves: &LineLeaves<'_>,
+) -> Result<Vec<Step>, NoMemory>
+    requires { IsValid (lattice_of lattice.now) }
+    ensures { IfOk result (λ us. (t : SignTree) (shapes : GrammarShapes) (words : Words) (most : ℕ) → AreLineLeaves t shapes words (lattice_of lattice.now) most leaves.now
+        → (IsTooDeep (signs_of t) words (lattice_seen (lattice_of lattice.now)) most → ⊥)
+        → AreUnknown (signs_of t) words (lattice_seen (lattice_of lattice.now)) most (lattice_seen (lattice_of lattice.now)).steps (map (λ s. step_seen (step_of s)) us.items)) }
+{
+    match leaves {
+        LineLeaves::LexicalDepth => Ok(Vec::new(alloc)),
+        LineLeaves::Leaves { trees, .. } => unknown_of(alloc, lattice, trees),
+    }
 }

@@ -3,11 +3,11 @@
 ghost use Rattle.std.specs.Prelude.{◌≡◌, ◌<◌, ◌++◌, All, IfOk, IfSome, IsPermutation, List, ℕ, OnOk, length, map};
 ghost use Rattle.std.specs.List.Sorted.{IsSortedBy};
 ghost use Rattle.std.specs.Ordering.{is_lt};
-ghost use Rattle.cover.specs.Calculus.{Along};
+ghost use Rattle.chart_model.specs.Calculus.{Along};
 ghost use Rattle.chart_model.specs.Chart.{OfLeaf};
 ghost use Rattle.chart_core.specs.Kept.{core_of, rows_in};
 ghost use Rattle.chart_core.specs.View.{kind_of, list_of, one_of};
-ghost use Rattle.item_model.specs.Signs.{rule_system};
+ghost use Rattle.tree_model.specs.Signs.{rule_system};
 ghost use Rattle.book_signs.specs.Trees.{signs_of};
 ghost use Rattle.line_charts.specs.Charts.{compare_makers};
 ghost use Rattle.line_charts.specs.Views.{maker_of};
@@ -18,7 +18,7 @@ use crate::makers::compare_makers;
 use crate::{Maker, NoMemory};
 use book_signs::SignBook;
 use chart_core::{Daughters, Finished, Row, RowId, RowKind};
-use cover::Shapes;
+use chart_model::Shapes;
 use lexical_items::LexTree;
 use std::alloc::Global;
 

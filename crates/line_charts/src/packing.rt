@@ -7,7 +7,7 @@ ghost use Rattle.chart_core.specs.Passed.{IsPassFault};
 ghost use Rattle.line_charts.specs.Inner.Hosts.{IsPackedChart};
 
 use chart_core::{ChartFault, Finished, Leaf, Limits, ordered_pass};
-use cover::Shapes;
+use chart_model::Shapes;
 use packed_forests::{ClassRows, class_rows, forest_laws};
 use std::alloc::Global;
 

@@ -1,7 +1,7 @@
 //! Whether some root unifies with an abstract structure.
 
 ghost use Rattle.std.specs.Prelude.{◌↔◌, ◌<◌, length, IfOk, IsTrue};
-ghost use Rattle.item_model.specs.Trees.{IsRooted};
+ghost use Rattle.tree_model.specs.Trees.{IsRooted};
 ghost use Rattle.book_signs.specs.Trees.{signs_of};
 ghost use Rattle.rule_trees.specs.Mothers.{IsShortIn, view_in};
 ghost use Rattle.rule_trees.specs.Inner.Rooting.{IsRootedBy};

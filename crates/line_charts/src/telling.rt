@@ -2,9 +2,9 @@
 
 ghost use Rattle.std.specs.Prelude.{◌≡◌, ◌<◌, All, IfOk, length, map};
 ghost use Rattle.type_hierarchy.specs.Table.{count_of};
-ghost use Rattle.cover.specs.Calculus.{Along};
+ghost use Rattle.chart_model.specs.Calculus.{Along};
 ghost use Rattle.chart_core.specs.Kept.{core_of, rows_in};
-ghost use Rattle.item_model.specs.Signs.{rule_system};
+ghost use Rattle.tree_model.specs.Signs.{rule_system};
 ghost use Rattle.book_signs.specs.Trees.{signs_of};
 ghost use Rattle.rule_trees.specs.Mothers.{IsShortIn};
 ghost use Rattle.line_charts.specs.Views.{class_of};
@@ -16,7 +16,7 @@ use crate::rooted::is_rooted;
 use crate::{NoMemory, ToldClass};
 use book_signs::SignBook;
 use chart_core::Finished;
-use cover::Shapes;
+use chart_model::Shapes;
 use fs_graph::Node;
 use fs_unify::Scratch;
 use lexical_items::LexTree;

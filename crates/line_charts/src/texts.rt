@@ -5,7 +5,7 @@ ghost use Rattle.std.specs.Fmt.{decimal};
 ghost use Rattle.std.specs.List.{flat_map};
 ghost use Rattle.type_hierarchy.specs.Table.{count_of};
 ghost use Rattle.derivation.specs.Text.{name_of};
-ghost use Rattle.fs_paths.specs.Text.{escaped, type_text};
+ghost use Rattle.fs_graph.specs.Text.{escaped, type_text};
 ghost use Rattle.morph_analysis.specs.LatticeViews.{step_of};
 ghost use Rattle.lexical_items.specs.Seen.{step_seen};
 ghost use Rattle.item_reports.specs.Reports.{item_line};

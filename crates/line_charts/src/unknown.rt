@@ -2,12 +2,12 @@
 
 ghost use Rattle.std.specs.Prelude.{◌≡◌, ◌↔◌, ◌<◌, ◌+◌, ℕ, IsTrue, length, map, take, drop, string_bytes, option_map, IfOk};
 ghost use Rattle.std.specs.List.Sorted.{IsNonDecreasingBy};
-ghost use Rattle.item_model.specs.Signs.{Signs};
-ghost use Rattle.item_model.specs.Lexical.{Words};
+ghost use Rattle.tree_model.specs.Signs.{Signs};
+ghost use Rattle.tree_model.specs.Lexical.{Words};
 ghost use Rattle.derivation.specs.Views.{derivation_of};
 ghost use Rattle.morph_analysis.specs.Lattices.{Carries, IsValid};
 ghost use Rattle.morph_analysis.specs.LatticeViews.{lattice_of, step_of};
-ghost use Rattle.rule_model.specs.Structures.{Structure};
+ghost use Rattle.tree_model.specs.Structures.{Structure};
 ghost use Rattle.lexical_items.specs.Listed.{AreLexemes};
 ghost use Rattle.lexical_items.specs.Seen.{lattice_seen, step_seen};
 ghost use Rattle.lexical_items.specs.Views.{lexeme_seen};

@@ -5,8 +5,8 @@ use Rattle.endings.specs.Reports.{AreAnswers}
 use Rattle.type_hierarchy.specs.Decls.{texts}
 use Rattle.type_hierarchy.specs.Table.{TypeTable}
 use Rattle.fs_unify.specs.Rules.{Grammar}
-use Rattle.rule_model.specs.Said.{SameViews}
-use Rattle.item_model.specs.Items.{Limits}
+use Rattle.tree_model.specs.Said.{SameViews}
+use Rattle.tree_model.specs.Items.{Limits}
 use Rattle.grammar_load.specs.Loaded.{GrammarTree}
 use Rattle.line_charts.specs.Laws.{ChartAnswersAreOne}
 use Rattle.engine.specs.Speeches.{Speech}
@@ -30,9 +30,9 @@ module _ (limits : Limits) (lexical : ℕ) (writes : Bool) where
       (subst (λ (t : TypeTable). AreAnswers (IsChartLine t (texts g.book.feats.items) s limits lexical writes) 1 lines pieces refused) types a)
 
   pub chart-laws : OneGrammar → OneFault → NotBoth → Calm → SameViews → OneSigns → OneLattice → OneWrong → Apart → ChartAnswersAreOne
-      → (name : List ℕ) (settings : Option (List ℕ)) → Lawful (chart_meaning name settings limits lexical writes)
-  chart-laws one fault both calm views signs lattices wrongs apart answers name settings =
+      → (name : List ℕ) (settings : Option (List ℕ)) (verbose : Bool) → Lawful (chart_meaning name settings verbose limits lexical writes)
+  chart-laws one fault both calm views signs lattices wrongs apart answers name settings verbose =
       line-laws one fault both calm views signs answers_of carried (λ g s order n.
       let types = g.book.system.types in
       let feats = texts g.book.feats.items in
-      one-line lattices wrongs apart writes (IsForestReport types feats s limits lexical writes n) (one-forest answers types feats s order limits lexical writes n) n) name settings
+      one-line lattices wrongs apart writes (IsForestReport types feats s limits lexical writes n) (one-forest answers types feats s order limits lexical writes n) n) name settings verbose

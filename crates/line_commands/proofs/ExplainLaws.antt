@@ -5,8 +5,8 @@ use Rattle.endings.specs.Reports.{AreAnswers}
 use Rattle.type_hierarchy.specs.Decls.{texts}
 use Rattle.type_hierarchy.specs.Table.{TypeTable}
 use Rattle.fs_unify.specs.Rules.{Grammar}
-use Rattle.rule_model.specs.Said.{SameViews}
-use Rattle.grammar_reading.specs.Reads.{ReadTree}
+use Rattle.tree_model.specs.Said.{SameViews}
+use Rattle.grammar_files.specs.Reads.{ReadTree}
 use Rattle.grammar_load.specs.Loaded.{GrammarTree, IsGrammarOf}
 use Rattle.grammar_load.specs.Loads.{Makes, makes, loads}
 use Rattle.grammar_load.specs.Conditions.{IsLoaded}
@@ -18,7 +18,7 @@ use Rattle.tree_faults.specs.Laws.{ExplainedAreOne}
 use Rattle.tree_names.specs.TreeGrammars.{tree_grammar}
 use Rattle.tree_names.proofs.Apart.{named_well, named_apart}
 use Rattle.mrs_lines.specs.Laws.{MrsLinesAreOne}
-use Rattle.command_grammars.specs.Grammars.{never, HasGrammar}
+use Rattle.command_files.specs.Grammars.{never, HasGrammar}
 use Rattle.engine.specs.Speeches.{Speech, IsSpeechOf}
 use Rattle.engine.proofs.Speeches.{OneSigns, speech-ordered}
 use Rattle.engine.proofs.GrammarLaws.{OneGrammar, OneFault, NotBoth, Calm}
@@ -56,8 +56,8 @@ module _ (mrs : Bool) where
       (subst (λ (t : TypeTable). AreAnswers (IsExplainLine t (texts g.book.feats.items) s mrs) 1 lines pieces refused) types a)
 
   pub explain-laws : OneGrammar → OneFault → NotBoth → Calm → SameViews → OneSigns → LoadedAreNamed → OneTree → TreeOrFault → OneTreeFault → ExplainedAreOne → MrsLinesAreOne
-      → (name : List ℕ) (settings : Option (List ℕ)) → Lawful (explain_meaning name settings mrs)
-  explain-laws one fault both calm views signs named trees apart faults explanations mrss name settings =
-      line-laws-of one fault both calm views signs answers_of carried name settings (λ files g s has is n.
+      → (name : List ℕ) (settings : Option (List ℕ)) (verbose : Bool) → Lawful (explain_meaning name settings verbose mrs)
+  explain-laws one fault both calm views signs named trees apart faults explanations mrss name settings verbose =
+      line-laws-of one fault both calm views signs answers_of carried name settings verbose (λ files g s has is n.
       let are = names-of g s (is-loaded files name settings g has) (named files name settings g has) is in
       one-explained mrss s (speech-ordered files name settings g s has is) trees apart faults explanations are.0 are.1 g.book.system.types (texts g.book.feats.items) mrs n)

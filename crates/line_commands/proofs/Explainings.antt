@@ -3,8 +3,8 @@ use Rattle.std.proofs.Common.{ℕ, ◌≡◌, ◌∷◌, [], ◌&&◌, List, Boo
 use Rattle.std.specs.Prelude.{not}
 use Rattle.constraint_expand.specs.declared.books.Book.{Book}
 use Rattle.derivation.specs.Trees.{Derivation}
-use Rattle.rule_model.specs.Structures.{Structure}
-use Rattle.item_model.specs.Trees.{Full}
+use Rattle.tree_model.specs.Structures.{Structure}
+use Rattle.tree_model.specs.Trees.{Full}
 use Rattle.book_signs.specs.Trees.{signs_of}
 use Rattle.tree_faults.specs.Explained.{Explained, Licensed, Clashes, GoesTooFar, Misspelled, Unrooted}
 use Rattle.tree_faults.specs.Views.{IsExplainedNamed}
@@ -13,12 +13,11 @@ use Rattle.tree_faults.specs.Texts.{is_refused, no_tree_line}
 use Rattle.tree_faults.specs.Lines.{NoTree, Tree, IsNoTree, no_tree, a_tree}
 use Rattle.tree_reading.specs.Texts.{IsTreeOf}
 use Rattle.mrs_lines.specs.Lines.{IsMrsLine}
-use Rattle.engine.specs.declared.lent.Engine.{Engine}
 use Rattle.engine.specs.Ready.{IsReady}
 use Rattle.engine.specs.Speeches.{Speech}
 use Rattle.engine.specs.Views.{speech_of}
 use Rattle.line_commands.specs.Explaining.{IsFollowedBy}
-use Rattle.line_commands.specs.Inner.Explainers.{IsReadyToExplain, IsToldOf, HasNames, AreLinesOf, IsReportOn, IsLineOf}
+use Rattle.line_commands.specs.Inner.Explainers.{IsReadyToExplain, IsToldOf, HasNames, IsReportOn, IsLineOf}
 use Rattle.line_commands.specs.declared.explainer.Explainer.{Explainer}
 
 -- types, features and instances have names

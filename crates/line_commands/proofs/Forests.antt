@@ -3,9 +3,9 @@ use Rattle.std.proofs.Common.{ℕ, ◌≡◌, List, length, map, string_bytes, s
 use Rattle.std.specs.Prelude.{String}
 use Rattle.std.specs.Global.{Global}
 use Rattle.constraint_expand.specs.declared.books.Book.{Book}
-use Rattle.item_model.specs.Lexical.{Words}
-use Rattle.item_model.specs.Items.{Limits}
-use Rattle.parse_items.specs.Lattices.{Lattice}
+use Rattle.tree_model.specs.Lexical.{Words}
+use Rattle.tree_model.specs.Items.{Limits}
+use Rattle.tree_model.specs.Lattices.{Lattice}
 use Rattle.book_signs.specs.Trees.{signs_of}
 use Rattle.line_charts.specs.Answers.{ChartAnswer, IsChartAnswer}
 use Rattle.line_charts.specs.Views.{IsChartNamed}

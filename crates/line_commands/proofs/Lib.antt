@@ -2,6 +2,7 @@ pub mod OneLine
 pub mod OneTrees
 pub mod OneForest
 pub mod LineLaws
+pub mod Noting
 pub mod ParseLaws
 pub mod ChartLaws
 pub mod Answered

@@ -1,6 +1,6 @@
 -- The lines of an answer with MRSs, by names that are the speech's.
 use Rattle.std.proofs.Common.{ℕ, ◌≡◌, Bool, true, List, sym, subst}
-use Rattle.item_model.specs.Items.{Answer}
+use Rattle.tree_model.specs.Items.{Answer}
 use Rattle.mrs_lines.specs.Lines.{AreAnswerLines}
 use Rattle.engine.specs.Speeches.{Speech}
 use Rattle.line_commands.specs.Answers.{AreLinesOf}

@@ -1,16 +1,16 @@
 -- What is told of a line is one.
-use Rattle.std.proofs.Common.{ℕ, ◌≡◌, ◌∷◌, [], List, Bool, true, false, refl, sym, ◌∙◌, ap, subst}
+use Rattle.std.proofs.Common.{ℕ, ◌≡◌, ◌∷◌, [], List, Bool, true, false, sym, ◌∙◌, ap, subst}
 use Rattle.std.specs.Prelude.{take}
 use Rattle.std.specs.Str.{IsUtf8, IsValidUpTo}
 use Rattle.std.proofs.lemmas.Str.{utf8_valid_len-IsValidUpTo}
 use Rattle.fs_model.specs.Claims.{IsOrder}
 use Rattle.type_hierarchy.specs.Table.{TypeTable}
 use Rattle.derivation.specs.Trees.{Derivation}
-use Rattle.item_model.specs.Signs.{Signs}
-use Rattle.item_model.specs.Lexical.{Words}
+use Rattle.tree_model.specs.Signs.{Signs}
+use Rattle.tree_model.specs.Lexical.{Words}
 use Rattle.tree_reading.specs.Grammars.{TreeGrammar, IsNamedWell, IsNamedApart}
 use Rattle.tree_reading.specs.Texts.{IsTreeOf, IsFirstFault, Writes}
-use Rattle.tree_faults.specs.Explained.{Explained, Licensed, Clashes, GoesTooFar, Misspelled, Unrooted, IsExplained}
+use Rattle.tree_faults.specs.Explained.{Licensed, Clashes, GoesTooFar, Misspelled, Unrooted, IsExplained}
 use Rattle.tree_faults.specs.Laws.{ExplainedAreOne}
 use Rattle.tree_faults.specs.Lines.{LineExplained, NoTree, Tree, IsNoTree, in_text, in_front, after_tree, IsLineExplained, no_tree, a_tree, line_text, is_refused}
 use Rattle.tree_names.specs.TreeGrammars.{tree_grammar}

@@ -2,7 +2,7 @@
 use Rattle.std.proofs.Common.{ℕ, ◌≡◌, List, Bool, sym, ◌∙◌, ap}
 use Rattle.type_hierarchy.specs.Table.{TypeTable}
 use Rattle.fs_model.specs.Claims.{IsOrder}
-use Rattle.item_model.specs.Items.{Limits}
+use Rattle.tree_model.specs.Items.{Limits}
 use Rattle.morph_analysis.specs.Lattices.{LatticeTree}
 use Rattle.lexical_items.specs.Seen.{lattice_seen}
 use Rattle.line_charts.specs.Laws.{ChartAnswersAreOne}

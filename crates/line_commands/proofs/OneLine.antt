@@ -16,11 +16,11 @@ abbrev pub Apart : Type 0
 Apart = (line : List ℕ) (l : LatticeTree) (at : ℕ) → IsLineOf line l → IsFirstWrong line at → ⊥
 
 module _ (lattices : OneLattice) (wrongs : OneWrong) (apart : Apart) where
-  one-lattice : (writes : Bool) (cs : List ℕ) (l m : LatticeTree) → IsLatticeOf writes cs l → IsLatticeOf writes cs m → l ≡ m
+  pub one-lattice : (writes : Bool) (cs : List ℕ) (l m : LatticeTree) → IsLatticeOf writes cs l → IsLatticeOf writes cs m → l ≡ m
   one-lattice false cs l m p q = p ∙ sym q
   one-lattice true cs l m p q = lattices cs l m p q
 
-  not-wrong : (writes : Bool) (cs : List ℕ) (l : LatticeTree) (at : ℕ) → writes ≡ true → IsLatticeOf writes cs l → IsFirstWrong cs at → ⊥
+  pub not-wrong : (writes : Bool) (cs : List ℕ) (l : LatticeTree) (at : ℕ) → writes ≡ true → IsLatticeOf writes cs l → IsFirstWrong cs at → ⊥
   not-wrong false cs l at e p q = cc
   not-wrong true cs l at e p q = apart cs l at p q
 

@@ -1,11 +1,11 @@
 -- A lattice has one report of its trees.
 use Rattle.std.proofs.Common.{ℕ, ◌≡◌, List, Bool, true, false, sym, ◌∙◌, ap, subst}
 use Rattle.fs_model.specs.Claims.{IsOrder}
-use Rattle.parse_items.specs.Answers.{ParseAnswersAreOne}
+use Rattle.tree_model.specs.Answers.{ParseAnswersAreOne}
 use Rattle.morph_analysis.specs.Lattices.{LatticeTree}
 use Rattle.lexical_items.specs.Seen.{lattice_seen}
 use Rattle.item_reports.specs.Reports.{is_refused}
-use Rattle.item_model.specs.Items.{Answer}
+use Rattle.tree_model.specs.Items.{Answer}
 use Rattle.mrs_lines.specs.Laws.{LinesAreOne}
 use Rattle.engine.specs.Speeches.{Speech}
 use Rattle.line_commands.specs.Answers.{Asked, AreLinesOf, IsTreesReport}

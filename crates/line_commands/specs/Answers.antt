@@ -1,7 +1,7 @@
 -- The answer to a line that is parsed: the trees that a grammar licenses for it, or the limit that it breaks.
 use Rattle.std.specs.Prelude.{ℕ, ◌≡◌, Bool, true, false, List}
-use Rattle.item_model.specs.Items.{Limits, Answer}
-use Rattle.parse_items.specs.Answers.{IsParseAnswer}
+use Rattle.tree_model.specs.Items.{Limits, Answer}
+use Rattle.tree_model.specs.Answers.{IsParseAnswer}
 use Rattle.morph_analysis.specs.Lattices.{LatticeTree}
 use Rattle.lexical_items.specs.Seen.{lattice_seen}
 use Rattle.mrs_lines.specs.Lines.{AreAnswerLines}

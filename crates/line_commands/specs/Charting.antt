@@ -2,7 +2,7 @@
 use Rattle.std.specs.Prelude.{ℕ, ◌≡◌, Bool, List, Option}
 use Rattle.type_hierarchy.specs.Decls.{texts}
 use Rattle.type_hierarchy.specs.Table.{TypeTable}
-use Rattle.item_model.specs.Items.{Limits}
+use Rattle.tree_model.specs.Items.{Limits}
 use Rattle.morph_analysis.specs.Lattices.{LatticeTree}
 use Rattle.lexical_items.specs.Seen.{lattice_seen}
 use Rattle.line_charts.specs.Answers.{ChartAnswer, IsChartAnswer}
@@ -26,6 +26,6 @@ module _ (types : TypeTable) (feats : List (List ℕ)) (speech : Speech) (limits
   IsChartLine number = IsLineAnswer writes (IsForestReport number) number
 
 -- `chart`: the packed forests of the lines, one after the other
-abbrev pub chart_meaning : List ℕ → Option (List ℕ) → Limits → ℕ → Bool → Meaning
-chart_meaning name settings limits lexical lattice =
-    lines_meaning (λ g speech. IsChartLine g.book.system.types (texts g.book.feats.items) speech limits lexical lattice) name settings
+abbrev pub chart_meaning : List ℕ → Option (List ℕ) → Bool → Limits → ℕ → Bool → Meaning
+chart_meaning name settings verbose limits lexical lattice =
+    lines_meaning (λ g speech. IsChartLine g.book.system.types (texts g.book.feats.items) speech limits lexical lattice) name settings verbose

@@ -28,5 +28,5 @@ module _ (types : TypeTable) (feats : List (List ℕ)) (speech : Speech) (mrs : 
     pub refused_is : refused ≡ is_refused explained
 
 -- `explain`: what is told of the lines, one after the other
-abbrev pub explain_meaning : List ℕ → Option (List ℕ) → Bool → Meaning
-explain_meaning name settings mrs = lines_meaning (λ g speech. IsExplainLine g.book.system.types (texts g.book.feats.items) speech mrs) name settings
+abbrev pub explain_meaning : List ℕ → Option (List ℕ) → Bool → Bool → Meaning
+explain_meaning name settings verbose mrs = lines_meaning (λ g speech. IsExplainLine g.book.system.types (texts g.book.feats.items) speech mrs) name settings verbose

@@ -1,5 +1,6 @@
 pub mod Lines
 pub mod Answers
+pub mod Notes
 pub mod Parsing
 pub mod Charting
 pub mod Explaining

@@ -5,9 +5,9 @@ use Rattle.morph_analysis.specs.Lattices.{LatticeTree}
 use Rattle.morph_analysis.specs.LatticeLines.{IsLineOf, IsFirstWrong}
 use Rattle.item_reports.specs.Reports.{no_text_line, no_lattice_line}
 use Rattle.grammar_load.specs.Loaded.{GrammarTree}
-use Rattle.endings.specs.Meanings.{Meaning}
+use Rattle.endings.specs.Meanings.{Meaning, no_notes}
 use Rattle.endings.specs.Reports.{AreAnswers, OrNoMemory}
-use Rattle.command_grammars.specs.Grammars.{HasGrammar, IsFirstFault}
+use Rattle.command_files.specs.Grammars.{HasGrammar, IsFirstFault}
 use Rattle.engine.specs.Speeches.{Speech, IsSpeechOf, lattice_of_words}
 
 -- the lattice of a line: that of its words, or the one that it writes
@@ -27,13 +27,15 @@ pub data IsLineAnswer (writes : Bool) (reports : LatticeTree → List (List ℕ)
 abbrev pub LineAnswers : Type 1
 LineAnswers = ℕ → List ℕ → List (List ℕ) → Bool → Type 0
 
--- A command over lines: the answers to them by the grammar of some files, one after the other.
-abbrev pub lines_meaning : (GrammarTree → Speech → LineAnswers) → List ℕ → Option (List ℕ) → Meaning
-lines_meaning answers name settings = record {
+-- A command over lines: the answers to them by the grammar of some files, one after the other, and no notes. `verbose` says whether
+-- more is told of a fault of the files.
+abbrev pub lines_meaning : (GrammarTree → Speech → LineAnswers) → List ℕ → Option (List ℕ) → Bool → Meaning
+lines_meaning answers name settings verbose = record {
   opens = true;
   reads = true;
   loadable = λ files. (g : GrammarTree) × HasGrammar files name settings g;
-  first = IsFirstFault name settings;
+  first = IsFirstFault name settings verbose;
   report = λ files lines pieces refused. (g : GrammarTree) × (speech : Speech) × HasGrammar files name settings g × IsSpeechOf g speech × AreAnswers (answers g speech) 1 lines pieces refused;
   with_gaps = λ files lines pieces wanting. (g : GrammarTree) × (speech : Speech) × HasGrammar files name settings g × IsSpeechOf g speech × AreAnswers (OrNoMemory (answers g speech)) 1 lines pieces wanting;
+  notes = no_notes;
 }

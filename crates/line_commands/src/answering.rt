@@ -3,15 +3,17 @@
 ghost use Rattle.chart_core.specs.Kept.{InRange};
 
 use crate::NoMemory;
-use crate::lattices::lattice_of_line;
+use crate::lattices::{NoLattice, lattice_of_line};
+use crate::notes::{has_no_tree, note_line};
 use crate::reports::{report_of, report_of_no_lattice, report_with_mrs};
 use chart_core::Limits;
-use endings::lines::{Answers, Share};
+use endings::lines::{Answer, Answers, Share};
 use endings::pieces::Report;
 use engine::Engine;
-use engine::desks::Desks;
+use engine::desks::{Desk, Desks};
 use fs_unify::Scratch;
 use grammar_rules::ItemAnswer;
+use line_charts::unknown_words;
 use morph_analysis::Lattice;
 use mrs_lines::TreeLines;
 use std::alloc::Global;
@@ -28,23 +30,30 @@ pub(crate) struct Parser<'e, 'r, 'k> {
     pub(crate) lattice: bool,
     // whether each tree is followed by its MRS
     pub(crate) mrs: bool,
+    // whether the unknown words of lines without a tree are noted
+    pub(crate) verbose: bool,
     // what lines are worked out with
     pub(crate) desks: Desks,
     ghost in_range: { InRange limits },
 }
 
 impl Parser<'_, '_, '_> {
-    ghost use Rattle.std.specs.Prelude.{length, map, IfOk, ◌≡◌};
+    ghost use Rattle.std.specs.Prelude.{◌≡◌, ◌&&◌, ℕ, List, length, map, IfOk};
     ghost use Rattle.std.specs.Thread.{IsSync};
     ghost use Rattle.morph_analysis.specs.Lattices.{IsValid};
     ghost use Rattle.morph_analysis.specs.LatticeViews.{lattice_of};
+    ghost use Rattle.lexical_items.specs.Seen.{lattice_seen};
+    ghost use Rattle.tree_model.specs.Answers.{IsParseAnswer};
+    ghost use Rattle.packed_items.specs.Answers.{limits_in};
     ghost use Rattle.grammar_rules.specs.Views.{item_answer};
     ghost use Rattle.item_reports.specs.Reports.{is_refused};
     ghost use Rattle.engine.specs.Named.{AreNamed, AreFull};
     ghost use Rattle.engine.specs.Ready.{IsReady};
     ghost use Rattle.engine.specs.Views.{speech_of};
     ghost use Rattle.line_commands.specs.Answers.{AreLinesOf, IsAnswer};
-    ghost use Rattle.line_commands.specs.Inner.Parsers.{asked_of, IsReportOf};
+    ghost use Rattle.line_commands.specs.Inner.Lattices.{HasNoLattice};
+    ghost use Rattle.line_commands.specs.Notes.{IsNote, has_no_tree};
+    ghost use Rattle.line_commands.specs.Inner.Parsers.{asked_of, IsReportOf, IsNoteOf};
 
     // The report on an answer, whose trees have full structures and names.
     fn reported(
@@ -73,7 +82,39 @@ impl Parser<'_, '_, '_> {
         report_with_mrs(alloc, work, number, answer, lines)
     }
 
-    // The report on the lattice of the line of this number.
+    // Whether there is something to note of an answer.
+    fn notes(&self, answer: &ItemAnswer) -> bool
+        ensures { result ≡ (self.now.verbose && has_no_tree (item_answer answer.now)) }
+    {
+        self.verbose && has_no_tree(answer)
+    }
+
+    // The note on a lattice, by its answer. The leaves are asked for once more: most of what is known of them is remembered, and few lines
+    // have no tree.
+    fn noted(
+        &self,
+        alloc: Global,
+        desk: &mut Desk,
+        number: u64,
+        lattice: &Lattice,
+        answer: &ItemAnswer,
+    ) -> Result<Vec<u8>, NoMemory>
+        requires ready { IsReady self.now.engine }
+        requires valid { IsValid (lattice_of lattice.now) }
+        requires answer { IsParseAnswer (speech_of self.now.engine).signs (speech_of self.now.engine).words (lattice_seen (lattice_of lattice.now)) self.now.limits.lexical (limits_in self.now.limits) (item_answer answer.now) }
+        ensures { IfOk result (λ note. IsNoteOf self.now number (lattice_of lattice.now) note.items) }
+    {
+        if !self.notes(answer) {
+            return Ok(Vec::new(alloc));
+        }
+        let leaves = self
+            .engine
+            .leaves(alloc, desk, lattice, self.limits.lexical)?;
+        let steps = unknown_words(alloc, lattice, &leaves)?;
+        note_line(alloc, number, &steps)
+    }
+
+    // The answer to the lattice of the line of this number.
     fn parsed<Rt: Threads + Wait + Sync>(
         &self,
         rt: &Rt,
@@ -82,23 +123,44 @@ impl Parser<'_, '_, '_> {
         lattice: &Lattice,
         share: Share,
         gate: &dyn Gate,
-    ) -> Result<Report, NoMemory>
+    ) -> Result<Answer, NoMemory>
         requires sync { IsSync Rt.row }
         requires ready { IsReady self.now.engine }
         requires valid { IsValid (lattice_of lattice.now) }
-        ensures { IfOk result (λ r. IsReportOf self.now number (lattice_of lattice.now) (map (λ l. l.items) r.lines.items) r.refused) }
+        ensures report { IfOk result (λ a. IsReportOf self.now number (lattice_of lattice.now) (map (λ l. l.items) a.report.lines.items) a.report.refused) }
+        ensures note { IfOk result (λ a. IsNoteOf self.now number (lattice_of lattice.now) a.note.items) }
     {
         let mut desk = self.desks.take(rt, alloc, share);
         let answer = self
             .engine
             .parse(rt, alloc, &mut desk, lattice, &self.limits, gate)?;
-        let report = self.reported(alloc, &mut desk.work.trees, number, &answer);
+        let report = self.reported(alloc, &mut desk.work.trees, number, &answer)?;
+        let note = self.noted(alloc, &mut desk, number, lattice, &answer)?;
         self.desks.give_back(rt, share, desk);
-        report
+        Ok(Answer { report, note })
     }
 
-    /// The report on the line of this number.
-    pub(crate) fn report<Rt: Threads + Wait + Sync>(
+    // The answer to a line that has no lattice: it has no note.
+    fn without_lattice(
+        &self,
+        alloc: Global,
+        number: u64,
+        why: NoLattice,
+    ) -> Result<Answer, NoMemory>
+        ensures report { IfOk result (λ a. (line : List ℕ) → HasNoLattice self.now.lattice line why
+            → IsAnswer (speech_of self.now.engine) (asked_of self.now) number line (map (λ l. l.items) a.report.lines.items) a.report.refused) }
+        ensures note { IfOk result (λ a. (line : List ℕ) → HasNoLattice self.now.lattice line why
+            → IsNote self.now.verbose (speech_of self.now.engine) (asked_of self.now) number line a.note.items) }
+    {
+        let report = report_of_no_lattice(alloc, number, why)?;
+        Ok(Answer {
+            report,
+            note: Vec::new(alloc),
+        })
+    }
+
+    /// The answer to the line of this number, with its note.
+    pub(crate) fn answered<Rt: Threads + Wait + Sync>(
         &self,
         rt: &Rt,
         alloc: Global,
@@ -106,14 +168,15 @@ impl Parser<'_, '_, '_> {
         line: &[u8],
         share: Share,
         gate: &dyn Gate,
-    ) -> Result<Report, NoMemory>
+    ) -> Result<Answer, NoMemory>
         requires sync { IsSync Rt.row }
         requires ready { IsReady self.now.engine }
-        ensures { IfOk result (λ r. IsAnswer (speech_of self.now.engine) (asked_of self.now) number line.now (map (λ l. l.items) r.lines.items) r.refused) }
+        ensures report { IfOk result (λ a. IsAnswer (speech_of self.now.engine) (asked_of self.now) number line.now (map (λ l. l.items) a.report.lines.items) a.report.refused) }
+        ensures note { IfOk result (λ a. IsNote self.now.verbose (speech_of self.now.engine) (asked_of self.now) number line.now a.note.items) }
     {
         match lattice_of_line(alloc, line, self.lattice) {
             Ok(lattice) => self.parsed(rt, alloc, number, &lattice, share, gate),
-            Err(why) => report_of_no_lattice(alloc, number, why),
+            Err(why) => self.without_lattice(alloc, number, why),
         }
     }
 }
@@ -122,11 +185,14 @@ impl Answers for Parser<'_, '_, '_> {
     ghost use Rattle.engine.specs.Ready.{IsReady};
     ghost use Rattle.engine.specs.Views.{speech_of};
     ghost use Rattle.line_commands.specs.Answers.{IsAnswer};
+    ghost use Rattle.line_commands.specs.Notes.{IsNote};
     ghost use Rattle.line_commands.specs.Inner.Parsers.{asked_of};
 
     ghost ready = { λ p. IsReady p.engine };
 
     ghost IsAnswer = { λ p. IsAnswer (speech_of p.engine) (asked_of p) };
+
+    ghost IsNote = { λ p. IsNote p.verbose (speech_of p.engine) (asked_of p) };
 
     fn workers(&self) -> u32 {
         self.desks.workers()
@@ -140,9 +206,9 @@ impl Answers for Parser<'_, '_, '_> {
         line: &[u8],
         share: Share,
         gate: &dyn Gate,
-    ) -> Result<Report, endings::lines::NoMemory> {
-        match self.report(rt, alloc, number, line, share, gate) {
-            Ok(report) => Ok(report),
+    ) -> Result<Answer, endings::lines::NoMemory> {
+        match self.answered(rt, alloc, number, line, share, gate) {
+            Ok(answer) => Ok(answer),
             Err(_) => Err(endings::lines::NoMemory),
         }
     }

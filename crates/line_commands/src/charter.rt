@@ -6,7 +6,7 @@ use crate::NoMemory;
 use crate::lattices::lattice_of_line;
 use crate::reports::report_of_no_lattice;
 use chart_core::Limits;
-use endings::lines::{Answers, Share};
+use endings::lines::{Answer, Answers, Share};
 use endings::pieces::Report;
 use engine::Engine;
 use engine::desks::{Desk, Desks};
@@ -149,9 +149,12 @@ impl Answers for Charter<'_, '_, '_> {
         line: &[u8],
         _share: Share,
         _gate: &dyn Gate,
-    ) -> Result<Report, endings::lines::NoMemory> {
+    ) -> Result<Answer, endings::lines::NoMemory> {
         match self.report(rt, alloc, number, line) {
-            Ok(report) => Ok(report),
+            Ok(report) => Ok(Answer {
+                report,
+                note: Vec::new(alloc),
+            }),
             Err(_) => Err(endings::lines::NoMemory),
         }
     }

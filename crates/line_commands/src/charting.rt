@@ -11,13 +11,13 @@ ghost use Rattle.grammar_names.specs.Fitting.{IsWellNamed};
 ghost use Rattle.endings.specs.Meanings.{Shelves, shelves};
 ghost use Rattle.endings.specs.Reports.{streams};
 ghost use Rattle.endings.specs.Endings.{Ended};
-ghost use Rattle.command_grammars.specs.Grammars.{HasGrammar};
+ghost use Rattle.command_files.specs.Grammars.{HasGrammar};
 ghost use Rattle.line_commands.specs.Charting.{chart_meaning};
 
 use crate::charter::Charter;
 use book_signs::laws::whole_book;
 use chart_core::Limits;
-use command_grammars::load_grammar;
+use command_files::load_grammar;
 use endings::lines::serve;
 use endings::{Fault, Stop};
 use engine::desks::Desks;
@@ -41,6 +41,8 @@ pub struct Chart<'a> {
     pub workers: u32,
     /// Whether each line writes a lattice of words.
     pub lattice: bool,
+    /// Whether more is told of a fault of its files.
+    pub verbose: bool,
 }
 
 // What `chart` does with an engine: it answers the lines of a source to a sink.
@@ -53,7 +55,7 @@ struct Charting {
     ghost crew: { IsCrewSize workers },
 }
 
-impl<I: Source, O: Sink> Use<I, O> for Charting {
+impl<I: Source, O: Sink, X> Use<I, O, X> for Charting {
     ghost use Rattle.type_hierarchy.specs.Decls.{texts};
     ghost use Rattle.packed_items.specs.Answers.{limits_in};
     ghost use Rattle.endings.specs.Reports.{AreAnswers, OrNoMemory, Served, streams};
@@ -61,7 +63,7 @@ impl<I: Source, O: Sink> Use<I, O> for Charting {
 
     type Out = Result<bool, Stop>;
 
-    ghost Gives = { λ job g speech input_old input_new out_old out_new end. Served (AreAnswers (IsChartLine g.book.system.types (texts g.book.feats.items) speech (limits_in job.limits) job.limits.lexical job.lattice) 1)
+    ghost Gives = { λ job g speech input_old input_new out_old out_new none nothing end. Served (AreAnswers (IsChartLine g.book.system.types (texts g.book.feats.items) speech (limits_in job.limits) job.limits.lexical job.lattice) 1)
         (AreAnswers (OrNoMemory (IsChartLine g.book.system.types (texts g.book.feats.items) speech (limits_in job.limits) job.limits.lexical job.lattice)) 1)
         (streams I.left I.faults O.written O.flushed O.faults input_old input_new out_old out_new) end };
 
@@ -72,6 +74,7 @@ impl<I: Source, O: Sink> Use<I, O> for Charting {
         engine: &Engine<'_, '_, '_, '_, '_, '_, '_, '_, '_, '_>,
         a: &mut I,
         b: &mut O,
+        _c: &mut X,
         gate: &dyn Gate,
     ) -> Result<bool, Stop> {
         let charter = Charter {
@@ -100,7 +103,7 @@ fn chart_with<I: Source, O: Sink, Rt: Threads + Wait + Sync>(
     requires fits { IsWellNamed (grammar_of grammar.now) }
     requires whole { IsWhole grammar.now.book }
     ensures { (h : Shelves) → HasGrammar h.files command.now.grammar.now (option_map (λ s. s.now) command.now.settings) (grammar_of grammar.now)
-        → Ended (chart_meaning command.now.grammar.now (option_map (λ s. s.now) command.now.settings) (limits_in command.now.limits) command.now.limits.lexical command.now.lattice) h
+        → Ended (chart_meaning command.now.grammar.now (option_map (λ s. s.now) command.now.settings) command.now.verbose (limits_in command.now.limits) command.now.limits.lexical command.now.lattice) h
         (streams I.left I.faults O.written O.flushed O.faults input.old input.new out.old out.new) (input.new ≡ input.old) ((input.new ≡ input.old) × (out.new ≡ out.old)) result }
 {
     let job = Charting {
@@ -108,7 +111,8 @@ fn chart_with<I: Source, O: Sink, Rt: Threads + Wait + Sync>(
         workers: command.workers,
         lattice: command.lattice,
     };
-    match with_engine(rt, alloc, grammar, &job, input, out, gate) {
+    let mut nothing = ();
+    match with_engine(rt, alloc, grammar, &job, input, out, &mut nothing, gate) {
         Ok(Ok(refused)) => Ok(refused),
         Ok(Err(stop)) => Err(Fault::Stopped(stop)),
         Err(_) => Err(Fault::Stopped(Stop::NoMemory)),
@@ -128,11 +132,17 @@ pub fn chart_lines<S: Shelf, I: Source, O: Sink, Rt: Threads + Wait + Sync>(
 ) -> Result<bool, Fault>
     requires limits { InRange command.now.limits }
     requires workers { IsCrewSize command.now.workers }
-    ensures { Ended (chart_meaning command.now.grammar.now (option_map (λ s. s.now) command.now.settings) (limits_in command.now.limits) command.now.limits.lexical command.now.lattice) (shelves S.files S.faults S.asked shelf.old shelf.new)
+    ensures { Ended (chart_meaning command.now.grammar.now (option_map (λ s. s.now) command.now.settings) command.now.verbose (limits_in command.now.limits) command.now.limits.lexical command.now.lattice) (shelves S.files S.faults S.asked shelf.old shelf.new)
         (streams I.left I.faults O.written O.flushed O.faults input.old input.new out.old out.new) (input.new ≡ input.old) ((input.new ≡ input.old) × (out.new ≡ out.old)) result }
 {
     whole_book();
     loaded_names();
-    let grammar = load_grammar(alloc, shelf, command.grammar, command.settings)?;
+    let grammar = load_grammar(
+        alloc,
+        shelf,
+        command.grammar,
+        command.settings,
+        command.verbose,
+    )?;
     chart_with(rt, alloc, command, &grammar, input, out, gate)
 }

@@ -6,7 +6,7 @@ ghost use Rattle.tree_faults.specs.Texts.{no_tree_line};
 use crate::NoMemory;
 use crate::trees::tree_of_line;
 use derivation::Tree;
-use endings::lines::{Answers, Share};
+use endings::lines::{Answer, Answers, Share};
 use endings::pieces::Report;
 use engine::Engine;
 use engine::desks::Desks;
@@ -51,8 +51,8 @@ pub(crate) struct Explainer<'e, 'r, 'k> {
 impl Explainer<'_, '_, '_> {
     ghost use Rattle.std.specs.Prelude.{◌≡◌, ◌&&◌, not, map, IfOk};
     ghost use Rattle.derivation.specs.Views.{derivation_of};
-    ghost use Rattle.rule_model.specs.Structures.{Structure};
-    ghost use Rattle.item_model.specs.Trees.{Full};
+    ghost use Rattle.tree_model.specs.Structures.{Structure};
+    ghost use Rattle.tree_model.specs.Trees.{Full};
     ghost use Rattle.tree_reading.specs.Grammars.{IsOver};
     ghost use Rattle.tree_faults.specs.Texts.{is_refused};
     ghost use Rattle.tree_faults.specs.Views.{explanation_of};
@@ -244,9 +244,12 @@ impl Answers for Explainer<'_, '_, '_> {
         line: &[u8],
         _share: Share,
         _gate: &dyn Gate,
-    ) -> Result<Report, endings::lines::NoMemory> {
+    ) -> Result<Answer, endings::lines::NoMemory> {
         match self.report(rt, alloc, number, line) {
-            Ok(report) => Ok(report),
+            Ok(report) => Ok(Answer {
+                report,
+                note: Vec::new(alloc),
+            }),
             Err(_) => Err(endings::lines::NoMemory),
         }
     }

@@ -9,12 +9,12 @@ ghost use Rattle.grammar_names.specs.Fitting.{IsWellNamed};
 ghost use Rattle.endings.specs.Meanings.{Shelves, shelves};
 ghost use Rattle.endings.specs.Reports.{streams};
 ghost use Rattle.endings.specs.Endings.{Ended};
-ghost use Rattle.command_grammars.specs.Grammars.{HasGrammar};
+ghost use Rattle.command_files.specs.Grammars.{HasGrammar};
 ghost use Rattle.line_commands.specs.Explaining.{explain_meaning};
 
 use crate::explainer::Explainer;
 use book_signs::laws::whole_book;
-use command_grammars::load_grammar;
+use command_files::load_grammar;
 use endings::lines::serve;
 use endings::{Fault, Stop};
 use engine::desks::Desks;
@@ -38,6 +38,8 @@ pub struct Explain<'a> {
     pub workers: u32,
     /// Whether a licensed tree is followed by its MRS.
     pub mrs: bool,
+    /// Whether more is told of a fault of its files.
+    pub verbose: bool,
 }
 
 // What `explain` does with an engine: it answers the lines of a source to a sink.
@@ -48,14 +50,14 @@ struct Explaining {
     ghost crew: { IsCrewSize workers },
 }
 
-impl<I: Source, O: Sink> Use<I, O> for Explaining {
+impl<I: Source, O: Sink, X> Use<I, O, X> for Explaining {
     ghost use Rattle.type_hierarchy.specs.Decls.{texts};
     ghost use Rattle.endings.specs.Reports.{AreAnswers, OrNoMemory, Served, streams};
     ghost use Rattle.line_commands.specs.Explaining.{IsExplainLine};
 
     type Out = Result<bool, Stop>;
 
-    ghost Gives = { λ job g speech input_old input_new out_old out_new end. Served (AreAnswers (IsExplainLine g.book.system.types (texts g.book.feats.items) speech job.mrs) 1)
+    ghost Gives = { λ job g speech input_old input_new out_old out_new none nothing end. Served (AreAnswers (IsExplainLine g.book.system.types (texts g.book.feats.items) speech job.mrs) 1)
         (AreAnswers (OrNoMemory (IsExplainLine g.book.system.types (texts g.book.feats.items) speech job.mrs)) 1)
         (streams I.left I.faults O.written O.flushed O.faults input_old input_new out_old out_new) end };
 
@@ -66,6 +68,7 @@ impl<I: Source, O: Sink> Use<I, O> for Explaining {
         engine: &Engine<'_, '_, '_, '_, '_, '_, '_, '_, '_, '_>,
         a: &mut I,
         b: &mut O,
+        _c: &mut X,
         gate: &dyn Gate,
     ) -> Result<bool, Stop> {
         let Ok(names) = tree_names(alloc, engine.grammar, engine.signs) else {
@@ -97,14 +100,15 @@ fn explain_with<I: Source, O: Sink, Rt: Threads + Wait + Sync>(
     requires fits { IsWellNamed (grammar_of grammar.now) }
     requires whole { IsWhole grammar.now.book }
     ensures { (h : Shelves) → HasGrammar h.files command.now.grammar.now (option_map (λ s. s.now) command.now.settings) (grammar_of grammar.now)
-        → Ended (explain_meaning command.now.grammar.now (option_map (λ s. s.now) command.now.settings) command.now.mrs) h
+        → Ended (explain_meaning command.now.grammar.now (option_map (λ s. s.now) command.now.settings) command.now.verbose command.now.mrs) h
         (streams I.left I.faults O.written O.flushed O.faults input.old input.new out.old out.new) (input.new ≡ input.old) ((input.new ≡ input.old) × (out.new ≡ out.old)) result }
 {
     let job = Explaining {
         workers: command.workers,
         mrs: command.mrs,
     };
-    match with_engine(rt, alloc, grammar, &job, input, out, gate) {
+    let mut nothing = ();
+    match with_engine(rt, alloc, grammar, &job, input, out, &mut nothing, gate) {
         Ok(Ok(refused)) => Ok(refused),
         Ok(Err(stop)) => Err(Fault::Stopped(stop)),
         Err(_) => Err(Fault::Stopped(Stop::NoMemory)),
@@ -123,11 +127,17 @@ pub fn explain_lines<S: Shelf, I: Source, O: Sink, Rt: Threads + Wait + Sync>(
     gate: &dyn Gate,
 ) -> Result<bool, Fault>
     requires workers { IsCrewSize command.now.workers }
-    ensures { Ended (explain_meaning command.now.grammar.now (option_map (λ s. s.now) command.now.settings) command.now.mrs) (shelves S.files S.faults S.asked shelf.old shelf.new)
+    ensures { Ended (explain_meaning command.now.grammar.now (option_map (λ s. s.now) command.now.settings) command.now.verbose command.now.mrs) (shelves S.files S.faults S.asked shelf.old shelf.new)
         (streams I.left I.faults O.written O.flushed O.faults input.old input.new out.old out.new) (input.new ≡ input.old) ((input.new ≡ input.old) × (out.new ≡ out.old)) result }
 {
     whole_book();
     loaded_names();
-    let grammar = load_grammar(alloc, shelf, command.grammar, command.settings)?;
+    let grammar = load_grammar(
+        alloc,
+        shelf,
+        command.grammar,
+        command.settings,
+        command.verbose,
+    )?;
     explain_with(rt, alloc, command, &grammar, input, out, gate)
 }

@@ -1,7 +1,7 @@
 //! What holds of `parse`, `chart` and `explain`: told files have one grammar or one first fault, and never both, and lines have one report.
 
 ghost use Rattle.std.specs.Prelude.{ℕ, List, Option, Bool};
-ghost use Rattle.item_model.specs.Items.{Limits};
+ghost use Rattle.tree_model.specs.Items.{Limits};
 ghost use Rattle.endings.specs.Meanings.{Lawful};
 ghost use Rattle.line_commands.specs.Answers.{Asked};
 ghost use Rattle.line_commands.specs.Parsing.{parse_meaning};
@@ -9,19 +9,18 @@ ghost use Rattle.line_commands.specs.Charting.{chart_meaning};
 ghost use Rattle.line_commands.specs.Explaining.{explain_meaning};
 
 use book_signs::laws::one_signs;
-use command_grammars::laws::grammar_laws;
+use command_files::grammar_laws::grammar_laws;
 use grammar_names::loaded_names;
 use line_charts::chart_laws;
 use morph_analysis::laws::one_line;
 use mrs_lines::mrs_line_laws;
-use parse_items::parse_laws;
-use rule_model::said_laws;
 use tree_faults::explained_laws;
+use tree_model::{parse_laws, said_laws};
 use tree_reading::tree_laws;
 
 /// What holds of `parse`.
 pub fn parse_lawful()
-    ensures { (name : List ℕ) (settings : Option (List ℕ)) (asked : Asked) → Lawful (parse_meaning name settings asked) }
+    ensures { (name : List ℕ) (settings : Option (List ℕ)) (verbose : Bool) (asked : Asked) → Lawful (parse_meaning name settings verbose asked) }
 {
     grammar_laws();
     one_signs();
@@ -29,11 +28,12 @@ pub fn parse_lawful()
     one_line();
     parse_laws();
     mrs_line_laws();
+    chart_laws();
 }
 
 /// What holds of `chart`.
 pub fn chart_lawful()
-    ensures { (name : List ℕ) (settings : Option (List ℕ)) (limits : Limits) (lexical : ℕ) (lattice : Bool) → Lawful (chart_meaning name settings limits lexical lattice) }
+    ensures { (name : List ℕ) (settings : Option (List ℕ)) (verbose : Bool) (limits : Limits) (lexical : ℕ) (lattice : Bool) → Lawful (chart_meaning name settings verbose limits lexical lattice) }
 {
     grammar_laws();
     one_signs();
@@ -44,7 +44,7 @@ pub fn chart_lawful()
 
 /// What holds of `explain`.
 pub fn explain_lawful()
-    ensures { (name : List ℕ) (settings : Option (List ℕ)) (mrs : Bool) → Lawful (explain_meaning name settings mrs) }
+    ensures { (name : List ℕ) (settings : Option (List ℕ)) (verbose mrs : Bool) → Lawful (explain_meaning name settings verbose mrs) }
 {
     grammar_laws();
     one_signs();

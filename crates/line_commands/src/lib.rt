@@ -8,11 +8,12 @@ mod explainer;
 mod explaining;
 mod lattices;
 pub mod laws;
+mod notes;
 mod parsing;
 mod reports;
 mod trees;
 
 pub use charting::{Chart, chart_lines};
-pub use engine::NoMemory;
 pub use explaining::{Explain, explain_lines};
 pub use parsing::{Parse, parse_lines};
+pub use std::alloc::AllocError as NoMemory;

@@ -26,7 +26,7 @@ fn answer_lines(
     answer: &ItemAnswer,
     names: &[String],
     nodes: bool,
-) -> Result<Vec<Vec<u8>>, word_lists::NoMemory>
+) -> Result<Vec<Vec<u8>>, lexicon::NoMemory>
     requires { AreNamed (length names.now) (item_answer answer.now) }
     ensures { IfOk result (λ lines. map (λ l. l.items) lines.items ≡ answer_lines (map string_bytes names.now) nodes number (item_answer answer.now)) }
 {

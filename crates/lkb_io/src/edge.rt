@@ -2,7 +2,7 @@
 ghost use Rattle.std.specs.Prelude.{◌≡◌, ◌≤◌, length, IfOk, None, option_map, string_bytes};
 
 use crate::shelves::MOST;
-use crate::{Failed, Shelf, ShelfFault, Sink, Source};
+use crate::{Failed, Shelf, ShelfCause, ShelfFault, Sink, Source};
 use std::alloc::Global;
 use std::io::{ErrorKind, Read, Write};
 use std::rt::Files;
@@ -94,6 +94,7 @@ pub struct FileShelf<F> {
     files: F,
     faults: u64,
     asked: Option<String>,
+    cause: ShelfCause,
 }
 
 impl<F: Files + Drop> FileShelf<F> {
@@ -106,6 +107,7 @@ impl<F: Files + Drop> FileShelf<F> {
             files,
             faults: 0,
             asked: None,
+            cause: ShelfCause::Missing,
         }
     }
 }
@@ -119,19 +121,36 @@ impl<F: Files + Drop> Shelf for FileShelf<F> {
 
     fn text(&mut self, alloc: Global, name: &str) -> Result<Vec<u8>, ShelfFault> {
         match read_file(alloc, &self.files, name) {
-            Err(ShelfFault::Failed) => {
+            Ok(text) => Ok(text),
+            Err(FileFault::Failed(cause)) => {
                 let asked = String::from_str(alloc, name).map_err(|_| ShelfFault::NoMemory)?;
                 self.asked = Some(asked);
+                self.cause = cause;
                 self.faults = self.faults.saturating_add(1);
                 Err(ShelfFault::Failed)
             }
-            other => other,
+            Err(FileFault::TooLong) => Err(ShelfFault::TooLong),
+            Err(FileFault::NoMemory) => Err(ShelfFault::NoMemory),
         }
+    }
+
+    fn cause(&self) -> ShelfCause {
+        self.cause
     }
 }
 
+// Why a file of the system gives no text.
+enum FileFault {
+    // It can't be opened or read.
+    Failed(ShelfCause),
+    // It has more bytes than a text may have.
+    TooLong,
+    // Memory was wanting.
+    NoMemory,
+}
+
 // The bytes of a file. No more than one byte beyond the greatest text is read.
-fn read_file<F: Files>(alloc: Global, files: &F, name: &str) -> Result<Vec<u8>, ShelfFault>
+fn read_file<F: Files>(alloc: Global, files: &F, name: &str) -> Result<Vec<u8>, FileFault>
     ensures { IfOk result (λ text. length text.items ≤ 67108864) }
 {
     let file = fs::open(files, name).map_err(|e| fault_of(&e))?;
@@ -140,15 +159,17 @@ fn read_file<F: Files>(alloc: Global, files: &F, name: &str) -> Result<Vec<u8>, 
         .read_to_end(&mut text)
         .map_err(|e| fault_of(&e))?;
     if text.len() > MOST {
-        return Err(ShelfFault::TooLong);
+        return Err(FileFault::TooLong);
     }
     Ok(text)
 }
 
 // What an error of the system is to a shelf.
-fn fault_of(error: &io::Error) -> ShelfFault {
+fn fault_of(error: &io::Error) -> FileFault {
     match error.kind() {
-        ErrorKind::OutOfMemory => ShelfFault::NoMemory,
-        _ => ShelfFault::Failed,
+        ErrorKind::OutOfMemory => FileFault::NoMemory,
+        ErrorKind::NotFound => FileFault::Failed(ShelfCause::Missing),
+        ErrorKind::IsADirectory => FileFault::Failed(ShelfCause::Folder),
+        _ => FileFault::Failed(ShelfCause::Unreadable),
     }
 }

@@ -38,6 +38,17 @@ pub enum ShelfFault {
     NoMemory,
 }
 
+/// Why a shelf failed, as far as what lies below it tells.
+#[derive(Clone, Copy, Debug, PartialEq, Eq)]
+pub enum ShelfCause {
+    /// There is no file of the name.
+    Missing,
+    /// The name is a folder's.
+    Folder,
+    /// The file can't be read.
+    Unreadable,
+}
+
 /// Where bytes come from: standard input, or bytes in memory.
 pub trait Source {
     /// The bytes that are left, where the source tells them.
@@ -109,4 +120,8 @@ pub trait Shelf {
         ensures same_asked { (IsErrOf result ShelfFault.Failed → ⊥) → asked self.new ≡ asked self.old }
         ensures no_fall { faults self.old ≤ faults self.new }
         ensures failed { IsErrOf result ShelfFault.Failed → HasRisen (faults self.old) (faults self.new) };
+
+    /// Why its last call that answered `Failed` did so. It is what the device says: no clause binds it to
+    /// the files.
+    fn cause(&self) -> ShelfCause;
 }

@@ -5,7 +5,7 @@ ghost use Rattle.lkb_io.specs.Devices.{one_more, is_to_fail};
 ghost use Rattle.lkb_io.specs.Shelves.{IsFile, IsLong, IsShort, NamedFile, Shelved, file_of, file_or_empty};
 ghost use Rattle.lkb_io.specs.Named.{named_files};
 
-use crate::{Shelf, ShelfFault};
+use crate::{Shelf, ShelfCause, ShelfFault};
 use std::alloc::{AllocError, Global};
 use std::marker::Model;
 
@@ -56,6 +56,7 @@ pub struct MemShelf {
     calls: u64,
     faults: u64,
     asked: Option<String>,
+    cause: ShelfCause,
 }
 
 impl Model for MemShelf {
@@ -81,11 +82,12 @@ impl MemShelf {
             calls: 0,
             faults: 0,
             asked: None,
+            cause: ShelfCause::Missing,
         }
     }
 
-    // Counts a fault, and keeps the name that was asked for.
-    fn fail(&mut self, alloc: Global, name: &str) -> ShelfFault
+    // Counts a fault, and keeps the name that was asked for and the cause.
+    fn fail(&mut self, alloc: Global, name: &str, cause: ShelfCause) -> ShelfFault
         ensures failed { result ≡ ShelfFault.Failed → self.new ≡ record self.old { faults = one_more self.old.faults; asked = Some name.now } }
         ensures no_fall { self.old.faults ≤ self.new.faults }
         ensures wanting { result ≢ ShelfFault.Failed → (result ≡ ShelfFault.NoMemory) × (self.new ≡ self.old) }
@@ -93,6 +95,7 @@ impl MemShelf {
         match String::from_str(alloc, name) {
             Ok(asked) => {
                 self.asked = Some(asked);
+                self.cause = cause;
                 self.faults = self.faults.saturating_add(1);
                 ShelfFault::Failed
             }
@@ -127,12 +130,16 @@ impl Shelf for MemShelf {
     {
         self.calls = self.calls.saturating_add(1);
         if self.fails.contains(&self.calls) {
-            return Err(self.fail(alloc, name));
+            return Err(self.fail(alloc, name, ShelfCause::Unreadable));
         }
         match find_file(&self.files, name) {
             Some(text) => text_of(alloc, text),
-            None => Err(self.fail(alloc, name)),
+            None => Err(self.fail(alloc, name, ShelfCause::Missing)),
         }
+    }
+
+    fn cause(&self) -> ShelfCause {
+        self.cause
     }
 }
 
@@ -168,5 +175,9 @@ impl Shelf for WholeShelf {
     fn text(&mut self, alloc: Global, name: &str) -> Result<Vec<u8>, ShelfFault> {
         let file = find_file(&self.files, name).unwrap_or(&[]);
         text_of(alloc, file)
+    }
+
+    fn cause(&self) -> ShelfCause {
+        ShelfCause::Missing
     }
 }

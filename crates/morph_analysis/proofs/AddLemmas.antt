@@ -1,6 +1,6 @@
 -- What calls add to lists.
 use Rattle.std.proofs.Common.{ℕ, ◌≡◌, ◌⊎◌, inl, inr, List, [], ◌∷◌, ◌++◌, refl, sym, ◌∙◌, ap, subst}
-use Rattle.word_lists.specs.Words.{Word, Has}
+use Rattle.lexicon.specs.Words.{Word, Has}
 use Rattle.morph_analysis.proofs.Lists.{Has-left, Has-right, Has-snoc}
 use Rattle.morph_analysis.specs.Chains.{ChainTree}
 use Rattle.morph_analysis.specs.Made.{MadeTree}

@@ -11,7 +11,7 @@ use Rattle.std.proofs.lemmas.List.Kept.{AllPairs-from_increasing}
 use Rattle.std.specs.List.Sorted.{IsPermutation, IsStrictlyIncreasing}
 use Rattle.std.proofs.lemmas.List.Sorted.{Contains-permutation, IsPermutation-sym}
 use Rattle.std.proofs.lemmas.List.{get_or-take, length-take}
-use Rattle.word_lists.specs.Words.{Word, Has}
+use Rattle.lexicon.specs.Words.{Word, Has}
 use Rattle.morph_analysis.proofs.Lists.{true_not_false, Has-map, Has-left, Has-right, Has-next, map_take_next}
 use Rattle.morph_analysis.proofs.Lists.{has_map}
 use Rattle.morph_analysis.proofs.AddLemmas.{adds_one, adds_none, adds_like}

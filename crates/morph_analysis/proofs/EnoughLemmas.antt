@@ -1,7 +1,7 @@
 -- Where the search ends at a chain that is enough, each function tells its caller of one that the caller asks for too.
 use Rattle.std.specs.Prelude.{Result, Ok, Err, IfErr, IsErrAnd}
 use Rattle.std.proofs.Common.{ℕ, ◌≡◌, ◌<◌, ◌≤◌, List, [], ◌∷◌, ◌++◌, length, sym, subst}
-use Rattle.word_lists.specs.Words.{Word, Has}
+use Rattle.lexicon.specs.Words.{Word, Has}
 use Rattle.lexicon.specs.Entries.{EntryTree}
 use Rattle.lexicon.specs.Groups.{GroupTree, AreGroupsOf}
 use Rattle.spelling_rules.specs.Trees.{SpellingTree}

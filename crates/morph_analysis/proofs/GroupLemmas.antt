@@ -1,7 +1,7 @@
 -- The groups of a last word are the entries that end with it.
 use Rattle.std.proofs.Common.{ℕ, ◌≡◌, ◌<◌, ◌⊎◌, ◌&&◌, inl, inr, true, false, cond, List, [], ◌∷◌, ◌++◌, length, map, filter, refl, sym, ◌∙◌, ap, subst, arith}
 use Rattle.std.specs.Str.{bytes_eq}
-use Rattle.word_lists.specs.Words.{Word, Has}
+use Rattle.lexicon.specs.Words.{Word, Has}
 use Rattle.lexicon.specs.Entries.{EntryTree, same_words, with_words, last_word}
 use Rattle.lexicon.specs.Groups.{GroupTree, found, AreApart, AreGroupsOf}
 use Rattle.morph_analysis.proofs.Lists.{bools, true_not_false, Each-at, Has-map}

@@ -3,7 +3,7 @@ use Rattle.std.proofs.Common.{ℕ, suc, ◌≡◌, ◌<◌, ◌≤◌, ◌+◌, 
 use Rattle.std.specs.Global.{Global}
 use Rattle.std.proofs.lemmas.List.{length-map, length-take-le}
 use Rattle.morph_analysis.proofs.Lists.{map_take_next}
-use Rattle.word_lists.specs.Words.{Word, Each}
+use Rattle.lexicon.specs.Words.{Word, Each}
 use Rattle.morph_analysis.specs.Lattices.{StepTree, steps_from}
 
 pub steps-more : (i : ℕ) (ws : List Word) (w : Word) → steps_from i (ws ++ w ∷ []) ≡ steps_from i ws ++ record { from = i + length ws; to = suc (i + length ws); word = w } ∷ []

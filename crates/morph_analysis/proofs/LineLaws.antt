@@ -3,7 +3,7 @@ use Rattle.std.proofs.Common.{ℕ, ◌≡◌, ◌<◌, ◌≤◌, ◌+◌, inl, 
 use Rattle.std.specs.Prelude.{encode_utf8_all}
 use Rattle.std.specs.Char.{is_whitespace}
 use Rattle.caseless.specs.Caseless.{default_case_fold}
-use Rattle.word_lists.specs.Words.{Each}
+use Rattle.lexicon.specs.Words.{Each}
 use Rattle.morph_analysis.proofs.Lists.{true_not_false}
 use Rattle.morph_analysis.proofs.LineLemmas.{split_unique, plain}
 use Rattle.morph_analysis.specs.Lattices.{StepTree, LatticeTree}

@@ -10,7 +10,7 @@ use Rattle.std.proofs.lemmas.List.{map-append, append_assoc, append-nil, take-ap
 use Rattle.std.proofs.lemmas.Slice.Eq.{bytes_eq-Decides}
 use Rattle.std.proofs.lemmas.Bool.Decides.{Decides-eqb, Decides-and}
 use Rattle.caseless.specs.Caseless.{default_case_fold}
-use Rattle.word_lists.specs.Words.{Has, Each}
+use Rattle.lexicon.specs.Words.{Has, Each}
 use Rattle.morph_analysis.proofs.Lists.{bools, true_not_false, Each-at, Has-left, Has-right, Has-snoc, take_next, map_take_next, all_taken}
 use Rattle.morph_analysis.proofs.Lists.{filter_has, has_filter}
 use Rattle.morph_analysis.specs.Lattices.{StepTree, LatticeTree, IsValid}

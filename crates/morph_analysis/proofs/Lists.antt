@@ -3,7 +3,7 @@ use Rattle.std.proofs.Common.{ℕ, zero, suc, ◌≡◌, ◌<◌, ◌≤◌, ◌
 use Rattle.std.specs.List.{flat_map, list_any}
 use Rattle.std.proofs.lemmas.Bool.Decides.{Decides-eqb}
 use Rattle.std.proofs.lemmas.List.{take_more, take_all, map-append}
-use Rattle.word_lists.specs.Words.{Has, Each}
+use Rattle.lexicon.specs.Words.{Has, Each}
 
 pub bools : (b : Bool) → (b ≡ true) ⊎ (b ≡ false)
 bools true = inl refl

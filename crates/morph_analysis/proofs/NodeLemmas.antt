@@ -2,10 +2,10 @@
 use Rattle.std.proofs.Common.{ℕ, zero, suc, ◌≡◌, ◌<◌, ◌≤◌, ◌+◌, ◌⊎◌, inl, inr, true, false, List, [], ◌∷◌, ◌++◌, length, map, get_or, Option, Some, None, String, string_bytes, refl, sym, ◌∙◌, ap, subst, arith, length-append, cond}
 use Rattle.std.proofs.lemmas.List.{get_or_append_left, map-append, length-map}
 use Rattle.std.proofs.lemmas.List.Quantifiers.{position-Some}
-use Rattle.word_lists.proofs.WordLemmas.{bools, true_not_false, bytes_eq-same, bytes_eq-refl}
+use Rattle.lexicon.proofs.WordLemmas.{bools, true_not_false, bytes_eq-same, bytes_eq-refl}
 use Rattle.std.specs.Map.{lookup}
 use Rattle.std.specs.Prelude.{is_some}
-use Rattle.word_lists.specs.Words.{Word, Has}
+use Rattle.lexicon.specs.Words.{Word, Has}
 use Rattle.spelling_rules.specs.Trees.{SpellingTree}
 use Rattle.spelling_rules.specs.Forms.{HasForm}
 use Rattle.std.specs.Global.{Global}

@@ -2,7 +2,7 @@
 use Rattle.std.proofs.Common.{ℕ, suc, ◌≡◌, ◌<◌, ◌≤◌, ◌-◌, ◌⊎◌, inl, inr, true, List, [], ◌∷◌, ◌++◌, length, Some, None, refl, sym, ◌∙◌, ap, subst, arith, length-append}
 use Rattle.std.specs.List.{slice_get}
 use Rattle.std.proofs.lemmas.List.{append-nil, append_assoc}
-use Rattle.word_lists.specs.Words.{Word, Has}
+use Rattle.lexicon.specs.Words.{Word, Has}
 use Rattle.morph_analysis.proofs.AddLemmas.{adds_like, adds_both, adds_none}
 use Rattle.morph_analysis.specs.Allowed.{FeedsTree, in_table, may_go_on, IsAllowed, AreAllowedAfter}
 use Rattle.morph_analysis.specs.Made.{MadeTree}

@@ -1,6 +1,6 @@
 -- Lattices of words: steps between nodes, and the words that paths of steps carry.
 use Rattle.std.specs.Prelude.{ℕ, ◌<◌, ◌≤◌, suc, List, [], ◌∷◌}
-use Rattle.word_lists.specs.Words.{Word, Has, Each}
+use Rattle.lexicon.specs.Words.{Word, Has, Each}
 
 pub record StepTree : Type 0 where
   pub from : ℕ

@@ -1,6 +1,6 @@
 -- The words that lead to a word, and by which rules.
 use Rattle.std.specs.Prelude.{ℕ, ◌≡◌, ◌<◌, ◌≤◌, List, [], ◌∷◌, length, slice_index_or}
-use Rattle.word_lists.specs.Words.{Word, Has}
+use Rattle.lexicon.specs.Words.{Word, Has}
 use Rattle.spelling_rules.specs.Trees.{SpellingTree}
 use Rattle.spelling_rules.specs.Forms.{HasForm}
 use Rattle.morph_analysis.specs.Chains.{Leads}

@@ -11,10 +11,9 @@ use crate::chain::Chain;
 use crate::feeds::Feeds;
 use crate::lattice::Lattice;
 use crate::made::{MadeChain, Maker};
-use lexicon::Lexicon;
+use lexicon::{Lexicon, NoMemory};
 use spelling_rules::Spelling;
 use std::alloc::Global;
-use word_lists::NoMemory;
 
 // Tables as what makes nothing of chains but that they are allowed.
 #[derive(Clone, Copy)]

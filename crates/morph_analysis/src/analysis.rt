@@ -4,7 +4,7 @@ ghost use Rattle.std.specs.Prelude.{◌≡◌, ◌++◌, ◌-◌, ◌<◌, ◌�
 ghost use Rattle.std.specs.List.Sorted.{IsStrictlySortedBy};
 ghost use Rattle.std.specs.declared.cmp.Ordering.TheVariants.{Equal};
 ghost use Rattle.lexicon.specs.Groups.{group_of};
-ghost use Rattle.word_lists.specs.Words.{Has};
+ghost use Rattle.lexicon.specs.Words.{Has};
 ghost use Rattle.morph_analysis.specs.Chains.{HaveWords};
 ghost use Rattle.morph_analysis.specs.Lattices.{IsValid, HaveSame};
 ghost use Rattle.morph_analysis.specs.LatticeViews.{lattice_of, step_of};
@@ -19,10 +19,9 @@ use crate::graph::Graph;
 use crate::lattice::{Lattice, Step};
 use crate::made::{Halt, MadeChain, Maker};
 use crate::outward::add_from;
-use lexicon::{Group, Lexicon};
+use lexicon::{Group, Lexicon, NoMemory};
 use spelling_rules::Spelling;
 use std::alloc::Global;
-use word_lists::NoMemory;
 
 // Adds the chains of an entry, whose last word is at a node, from each of some nodes.
 fn add_entry<M: Maker>(

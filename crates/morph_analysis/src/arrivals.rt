@@ -2,16 +2,16 @@
 
 ghost use Rattle.std.specs.Prelude.{◌≡◌, [], map, IfOk, OnOk, string_bytes};
 ghost use Rattle.std.specs.List.Sorted.{IsNonDecreasingBy};
-ghost use Rattle.word_lists.specs.Words.{Has};
+ghost use Rattle.lexicon.specs.Words.{Has};
 ghost use Rattle.morph_analysis.specs.Lattices.{AreFronts, HaveSame};
 ghost use Rattle.morph_analysis.specs.LatticeViews.{step_of};
 ghost use Rattle.morph_analysis.specs.Inner.Adding.{AddsThose, Precedes};
 ghost use Rattle.morph_analysis.specs.Lattices.{AreRising};
 
 use crate::lattice::Step;
+use lexicon::NoMemory;
 use std::alloc::Global;
 use std::marker::Model;
-use word_lists::NoMemory;
 
 /// The steps of a lattice by the nodes at which they end, to go from a node backwards over words.
 #[derive(Drop)]

@@ -4,9 +4,9 @@ ghost use Rattle.std.specs.Prelude.{◌≡◌, ◌<◌, IfOk};
 ghost use Rattle.morph_analysis.specs.Allowed.{AllMay, SameMay, MayBut, in_table, may_go_on};
 
 use crate::table::Table;
+use lexicon::NoMemory;
 use std::alloc::Global;
 use std::marker::Model;
-use word_lists::NoMemory;
 
 /// Which lexical rule may apply to which entry, and to what which lexical rule gives. Entries are numbered among the
 /// entries and rules among the lexical rules, both in order of place. What is outside the tables may apply.

@@ -6,10 +6,10 @@ ghost use Rattle.morph_analysis.specs.Views.{edge_of};
 
 use crate::nodes::{Edge, Node, spelled};
 use indexmap::IndexMap;
+use lexicon::NoMemory;
 use spelling_rules::Spelling;
 use std::alloc::Global;
 use std::marker::Model;
-use word_lists::NoMemory;
 
 /// The words that lead to a word by lexical rules, as a graph: a node is a word, an edge leads from a word to one of its
 /// forms, and node 0 is the word to which all lead.

@@ -2,12 +2,12 @@
 
 ghost use Rattle.std.specs.Prelude.{◌≡◌, ◌≤◌, ◌<◌, ◌+◌, ◌^◌, length, map, take, drop, not, IfOk, encode_utf8_all};
 ghost use Rattle.std.specs.Char.{is_whitespace};
-ghost use Rattle.word_lists.specs.Words.{Each};
+ghost use Rattle.lexicon.specs.Words.{Each};
 ghost use Rattle.morph_analysis.specs.LatticeLines.{Items};
 ghost use Rattle.morph_analysis.specs.Inner.Lines.{BeginsWith, IsLeft, item_of};
 
+use lexicon::NoMemory;
 use std::alloc::Global;
-use word_lists::NoMemory;
 
 /// Characters, and the byte at which they begin.
 #[derive(Drop)]

@@ -10,8 +10,8 @@ ghost use Rattle.morph_analysis.specs.Inner.Lines.{with_step};
 use crate::items::items;
 use crate::written::step_written;
 use indexmap::IndexSet;
+use lexicon::NoMemory;
 use std::alloc::Global;
-use word_lists::NoMemory;
 
 /// A step of a lattice: a word between two nodes.
 #[derive(Debug, PartialEq, Eq, Hash, Drop)]

@@ -25,4 +25,4 @@ pub use graph::Graph;
 pub use lattice::{Lattice, LatticeFault, Step};
 pub use made::{Halt, MadeChain, Maker};
 pub use nodes::Edge;
-pub use word_lists::NoMemory;
+pub use std::alloc::AllocError as NoMemory;

@@ -4,9 +4,9 @@ ghost use Rattle.std.specs.Prelude.{◌≡◌, ◌++◌, ◌∷◌, [], ℕ, Lis
 ghost use Rattle.morph_analysis.specs.declared.made.Halt.TheVariants as halt;
 
 use crate::chain::Chain;
+use lexicon::NoMemory;
 use std::alloc::{AllocError, AllocFailed, Global};
 use std::cmp::Ordering;
-use word_lists::NoMemory;
 
 /// A chain, and what is made of its entry and its rules. It has the order of its chain.
 #[derive(Drop)]
@@ -22,14 +22,6 @@ pub enum Halt {
     Enough,
     /// memory was wanting
     NoMemory,
-}
-
-impl From<NoMemory> for Halt {
-    ghost from_gives = { λ _ e. e ≡ halt.NoMemory };
-
-    fn from(_: NoMemory) -> Halt {
-        Halt::NoMemory
-    }
 }
 
 impl From<AllocError> for Halt {

@@ -8,9 +8,9 @@ ghost use Rattle.spelling_rules.specs.Views.{stems_in};
 ghost use Rattle.morph_analysis.specs.Views.{node_of, edge_of};
 
 use indexmap::IndexMap;
+use lexicon::NoMemory;
 use spelling_rules::{Spelling, Stem};
 use std::alloc::Global;
-use word_lists::NoMemory;
 
 /// A form of a word: the rule that makes it, and its node.
 #[derive(Clone, Copy, Debug, PartialEq, Eq)]

@@ -12,8 +12,8 @@ use crate::graph::Graph;
 use crate::lattice::Step;
 use crate::made::{Halt, MadeChain, Maker};
 use crate::nodes::Edge;
+use lexicon::{NoMemory, copied};
 use std::alloc::Global;
-use word_lists::{NoMemory, copied};
 
 // Rules over an entry, the node to which they lead, and what is made of them.
 #[derive(Drop)]

@@ -4,9 +4,9 @@ ghost use Rattle.std.specs.Prelude.{◌≡◌, ◌≢◌, ◌<◌, ◌==◌, ℕ
 ghost use Rattle.std.specs.Int.{bit_at};
 ghost use Rattle.morph_analysis.specs.Allowed.{AllMay, MayBut, in_table};
 
+use lexicon::NoMemory;
 use std::alloc::Global;
 use std::marker::Model;
-use word_lists::NoMemory;
 
 /// Which rule may apply in which row: all but those whose bit is set.
 #[derive(Drop)]

@@ -2,15 +2,15 @@
 
 ghost use Rattle.std.specs.Prelude.{◌≡◌, ◌<◌, ◌++◌, ◌∷◌, ℕ, IfOk, MatchOption, string_bytes, encode_utf8_all};
 ghost use Rattle.caseless.specs.Caseless.{default_case_fold};
-ghost use Rattle.word_lists.specs.Words.{Has};
+ghost use Rattle.lexicon.specs.Words.{Has};
 ghost use Rattle.morph_analysis.specs.LatticeLines.{IsNumber, Writes};
 ghost use Rattle.morph_analysis.specs.LatticeViews.{step_of};
 ghost use Rattle.morph_analysis.specs.Inner.Lines.{IsAtColon, HasParts, HasNoParts, WritesNone};
 
 use crate::lattice::Step;
 use caseless::default_case_fold_str;
+use lexicon::NoMemory;
 use std::alloc::Global;
-use word_lists::NoMemory;
 
 // The greatest number of a node.
 const GREATEST: u32 = 65_534;

@@ -6,7 +6,7 @@ use Rattle.std.proofs.lemmas.Str.{IsUtf8-string_bytes}
 use Rattle.std.specs.String.{string_bytes}
 use Rattle.std.specs.Prelude.{String}
 use Rattle.std.specs.Global.{Global}
-use Rattle.fs_paths.specs.declared.facts.Feat.{Feat}
+use Rattle.fs_graph.specs.declared.facts.Feat.{Feat}
 use Rattle.type_hierarchy.specs.declared.types.Ty.{Ty}
 use Rattle.type_hierarchy.specs.Table.{TypeTable}
 use Rattle.mrs_places.specs.declared.paths.MrsSort.{MrsSort}

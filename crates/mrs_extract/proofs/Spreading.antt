@@ -13,7 +13,7 @@ use Rattle.mrs_extract.specs.declared.properties.Waiting.{Waiting}
 use Rattle.mrs_extract.specs.Asked.{IsOf}
 use Rattle.mrs_extract.specs.Extraction.{open_arcs, is_open, is_among, is_role, role_arcs}
 use Rattle.mrs_extract.specs.Inner.Routes.{Route, under, routes, routes_by, waits, pending, Rests, IsArcIn, AreWaiting, is_value, properties_of, numbers_of}
-use Rattle.fs_paths.specs.declared.facts.Feat.{Feat}
+use Rattle.fs_graph.specs.declared.facts.Feat.{Feat}
 use Rattle.mrs_model.specs.Meanings.{Property}
 use Rattle.mrs_extract.proofs.Lists.{In, of_filter, all_in, all_at, flat_same, Firm, firm_of, firm_filter, firm_arc}
 

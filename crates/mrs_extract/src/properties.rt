@@ -15,8 +15,7 @@ ghost use Rattle.mrs_extract.specs.Extraction.{IsPropertyAt, is_open, open_arcs}
 ghost use Rattle.mrs_extract.specs.Inner.Routes.{joined, numbers_of, properties_of, waits, pending, AreWaiting};
 
 use crate::roles::{is_among, is_string};
-use fs_graph::{Graph, GraphArc, Node};
-use fs_paths::Feat;
+use fs_graph::{Feat, Graph, GraphArc, Node};
 use mrs_model::Prop;
 use mrs_places::{MrsPaths, NoMemory};
 use std::alloc::Global;

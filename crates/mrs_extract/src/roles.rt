@@ -16,8 +16,7 @@ ghost use Rattle.mrs_extract.specs.Extraction.{is_string, is_among, is_role, typ
 ghost use Rattle.mrs_extract.specs.Inner.Made.{filler_nodes, nodes_among, PutsRoles};
 
 use crate::numbers::Numbers;
-use fs_graph::{Graph, GraphArc, Node};
-use fs_paths::Feat;
+use fs_graph::{Feat, Graph, GraphArc, Node};
 use mrs_model::{Role, Value};
 use mrs_places::{MrsFeat, MrsPaths, NoMemory};
 use std::alloc::Global;

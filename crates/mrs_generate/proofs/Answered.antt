@@ -2,21 +2,21 @@
 use Rattle.std.specs.Prelude.{ℕ, ◌≡◌, ◌<◌, ◌↔◌, Option, List, length, map, slice_get}
 use Rattle.std.proofs.Common.{sym, ◌∙◌, ap, subst}
 use Rattle.fs_model.specs.Claims.{IsOrder}
-use Rattle.cover.specs.Calculus.{Calculus}
-use Rattle.cover.specs.declared.counts.Counts.{Counts}
+use Rattle.chart_model.specs.Calculus.{Calculus}
+use Rattle.chart_model.specs.declared.counts.Counts.{Counts}
 use Rattle.chart_model.specs.At.{at_found, to_get}
 use Rattle.chart_core.specs.declared.Leaf.{Leaf}
 use Rattle.chart_core.specs.declared.Limits.{Limits}
 use Rattle.chart_core.specs.Leaves.{leaf_seen}
 use Rattle.derivation.specs.Views.{derivation_of}
-use Rattle.forest_model.specs.Readings.{Wholes}
-use Rattle.rule_model.specs.Structures.{Structure}
-use Rattle.rule_model.specs.Mothers.{Agrees}
-use Rattle.rule_model.specs.Laws.{rules_full}
-use Rattle.item_model.specs.Signs.{Signs, rule_system, placed_rules, place_at}
-use Rattle.item_model.specs.Lexical.{Words}
-use Rattle.item_model.specs.Items.{Item, IsItem, LeafTree, AreLeaves, calculus, leaves_from}
-use Rattle.item_model.specs.Forests as item
+use Rattle.tree_model.specs.Readings.{Wholes}
+use Rattle.tree_model.specs.Structures.{Structure}
+use Rattle.tree_model.specs.Mothers.{Agrees}
+use Rattle.tree_model.specs.Laws.{rules_full}
+use Rattle.tree_model.specs.Signs.{Signs, rule_system, placed_rules, place_at}
+use Rattle.tree_model.specs.Lexical.{Words}
+use Rattle.tree_model.specs.Items.{Item, IsItem, LeafTree, AreLeaves, calculus, leaves_from}
+use Rattle.tree_model.specs.Forests as item
 use Rattle.packed_items.specs.Packed.{Fit, IsFound}
 use Rattle.packed_items.specs.Answers.{limits_in, answer_of}
 use Rattle.packed_items.specs.declared.Found.{Found}
@@ -26,9 +26,9 @@ use Rattle.generate_model.specs.Contributions.{Input, asked_of}
 use Rattle.generate_model.specs.Realizations.{IsGenAccepted, gen_item}
 use Rattle.generate_model.specs.Sentences.{GenAnswer, IsGenFound}
 use Rattle.generate_model.proofs.Told.{inputs_are_items, found_is_gen_answer}
-use Rattle.counted_shapes.specs.Counted.{count_calculus, own_at}
+use Rattle.generated_leaves.specs.Counted.{count_calculus, own_at}
 use Rattle.rule_trees.specs.Wholes.{IsRuled}
-use Rattle.rule_contributions.specs.Placed.{own_by_place}
+use Rattle.generated_leaves.specs.Placed.{own_by_place}
 use Rattle.generated_leaves.specs.Leaves.{WordLeaf}
 use Rattle.realized_trees.specs.Laws.{bare}
 use Rattle.realized_trees.specs.Wholes.{wholes_of, IsLeafAt}

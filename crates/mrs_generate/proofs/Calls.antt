@@ -1,18 +1,18 @@
 -- What is known of an input, by the shapes that a chart is made over.
 use Rattle.std.specs.Prelude.{ℕ, ◌≡◌, ◌↔◌, All, Option, List, map}
 use Rattle.std.proofs.Common.{sym, ◌∙◌, ap, subst}
-use Rattle.cover.specs.declared.counts.Counts.{Counts}
+use Rattle.chart_model.specs.declared.counts.Counts.{Counts}
 use Rattle.chart_model.specs.Chart as chart
 use Rattle.chart_core.specs.declared.Leaf.{Leaf}
 use Rattle.chart_core.specs.declared.Limits.{Limits}
 use Rattle.chart_core.specs.Leaves.{leaf_seen, LeafBelongs}
-use Rattle.forest_model.specs.Readings.{Wholes}
-use Rattle.rule_model.specs.Structures.{Structure}
-use Rattle.rule_model.specs.Mothers.{RuleSystem, Agrees}
-use Rattle.rule_model.specs.Laws.{rules_full}
+use Rattle.tree_model.specs.Readings.{Wholes}
+use Rattle.tree_model.specs.Structures.{Structure}
+use Rattle.tree_model.specs.Mothers.{RuleSystem, Agrees}
+use Rattle.tree_model.specs.Laws.{rules_full}
 use Rattle.fs_model.specs.Claims.{IsOrder}
-use Rattle.item_model.specs.Signs.{rule_system}
-use Rattle.item_model.specs.Lexical.{Words}
+use Rattle.tree_model.specs.Signs.{rule_system}
+use Rattle.tree_model.specs.Lexical.{Words}
 use Rattle.packed_items.specs.Packed.{Fit, IsFound}
 use Rattle.packed_items.specs.Answers.{limits_in}
 use Rattle.packed_items.specs.declared.Found.{Found}
@@ -22,17 +22,17 @@ use Rattle.grammar_shapes.specs.declared.shapes.GrammarShapes.{GrammarShapes}
 use Rattle.grammar_shapes.specs.Shaped.{Shape}
 use Rattle.grammar_shapes.specs.Systems.{rules_of, meaning_of, Belongs}
 use Rattle.grammar_rules.specs.Lines.{AreShapesOf}
-use Rattle.counted_shapes.specs.declared.shapes.CountedShapes.{CountedShapes}
-use Rattle.counted_shapes.specs.Counted.{count_calculus, own_at}
-use Rattle.counted_shapes.specs.Views.{shapes_in, bound_in, own_in}
+use Rattle.generated_leaves.specs.declared.shapes.CountedShapes.{CountedShapes}
+use Rattle.generated_leaves.specs.Counted.{count_calculus, own_at}
+use Rattle.generated_leaves.specs.CountedViews.{shapes_in, bound_in, own_in}
 use Rattle.generate_model.specs.Contributions.{Input, asked_of}
 use Rattle.generate_model.specs.Realizations.{IsGenAccepted}
 use Rattle.generate_model.specs.Sentences.{GenAnswer}
 use Rattle.generated_leaves.specs.Leaves.{WordLeaf}
 use Rattle.realized_trees.specs.Laws.{bare, WhollyAccepted}
 use Rattle.realized_trees.specs.Wholes.{wholes_of, IsLeafAt}
-use Rattle.rule_contributions.specs.Laws.{OwnsAgree}
-use Rattle.rule_contributions.specs.Placed.{own_by_place}
+use Rattle.generated_leaves.specs.Laws.{OwnsAgree}
+use Rattle.generated_leaves.specs.Placed.{own_by_place}
 use Rattle.rule_trees.specs.Wholes.{IsRuled}
 use Rattle.mrs_generate.specs.Answers.{IsSentenceAnswer}
 use Rattle.mrs_generate.specs.Inner.Known.{IsKnown}

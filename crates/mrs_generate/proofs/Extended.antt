@@ -1,7 +1,7 @@
 -- The limits' answer and the number of classes look at the covers of rules alone that there are.
 use Rattle.std.specs.Prelude.{ℕ, ◌≡◌, ◌<◌, Option, List}
 use Rattle.std.proofs.Common.{sym, ◌∙◌, inl, inr}
-use Rattle.cover.specs.Calculus.{Calculus}
+use Rattle.chart_model.specs.Calculus.{Calculus}
 use Rattle.chart_model.specs.Chart.{Leaf, Limits}
 use Rattle.chart_model.specs.Classes.{Class, Member, of_leaf, of_rule, Members, no_members, more_members, IsPacked}
 use Rattle.chart_model.specs.Limits.{LimitAnswer, UnaryChain, Edges, Within, HasChain, IsLowClass, HasEdges, IsBroken, IsLeastBroken, IsLimitAnswer, IsClassCount}

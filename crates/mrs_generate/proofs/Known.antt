@@ -2,21 +2,21 @@
 use Rattle.std.specs.Prelude.{ℕ, ◌≡◌, ◌<◌, ◌+◌, ◌^◌, List, Option, map}
 use Rattle.std.proofs.Common.{sym, ap, subst}
 use Rattle.fs_model.specs.Claims.{IsOrder}
-use Rattle.cover.specs.Sums.{counts_size}
-use Rattle.cover.specs.declared.counts.Counts.{Counts}
+use Rattle.chart_model.specs.Sums.{counts_size}
+use Rattle.chart_model.specs.declared.counts.Counts.{Counts}
 use Rattle.chart_core.specs.declared.Limits.{Limits}
 use Rattle.lexicon.specs.Entries.{EntryTree}
 use Rattle.spelling_rules.specs.Trees.{SpellingTree}
 use Rattle.mrs_model.specs.Meanings.{Meaning}
 use Rattle.mrs_places.specs.Paths.{Feature, Paths}
-use Rattle.contributions.specs.Bags.{BagTree, bag_of, bound_of, distinct, preds_of}
+use Rattle.generate_model.specs.Bags.{BagTree, bag_of, bound_of, distinct, preds_of}
 use Rattle.book_signs.specs.Trees.{SignTree, signs_of}
 use Rattle.generate_model.specs.Contributions.{Input, asked_of}
 use Rattle.generate_model.specs.Realizations.{IsTold}
 use Rattle.generate_model.specs.Sentences.{LexicalDepth}
-use Rattle.rule_contributions.specs.Given.{input_of, own_counts}
-use Rattle.rule_contributions.specs.Laws.{OwnsAreEven, OwnsAreTold}
-use Rattle.rule_contributions.specs.Placed.{own_by_place}
+use Rattle.generated_leaves.specs.Given.{input_of, own_counts}
+use Rattle.generated_leaves.specs.Laws.{OwnsAreEven, OwnsAreTold}
+use Rattle.generated_leaves.specs.Placed.{own_by_place}
 use Rattle.generated_leaves.specs.Leaves.{WordLeaf, GenLexical, TooDeep, Leaves, IsGenLexical}
 use Rattle.generated_leaves.specs.Told.{AreTold}
 use Rattle.generated_leaves.specs.Views.{AreAsked, told_seen}

@@ -1,13 +1,13 @@
 -- Lexical trees as leaves of the item of generation.
 use Rattle.std.specs.Prelude.{ℕ, ◌≡◌, Option, List}
 use Rattle.std.proofs.Common.{refl, sym, ◌∙◌, ap, subst}
-use Rattle.cover.specs.Calculus.{along_none, along_more}
-use Rattle.cover.specs.declared.counts.Counts.{Counts}
+use Rattle.chart_model.specs.Calculus.{along_none, along_more}
+use Rattle.chart_model.specs.declared.counts.Counts.{Counts}
 use Rattle.chart_model.specs.At.{At, here, there}
-use Rattle.rule_model.specs.Structures.{Structure}
-use Rattle.item_model.specs.Signs.{Signs}
-use Rattle.item_model.specs.Lexical.{Words}
-use Rattle.item_model.specs.Items.{LeafTree, IsLeafTree, AreLeaves}
+use Rattle.tree_model.specs.Structures.{Structure}
+use Rattle.tree_model.specs.Signs.{Signs}
+use Rattle.tree_model.specs.Lexical.{Words}
+use Rattle.tree_model.specs.Items.{LeafTree, IsLeafTree, AreLeaves}
 use Rattle.generate_model.specs.Realizations.{Asked, gen_item}
 use Rattle.generated_leaves.specs.Leaves.{WordLeaf, AreGenLeaves}
 use Rattle.mrs_generate.specs.Inner.Leafed.{leaf_of, leaf_trees, IsShapeOf, AreShapes}

@@ -1,14 +1,14 @@
 -- Leaves of a chart, one lexical tree after another.
 use Rattle.std.specs.Prelude.{ℕ, ◌≡◌, ◌+◌, List, [], ◌∷◌, ◌++◌, length}
 use Rattle.std.proofs.Common.{refl, sym, ◌∙◌, ap, subst, suc, arith}
-use Rattle.cover.specs.Calculus.{along_none, along_more}
-use Rattle.cover.specs.declared.counts.Counts.{Counts}
+use Rattle.chart_model.specs.Calculus.{along_none, along_more}
+use Rattle.chart_model.specs.declared.counts.Counts.{Counts}
 use Rattle.chart_model.specs.Chart as chart
 use Rattle.chart_core.specs.declared.Leaf.{Leaf}
 use Rattle.chart_core.specs.Leaves.{leaf_seen}
-use Rattle.rule_model.specs.Structures.{Structure}
-use Rattle.item_model.specs.Signs.{Signs}
-use Rattle.item_model.specs.Items.{leaves_from}
+use Rattle.tree_model.specs.Structures.{Structure}
+use Rattle.tree_model.specs.Signs.{Signs}
+use Rattle.tree_model.specs.Items.{leaves_from}
 use Rattle.generated_leaves.specs.Leaves.{WordLeaf}
 use Rattle.mrs_generate.specs.Inner.Leafed.{leaf_of, leaf_trees, IsShapeOf, AreShapes}
 use Rattle.mrs_generate.specs.Inner.Lined.{shapes_in, AreLined}

@@ -1,12 +1,12 @@
 -- Lists of leaves, one more at a time.
 use Rattle.std.specs.Prelude.{ℕ, ◌≡◌, ◌<◌, ◌≤◌, ◌+◌, All, List, [], ◌∷◌, ◌++◌, length, map}
 use Rattle.std.proofs.Common.{take, get_or, refl, sym, ◌∙◌, ap, subst, zero, suc, arith}
-use Rattle.cover.specs.Calculus.{Along, along_none, along_more}
+use Rattle.chart_model.specs.Calculus.{Along, along_none, along_more}
 use Rattle.chart_model.specs.At.{At, here, there}
 use Rattle.chart_model.specs.Chart as chart
 use Rattle.chart_core.proofs.Grows.{all_snoc}
-use Rattle.rule_model.specs.Structures.{Structure}
-use Rattle.item_model.specs.Items.{LeafTree, leaves_from}
+use Rattle.tree_model.specs.Structures.{Structure}
+use Rattle.tree_model.specs.Items.{LeafTree, leaves_from}
 use Rattle.morph_analysis.proofs.Lists.{map_take_next, all_taken}
 
 pub map_snoc : {A B : Type 0} (f : A → B) (xs : List A) (x : A) → map f (xs ++ x ∷ []) ≡ map f xs ++ f x ∷ []

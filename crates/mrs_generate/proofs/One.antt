@@ -1,15 +1,15 @@
 -- An MRS has one answer: what its rules contribute is fixed for the rules that there are.
 use Rattle.std.specs.Prelude.{ℕ, ◌≡◌, ◌<◌, Option, Some, List, length, slice_get}
 use Rattle.std.proofs.Common.{sym, ◌∙◌, ap, arith}
-use Rattle.cover.specs.declared.counts.Counts.{Counts}
+use Rattle.chart_model.specs.declared.counts.Counts.{Counts}
 use Rattle.chart_model.specs.Limits.{UnaryChain, Edges, Within}
 use Rattle.derivation.specs.Trees.{Derivation}
-use Rattle.rule_model.specs.Mothers.{Rule}
-use Rattle.item_model.specs.Signs.{Signs, rule_system, placed_rules, place_at}
-use Rattle.item_model.specs.Lexical.{Words}
-use Rattle.item_model.specs.Items.{LeafTree, AreLeaves, Limits, calculus, leaves_from, chart_limits}
-use Rattle.item_model.proofs.Places.{get_found, place_of}
-use Rattle.contributions.specs.Bags.{counted, distinct, bound_of}
+use Rattle.tree_model.specs.Mothers.{Rule}
+use Rattle.tree_model.specs.Signs.{Signs, rule_system, placed_rules, place_at}
+use Rattle.tree_model.specs.Lexical.{Words}
+use Rattle.tree_model.specs.Items.{LeafTree, AreLeaves, Limits, calculus, leaves_from, chart_limits}
+use Rattle.tree_model.proofs.Places.{get_found, place_of}
+use Rattle.generate_model.specs.Bags.{counted, distinct, bound_of}
 use Rattle.generate_model.specs.Covers.{counts_all}
 use Rattle.generate_model.specs.Contributions.{asked_of}
 use Rattle.generate_model.specs.Realizations.{Asked, IsTold, IsCovering, IsGenLeaf, IsGenTooDeep, gen_item}

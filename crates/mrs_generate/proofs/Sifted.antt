@@ -1,21 +1,21 @@
 -- Full structures without those that are dropped: what fits and what is found is as with them.
 use Rattle.std.specs.Prelude.{ℕ, ◌≡◌, ◌↔◌, Option, IfSome, List, map}
 use Rattle.std.proofs.Common.{◌∙◌, sym, ap, subst}
-use Rattle.cover.specs.Calculus.{Calculus}
-use Rattle.cover.specs.declared.counts.Counts.{Counts}
+use Rattle.chart_model.specs.Calculus.{Calculus}
+use Rattle.chart_model.specs.declared.counts.Counts.{Counts}
 use Rattle.chart_model.specs.Chart.{Leaf, Limits}
 use Rattle.chart_core.specs.declared.Leaf as declared_leaf
 use Rattle.chart_core.specs.declared.Limits as declared
 use Rattle.chart_core.specs.Kept.{limits_seen}
 use Rattle.chart_core.specs.Leaves.{leaf_seen}
 use Rattle.derivation.specs.Trees.{Derivation}
-use Rattle.forest_model.specs.Readings.{Wholes, IsAccepted, AreAllAccepted, AreMoreThan}
+use Rattle.tree_model.specs.Readings.{Wholes, IsAccepted, AreAllAccepted, AreMoreThan}
 use Rattle.fs_model.specs.Claims.{IsOrder}
-use Rattle.rule_model.specs.Structures.{Structure}
-use Rattle.rule_model.specs.Mothers.{RuleSystem, Agrees}
-use Rattle.rule_model.specs.Laws.{rules_full}
-use Rattle.item_model.specs.Signs.{rule_system}
-use Rattle.item_model.specs.Lexical.{Words}
+use Rattle.tree_model.specs.Structures.{Structure}
+use Rattle.tree_model.specs.Mothers.{RuleSystem, Agrees}
+use Rattle.tree_model.specs.Laws.{rules_full}
+use Rattle.tree_model.specs.Signs.{rule_system}
+use Rattle.tree_model.specs.Lexical.{Words}
 use Rattle.packed_items.specs.Packed.{Fit, IsFound}
 use Rattle.packed_items.specs.declared.Found.{Found}
 use Rattle.packed_items.specs.declared.Found.TheVariants as found
@@ -27,19 +27,19 @@ use Rattle.grammar_shapes.specs.declared.shapes.GrammarShapes.{GrammarShapes}
 use Rattle.grammar_shapes.specs.Shaped.{Shape}
 use Rattle.grammar_shapes.specs.Systems.{rules_of, meaning_of}
 use Rattle.grammar_rules.specs.Lines.{AreShapesOf}
-use Rattle.counted_shapes.specs.declared.shapes.CountedShapes.{CountedShapes}
-use Rattle.counted_shapes.specs.Counted.{count_calculus, own_at}
-use Rattle.counted_shapes.specs.Views.{shapes_in, bound_in, own_in}
+use Rattle.generated_leaves.specs.declared.shapes.CountedShapes.{CountedShapes}
+use Rattle.generated_leaves.specs.Counted.{count_calculus, own_at}
+use Rattle.generated_leaves.specs.CountedViews.{shapes_in, bound_in, own_in}
 use Rattle.generate_model.specs.Contributions.{Input}
 use Rattle.generate_model.specs.Pruning.{pruned}
 use Rattle.generated_leaves.specs.Leaves.{WordLeaf}
 use Rattle.realized_trees.specs.Laws.{bare, WhollyAccepted}
 use Rattle.realized_trees.specs.Wholes.{wholes_of, IsLeafAt}
-use Rattle.pruned_trees.specs.declared.sifting.Sieve.{Sieve}
-use Rattle.pruned_trees.specs.Sieves.{IsSieve, MayDrop, sifted}
-use Rattle.pruned_trees.specs.Laws.{SievesAreExact}
-use Rattle.rule_contributions.specs.Given.{input_of}
-use Rattle.rule_contributions.specs.Laws.{OwnsAgree}
+use Rattle.realized_trees.specs.declared.sifting.Sieve.{Sieve}
+use Rattle.realized_trees.specs.Sieves.{IsSieve, MayDrop, sifted}
+use Rattle.realized_trees.specs.PrunedLaws.{SievesAreExact}
+use Rattle.generated_leaves.specs.Given.{input_of}
+use Rattle.generated_leaves.specs.Laws.{OwnsAgree}
 use Rattle.rule_trees.specs.Wholes.{IsRuled}
 use Rattle.mrs_generate.specs.Inner.Known.{IsKnown}
 use Rattle.mrs_generate.specs.Inner.Lined.{AreLined}

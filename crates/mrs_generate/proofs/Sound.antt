@@ -3,16 +3,16 @@ use Rattle.std.specs.Prelude.{All, List, Option, map}
 use Rattle.std.proofs.Common.{sym, subst}
 use Rattle.fs_model.specs.Claims.{IsOrder}
 use Rattle.fs_model.specs.Closure.{AreConsistent}
-use Rattle.cover.specs.declared.counts.Counts.{Counts}
-use Rattle.rule_model.specs.Mothers.{Meant}
-use Rattle.item_model.specs.Signs.{Signs, rule_system}
-use Rattle.item_model.specs.Lexical.{Words}
+use Rattle.chart_model.specs.declared.counts.Counts.{Counts}
+use Rattle.tree_model.specs.Mothers.{Meant}
+use Rattle.tree_model.specs.Signs.{Signs, rule_system}
+use Rattle.tree_model.specs.Lexical.{Words}
 use Rattle.chart_core.specs.declared.Limits.{Limits}
 use Rattle.generate_model.specs.Contributions.{Input}
 use Rattle.generate_model.specs.Covers.{IsCount}
 use Rattle.generate_model.proofs.Told.{leaves_are_counted}
 use Rattle.tree_structures.specs.Laws.{FullsAreSound}
-use Rattle.rule_contributions.specs.Placed.{own_by_place}
+use Rattle.generated_leaves.specs.Placed.{own_by_place}
 use Rattle.generated_leaves.specs.Leaves.{WordLeaf}
 use Rattle.mrs_generate.specs.Inner.Known.{IsKnown}
 use Rattle.mrs_generate.proofs.Lists.{all_of}

@@ -1,11 +1,11 @@
 -- Full structures of which others are accepted, in the same cases: what fits and what is found is the same.
 use Rattle.std.specs.Prelude.{ℕ, ◌↔◌, List}
-use Rattle.cover.specs.Calculus.{Calculus}
+use Rattle.chart_model.specs.Calculus.{Calculus}
 use Rattle.chart_model.specs.Chart.{Leaf, Limits}
 use Rattle.chart_model.specs.Classes.{Class}
 use Rattle.chart_core.specs.declared.Limits as declared
 use Rattle.derivation.specs.Trees.{Derivation, Daughters}
-use Rattle.forest_model.specs.Readings.{Wholes, IsReading, reading_leaf, reading_phrase, AreReadings, no_readings, more_readings, IsAccepted, AreAllAccepted, AreMoreThan}
+use Rattle.tree_model.specs.Readings.{Wholes, IsReading, reading_leaf, reading_phrase, AreReadings, no_readings, more_readings, IsAccepted, AreAllAccepted, AreMoreThan}
 use Rattle.packed_items.specs.Packed.{Fit, IsFound}
 use Rattle.packed_items.specs.declared.Found.{Found}
 use Rattle.packed_items.specs.declared.Found.TheVariants as found

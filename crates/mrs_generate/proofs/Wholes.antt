@@ -1,14 +1,14 @@
 -- The full structures over leaves, as their item has them.
 use Rattle.std.specs.Prelude.{ℕ, ◌≡◌, Option, List, slice_get}
 use Rattle.std.proofs.Common.{refl, zero, suc}
-use Rattle.cover.specs.Calculus.{along_none, along_more}
-use Rattle.cover.specs.declared.counts.Counts.{Counts}
-use Rattle.rule_model.specs.Structures.{Structure}
-use Rattle.rule_model.specs.Laws.{rules_full}
-use Rattle.item_model.specs.Signs.{Signs, rule_system, placed_rules, place_at}
-use Rattle.item_model.specs.Lexical.{Words}
-use Rattle.item_model.specs.Items.{Limits}
-use Rattle.item_model.specs.Forests.{wholes, leaf_at, full_at}
+use Rattle.chart_model.specs.Calculus.{along_none, along_more}
+use Rattle.chart_model.specs.declared.counts.Counts.{Counts}
+use Rattle.tree_model.specs.Structures.{Structure}
+use Rattle.tree_model.specs.Laws.{rules_full}
+use Rattle.tree_model.specs.Signs.{Signs, rule_system, placed_rules, place_at}
+use Rattle.tree_model.specs.Lexical.{Words}
+use Rattle.tree_model.specs.Items.{Limits}
+use Rattle.tree_model.specs.Forests.{wholes, leaf_at, full_at}
 use Rattle.generate_model.specs.Contributions.{Input}
 use Rattle.generate_model.specs.Realizations.{Asked, IsGenAccepted, gen_item}
 use Rattle.generated_leaves.specs.Leaves.{WordLeaf}

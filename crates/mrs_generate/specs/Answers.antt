@@ -2,21 +2,21 @@
 -- Flickinger and Poznanski 1999).
 use Rattle.std.specs.Prelude.{ℕ, Option, List}
 use Rattle.chart_core.specs.declared.Limits as declared
-use Rattle.cover.specs.declared.counts.Counts.{Counts}
+use Rattle.chart_model.specs.declared.counts.Counts.{Counts}
 use Rattle.lexicon.specs.Entries.{EntryTree}
 use Rattle.spelling_rules.specs.Trees.{SpellingTree}
 use Rattle.mrs_model.specs.Meanings.{Meaning}
 use Rattle.mrs_places.specs.Paths.{Feature, Paths}
-use Rattle.item_model.specs.Signs.{Signs}
-use Rattle.item_model.specs.Lexical.{Words}
-use Rattle.item_model.specs.Items.{Limits}
+use Rattle.tree_model.specs.Signs.{Signs}
+use Rattle.tree_model.specs.Lexical.{Words}
+use Rattle.tree_model.specs.Items.{Limits}
 use Rattle.packed_items.specs.Answers.{limits_in}
 use Rattle.lexical_items.specs.Said.{words_said}
 use Rattle.book_signs.specs.Trees.{SignTree, signs_of, entries_of, lexical_rules_of}
 use Rattle.generate_model.specs.Contributions.{Input, asked_of}
 use Rattle.generate_model.specs.Realizations.{IsTold}
 use Rattle.generate_model.specs.Sentences.{GenAnswer, IsGenAnswer}
-use Rattle.rule_contributions.specs.Given.{input_of}
+use Rattle.generated_leaves.specs.Given.{input_of}
 
 -- The answer to an input. `own` has what the phrase rules contribute, by place, and is fixed by that.
 abbrev pub IsSentenceAnswer : Signs → Words → Input → ℕ → ℕ → Limits → GenAnswer → Type 0

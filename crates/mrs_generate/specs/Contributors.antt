@@ -6,9 +6,9 @@ use Rattle.mrs_places.specs.Paths.{Feature, Paths}
 use Rattle.book_signs.specs.Trees.{SignTree, signs_of}
 use Rattle.generated_leaves.specs.Told.{AreTold}
 use Rattle.generated_leaves.specs.Views.{told_seen}
-use Rattle.rule_contributions.specs.Given.{AreGiven}
+use Rattle.generated_leaves.specs.Given.{AreGiven}
 use Rattle.relation_fit.specs.Lists.{list_seen}
-use Rattle.pruned_trees.specs.Sieves.{IsThreaded}
+use Rattle.realized_trees.specs.Sieves.{IsThreaded}
 use Rattle.mrs_generate.specs.Answers.{words_by}
 use Rattle.mrs_generate.specs.declared.contributors.Contributors.{Contributors}
 

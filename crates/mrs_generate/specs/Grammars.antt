@@ -1,14 +1,14 @@
 -- What MRSs are answered by, and their answers by it.
 use Rattle.std.specs.Prelude.{ℕ, ◌≡◌, length, map}
 use Rattle.chart_core.specs.declared.Limits as declared
-use Rattle.item_model.specs.Lexical.{Words}
+use Rattle.tree_model.specs.Lexical.{Words}
 use Rattle.mrs_model.specs.Meanings.{Meaning}
 use Rattle.mrs_places.specs.Paths.{feature_of, paths_of}
 use Rattle.mrs_extract.specs.Asked.{ArePaths}
 use Rattle.grammar_rules.specs.Lines.{AreShapesOf}
 use Rattle.generate_model.specs.Contributions.{Input}
 use Rattle.generate_model.specs.Sentences.{GenAnswer}
-use Rattle.rule_contributions.specs.Given.{input_of}
+use Rattle.generated_leaves.specs.Given.{input_of}
 use Rattle.mrs_generate.specs.Answers.{words_by, IsAnswerTo}
 use Rattle.mrs_generate.specs.Contributors.{AreContributors}
 use Rattle.mrs_generate.specs.declared.grammar.GenGrammar.{GenGrammar}

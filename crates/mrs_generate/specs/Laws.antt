@@ -1,9 +1,9 @@
 -- An MRS has one answer.
 use Rattle.std.specs.Prelude.{ℕ, ◌≡◌}
 use Rattle.fs_model.specs.Claims.{IsOrder}
-use Rattle.item_model.specs.Signs.{Signs}
-use Rattle.item_model.specs.Lexical.{Words}
-use Rattle.item_model.specs.Items.{Limits}
+use Rattle.tree_model.specs.Signs.{Signs}
+use Rattle.tree_model.specs.Lexical.{Words}
+use Rattle.tree_model.specs.Items.{Limits}
 use Rattle.generate_model.specs.Contributions.{Input}
 use Rattle.generate_model.specs.Sentences.{GenAnswer}
 use Rattle.mrs_generate.specs.Answers.{IsSentenceAnswer}

@@ -1,7 +1,7 @@
 -- What contracts see of answers.
 use Rattle.std.specs.Prelude.{map}
 use Rattle.generate_model.specs.Sentences.{GenAnswer, LexicalDepth, ByUnaryChain, ByEdges, Readings, Sentences}
-use Rattle.tree_sentences.specs.Views.{sentence_seen}
+use Rattle.realized_trees.specs.Views.{sentence_seen}
 use Rattle.mrs_generate.specs.declared.GenAnswer.{GenAnswer as Answer}
 use Rattle.mrs_generate.specs.declared.GenAnswer.TheVariants as answers
 

@@ -1,13 +1,13 @@
 //! What an MRS asks for.
 
 ghost use Rattle.std.specs.Prelude.{◌≡◌, ◌<◌, ◌^◌, true, map, IfOk};
-ghost use Rattle.cover.specs.Sums.{counts_size};
-ghost use Rattle.contributions.specs.Bags.{bag_of, bound_of, preds_of};
+ghost use Rattle.chart_model.specs.Sums.{counts_size};
+ghost use Rattle.generate_model.specs.Bags.{bag_of, bound_of, preds_of};
 ghost use Rattle.mrs_model.specs.Views.{meaning_of};
 
 use crate::NoMemory;
-use contributions::{Bag, predicates_of};
-use cover::Counts;
+use chart_model::Counts;
+use generate_model::{Bag, predicates_of};
 use mrs_model::Mrs;
 use std::alloc::Global;
 

@@ -10,13 +10,12 @@ ghost use Rattle.mrs_generate.specs.Contributors.{AreContributors};
 use crate::NoMemory;
 use book_signs::SignBook;
 use fs_unify::Scratch;
-use generated_leaves::{ToldTree, told_trees};
+use generated_leaves::{RulePredicates, ToldTree, told_trees};
 use lexicon::Lexicon;
 use morph_analysis::Feeds;
 use mrs_places::{MrsFeat, MrsPaths};
-use pruned_trees::threaded_list;
+use realized_trees::threaded_list;
 use relation_fit::RelationList;
-use rule_contributions::RulePredicates;
 use spelling_rules::Spelling;
 use std::alloc::Global;
 

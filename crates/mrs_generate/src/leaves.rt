@@ -2,10 +2,10 @@
 
 ghost use Rattle.std.specs.Prelude.{◌≡◌, ◌++◌, ◌∷◌, [], All, List, map, IfOk, OnOk};
 ghost use Rattle.std.specs.Arc.{arc_value};
-ghost use Rattle.cover.specs.declared.counts.Counts.{Counts as CountsValue};
+ghost use Rattle.chart_model.specs.declared.counts.Counts.{Counts as CountsValue};
 ghost use Rattle.fs_model.specs.Closure.{AreConsistent};
-ghost use Rattle.rule_model.specs.Mothers.{Meant, IsAbstract};
-ghost use Rattle.item_model.specs.Signs.{rule_system};
+ghost use Rattle.tree_model.specs.Mothers.{Meant, IsAbstract};
+ghost use Rattle.tree_model.specs.Signs.{rule_system};
 ghost use Rattle.book_signs.specs.Trees.{signs_of};
 ghost use Rattle.grammar_shapes.specs.Systems.{meaning_of, Belongs};
 ghost use Rattle.rule_trees.specs.Mothers.{view_in};
@@ -18,10 +18,9 @@ ghost use Rattle.mrs_generate.specs.Inner.Lined.{AreLined, MayStand};
 use crate::NoMemory;
 use book_signs::SignBook;
 use chart_core::Leaf;
-use counted_shapes::CountedShapes;
-use cover::{Counts, Cover};
+use chart_model::{Counts, Cover};
 use fs_unify::Scratch;
-use generated_leaves::GenLeaf;
+use generated_leaves::{CountedShapes, GenLeaf};
 use grammar_shapes::{GrammarShapes, Place};
 use rule_trees::FullStructure;
 use std::alloc::Global;

@@ -11,15 +11,14 @@ mod contributors;
 mod generating;
 mod grammar;
 mod leaves;
-mod no_memory;
 mod putting;
 
 pub use contributors::{Contributors, contributors_of};
 use generate_model::generate_laws;
 pub use generating::{generate, generate_alone};
 pub use grammar::GenGrammar;
-pub use no_memory::NoMemory;
-pub use tree_sentences::Sentence;
+pub use realized_trees::Sentence;
+pub use std::alloc::AllocError as NoMemory;
 
 /// The answer to an MRS.
 #[derive(Debug, Drop)]

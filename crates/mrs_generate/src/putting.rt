@@ -6,8 +6,8 @@ ghost use Rattle.mrs_generate.specs.Views.{answer_seen};
 
 use crate::{GenAnswer, NoMemory};
 use packed_items::Found;
+use realized_trees::sentences_of;
 use std::alloc::Global;
-use tree_sentences::sentences_of;
 
 /// What is found over the leaves of an input, as its answer: of trees with one text the least stands for them.
 pub(crate) fn put_together(alloc: Global, found: Found) -> Result<GenAnswer, NoMemory>

@@ -4,7 +4,7 @@ use Rattle.std.proofs.lemmas.List.{take_more, map-append}
 use Rattle.derivation.specs.Trees.{Derivation}
 use Rattle.derivation.specs.Views.{derivation_of}
 use Rattle.derivation.specs.declared.Tree.{Tree}
-use Rattle.item_model.specs.Signs.{Signs}
+use Rattle.tree_model.specs.Signs.{Signs}
 use Rattle.item_reports.specs.Reports.{tree_line}
 use Rattle.mrs_lines.specs.Lines.{Semantics, IsMrsLine, AreTreeLines, no_trees, a_tree}
 

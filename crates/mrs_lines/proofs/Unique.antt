@@ -3,11 +3,11 @@ use Rattle.std.proofs.Common.{ℕ, ◌≡◌, Bool, List, [], ◌∷◌, refl, s
 use Rattle.fs_model.specs.Claims.{IsOrder}
 use Rattle.fs_graph.specs.GraphMap.{GraphMap}
 use Rattle.derivation.specs.Trees.{Derivation}
-use Rattle.rule_model.specs.Structures.{Structure}
-use Rattle.item_model.specs.Signs.{Signs}
-use Rattle.item_model.specs.Trees.{Full}
-use Rattle.item_model.specs.Items.{Answer, LexicalDepth, ByUnaryChain, ByEdges, Readings, Trees}
-use Rattle.item_model.proofs.Once.{one}
+use Rattle.tree_model.specs.Structures.{Structure}
+use Rattle.tree_model.specs.Signs.{Signs}
+use Rattle.tree_model.specs.Trees.{Full}
+use Rattle.tree_model.specs.Items.{Answer, LexicalDepth, ByUnaryChain, ByEdges, Readings, Trees}
+use Rattle.tree_model.proofs.Once.{one}
 use Rattle.item_reports.specs.Reports.{item_line, tree_line}
 use Rattle.mrs_extract.specs.Extraction.{Extracts}
 use Rattle.mrs_extract.specs.Laws.{MrsIsOne}

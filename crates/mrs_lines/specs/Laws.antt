@@ -2,8 +2,8 @@
 use Rattle.std.specs.Prelude.{ℕ, ◌≡◌, Bool, List}
 use Rattle.fs_model.specs.Claims.{IsOrder}
 use Rattle.derivation.specs.Trees.{Derivation}
-use Rattle.item_model.specs.Signs.{Signs}
-use Rattle.item_model.specs.Items.{Answer}
+use Rattle.tree_model.specs.Signs.{Signs}
+use Rattle.tree_model.specs.Items.{Answer}
 use Rattle.mrs_lines.specs.Lines.{Semantics, IsMrsLine, AreAnswerLines}
 
 abbrev pub MrsLinesAreOne : Type 0

@@ -4,10 +4,10 @@ use Rattle.std.specs.List.{flat_map}
 use Rattle.type_hierarchy.specs.Table.{TypeTable}
 use Rattle.fs_graph.specs.GraphMap.{GraphMap}
 use Rattle.derivation.specs.Trees.{Derivation}
-use Rattle.rule_model.specs.Structures.{Structure}
-use Rattle.item_model.specs.Signs.{Signs}
-use Rattle.item_model.specs.Trees.{Full}
-use Rattle.item_model.specs.Items.{Answer, LexicalDepth, ByUnaryChain, ByEdges, Readings, Trees}
+use Rattle.tree_model.specs.Structures.{Structure}
+use Rattle.tree_model.specs.Signs.{Signs}
+use Rattle.tree_model.specs.Trees.{Full}
+use Rattle.tree_model.specs.Items.{Answer, LexicalDepth, ByUnaryChain, ByEdges, Readings, Trees}
 use Rattle.item_reports.specs.Reports.{item_line, counts, tree_line, answer_lines}
 use Rattle.mrs_model.specs.Meanings.{Meaning}
 use Rattle.mrs_text.specs.Written.{upper, text_of}

@@ -2,8 +2,8 @@
 
 ghost use Rattle.std.specs.Prelude.{◌≡◌, ◌++◌, length, map, IfOk, OnOk, string_bytes};
 ghost use Rattle.derivation.specs.Views.{derivation_of};
-ghost use Rattle.rule_model.specs.Structures.{Structure};
-ghost use Rattle.item_model.specs.Trees.{Full};
+ghost use Rattle.tree_model.specs.Structures.{Structure};
+ghost use Rattle.tree_model.specs.Trees.{Full};
 ghost use Rattle.book_signs.specs.Trees.{signs_of};
 ghost use Rattle.mrs_model.specs.Valid.{IsValid};
 ghost use Rattle.mrs_model.specs.Views.{meaning_of};

@@ -3,9 +3,9 @@
 ghost use Rattle.std.specs.Prelude.{◌≡◌, All, length, map, IfOk, string_bytes};
 ghost use Rattle.derivation.specs.Text.{IsNamed};
 ghost use Rattle.derivation.specs.Views.{derivation_of};
-ghost use Rattle.rule_model.specs.Structures.{Structure};
-ghost use Rattle.item_model.specs.Items.{Trees};
-ghost use Rattle.item_model.specs.Trees.{Full};
+ghost use Rattle.tree_model.specs.Structures.{Structure};
+ghost use Rattle.tree_model.specs.Items.{Trees};
+ghost use Rattle.tree_model.specs.Trees.{Full};
 ghost use Rattle.book_signs.specs.Trees.{signs_of};
 ghost use Rattle.mrs_places.specs.Paths.{paths_of};
 ghost use Rattle.mrs_extract.specs.Asked.{ArePaths};

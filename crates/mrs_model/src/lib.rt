@@ -18,7 +18,7 @@ ghost use Rattle.std.specs.Prelude.{◌≡◌};
 
 pub use digest::digests_agree;
 pub use equality::{Renaming, equality_is_an_equivalence, matching};
-use std::alloc::{AllocError, AllocFailed};
+pub use std::alloc::AllocError as NoMemory;
 pub use texts::{ends_name, first, is_name};
 
 /// An MRS (Copestake, Flickinger, Pollard and Sag 2005). A variable is named by its place in `vars`, from 0.
@@ -98,20 +98,4 @@ pub struct Icon {
     pub left: u32,
     pub rel: String,
     pub right: u32,
-}
-
-/// Memory was wanting.
-#[derive(Clone, Copy, Debug, PartialEq, Eq)]
-pub struct NoMemory;
-
-impl From<AllocError> for NoMemory {
-    fn from(_error: AllocError) -> NoMemory {
-        NoMemory
-    }
-}
-
-impl<T: Drop> From<AllocFailed<T>> for NoMemory {
-    fn from(_error: AllocFailed<T>) -> NoMemory {
-        NoMemory
-    }
 }

@@ -5,3 +5,4 @@ pub mod Faults
 pub mod Places
 pub mod Laws
 pub mod Inner
+pub mod Settled

@@ -5,11 +5,15 @@ mod laws;
 mod lists;
 mod looking;
 mod missing;
+mod names;
 mod paths;
+mod settled;
 mod steps;
 
 pub use laws::outcomes_are_one;
 pub use lists::Element;
 pub use looking::{Found, look};
-pub use paths::{MrsFeat, MrsPaths, MrsSort, NoMemory, NoMrs};
+pub use paths::{MrsFeat, MrsPaths, MrsSort, NoMrs};
+pub use settled::{c_cont_path, mrs_paths};
+pub use std::alloc::AllocError as NoMemory;
 pub use steps::{is_below, step};

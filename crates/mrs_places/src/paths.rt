@@ -3,7 +3,8 @@
 ghost use Rattle.std.specs.Prelude.{◌≡◌};
 ghost use Rattle.mrs_places.specs.declared.paths.NoMrs.TheVariants.{NoMemory as Wanting};
 
-use fs_paths::Feat;
+use fs_graph::Feat;
+pub use std::alloc::AllocError as NoMemory;
 use std::alloc::{AllocError, AllocFailed};
 use type_hierarchy::Ty;
 
@@ -73,14 +74,6 @@ pub enum NoMrs {
     NoMemory,
 }
 
-impl From<NoMemory> for NoMrs {
-    ghost from_gives = { λ _ e. e ≡ Wanting };
-
-    fn from(_: NoMemory) -> NoMrs {
-        NoMrs::NoMemory
-    }
-}
-
 impl From<AllocError> for NoMrs {
     ghost from_gives = { λ _ e. e ≡ Wanting };
 
@@ -94,21 +87,5 @@ impl<T: Drop> From<AllocFailed<T>> for NoMrs {
 
     fn from(_: AllocFailed<T>) -> NoMrs {
         NoMrs::NoMemory
-    }
-}
-
-/// Memory was wanting.
-#[derive(Clone, Copy, Debug, PartialEq, Eq)]
-pub struct NoMemory;
-
-impl From<AllocError> for NoMemory {
-    fn from(_error: AllocError) -> NoMemory {
-        NoMemory
-    }
-}
-
-impl<T: Drop> From<AllocFailed<T>> for NoMemory {
-    fn from(_error: AllocFailed<T>) -> NoMemory {
-        NoMemory
     }
 }

@@ -7,8 +7,7 @@ ghost use Rattle.mrs_places.specs.Paths.{feature_of};
 ghost use Rattle.mrs_places.specs.Looking.{step, follow, below};
 
 use crate::paths::MrsFeat;
-use fs_graph::{Graph, GraphArc, Node};
-use fs_paths::Feat;
+use fs_graph::{Feat, Graph, GraphArc, Node};
 use type_hierarchy::{Ty, Types};
 
 // Where the arc with a feature leads.

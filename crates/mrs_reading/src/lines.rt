@@ -31,16 +31,6 @@ impl From<NoMemory> for MrsFault {
     }
 }
 
-impl From<mrs_spelling::NoMemory> for MrsFault {
-    ghost use Rattle.mrs_reading.specs.declared.lines.MrsFault.{MrsFault};
-
-    ghost from_gives = { λ _ e. e ≡ MrsFault.NoMemory };
-
-    fn from(_error: mrs_spelling::NoMemory) -> MrsFault {
-        MrsFault::NoMemory
-    }
-}
-
 // The fault of a text where so many bytes are left.
 fn fault_at(text: &str, left: usize) -> MrsFault
     requires { left ≤ length text.now }

@@ -14,4 +14,5 @@ mod words;
 pub use grammar::tokens_of;
 pub use kinds::Kind;
 pub use laws::{breach_is_first, not_both, one_spelling, stop_is_first};
-pub use tokens::{NoMemory, Token, Tokens};
+pub use std::alloc::AllocError as NoMemory;
+pub use tokens::{Token, Tokens};

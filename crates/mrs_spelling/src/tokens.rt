@@ -3,7 +3,8 @@
 ghost use Rattle.std.specs.Prelude.{◌≡◌};
 
 use crate::kinds::Kind;
-use std::alloc::{AllocError, AllocFailed};
+pub use std::alloc::AllocError as NoMemory;
+use std::alloc::AllocFailed;
 
 /// A token: what it is, its characters, and how many bytes are left from its first one on.
 #[derive(Clone, Copy, Debug)]
@@ -29,16 +30,6 @@ impl<T: Drop> From<AllocFailed<T>> for Stop {
 
     fn from(_error: AllocFailed<T>) -> Stop {
         Stop::NoMemory
-    }
-}
-
-/// Memory was wanting.
-#[derive(Clone, Copy, Debug, PartialEq, Eq)]
-pub struct NoMemory;
-
-impl From<AllocError> for NoMemory {
-    fn from(_error: AllocError) -> NoMemory {
-        NoMemory
     }
 }
 

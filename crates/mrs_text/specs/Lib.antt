@@ -1,3 +1,4 @@
 pub mod Signs
 pub mod Written
 pub mod Inner
+pub mod Stored

@@ -2,7 +2,7 @@
 use Rattle.std.specs.Prelude.{◌≡◌, ℕ, ◌+◌, ◌≤◌, true, Some, List, [], ◌∷◌, length, refl, slice_get}
 use Rattle.std.proofs.Common.{zero, suc, ap, subst, sym, ◌∙◌, arith, inl, inr}
 use Rattle.std.proofs.lemmas.Bool.{cases_lt}
-use Rattle.cover.specs.Calculus.{Calculus, Laws, Along, along_none, along_more, one_mother}
+use Rattle.chart_model.specs.Calculus.{Calculus, Laws, Along, along_none, along_more, one_mother}
 use Rattle.chart_model.specs.At.{At, here, there, at_found, at_one, from_get, to_get}
 use Rattle.chart_model.specs.Chart.{OfLeaf, OfWhole, Row, Chart, Leaf, Limits, all_free, cover_of, shape_of, level_of, covers_at, shapes_at, levels_at, level_above, leaf_row}
 use Rattle.chart_model.specs.Classes.{Class, Member, of_leaf, of_rule, Members, no_members, more_members, IsHost, class_covers, class_shapes, class_level}

@@ -2,7 +2,7 @@
 use Rattle.std.specs.Prelude.{◌≡◌, ◌⊎◌, ◌&&◌, ◌==◌, ℕ, ◌+◌, ◌<◌, ◌≤◌, Bool, true, false, is_some, is_none, cond, Option, Some, None, option_map, List, [], ◌∷◌, refl, slice_get}
 use Rattle.std.specs.List.{filter}
 use Rattle.std.proofs.Common.{zero, suc, ap, subst, sym, ◌∙◌, arith, inl, inr, eqb-true, eq-eqb}
-use Rattle.cover.specs.Calculus.{Calculus, Laws}
+use Rattle.chart_model.specs.Calculus.{Calculus, Laws}
 use Rattle.chart_model.specs.At.{At, here, there, at_one, to_get, from_get}
 use Rattle.chart_model.specs.Chart as model
 use Rattle.chart_model.specs.Picked.{Rises, no_more, next_is}

@@ -1,6 +1,6 @@
 -- What makes the members of a packed class: leaves, and rules over packed classes (Oepen and Carroll 2000: a packed forest).
 use Rattle.std.specs.Prelude.{ℕ, ◌≡◌, ◌<◌, true, Some, List, length}
-use Rattle.cover.specs.Calculus.{Calculus}
+use Rattle.chart_model.specs.Calculus.{Calculus}
 use Rattle.chart_model.specs.At.{At}
 use Rattle.chart_model.specs.Chart.{Leaf, Limits}
 use Rattle.chart_model.specs.Classes.{Class, class_covers, class_shapes, class_level}

@@ -1,6 +1,6 @@
 -- The rows of a finished chart that make the members of its live hosts, and what they are in terms of classes.
 use Rattle.std.specs.Prelude.{ℕ, ◌≡◌, ◌<◌, ◌⊎◌, true, Some, List, map}
-use Rattle.cover.specs.Calculus.{Calculus, Along}
+use Rattle.chart_model.specs.Calculus.{Calculus, Along}
 use Rattle.chart_model.specs.At.{At}
 use Rattle.chart_model.specs.Chart.{OfLeaf, OfWhole, Row, Chart, Leaf, Limits, all_free}
 use Rattle.chart_model.specs.Classes.{Class, IsHost}

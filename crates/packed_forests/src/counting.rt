@@ -8,7 +8,7 @@ ghost use Rattle.packed_forests.specs.Inner.Found.{counts, lists_in, IsFull, Are
 
 use crate::index::Index;
 use chart_core::{Daughters, Finished, Row, RowId, RowKind};
-use cover::{Cover, NoMemory, Shapes};
+use chart_model::{Cover, NoMemory, Shapes};
 use std::alloc::Global;
 
 // Whether a row, if there is one, is live.

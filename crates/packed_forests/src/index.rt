@@ -4,7 +4,7 @@ ghost use Rattle.std.specs.Prelude.{◌≡◌, ◌<◌, [], length, IfOk, OnOk, 
 ghost use Rattle.chart_core.specs.Lists.{slot, bucket, pushed};
 ghost use Rattle.packed_forests.specs.Inner.Found.{lists_in, IsFull};
 
-use cover::NoMemory;
+use chart_model::NoMemory;
 use std::alloc::Global;
 
 /// Lists of numbers, one for each remainder of a key.

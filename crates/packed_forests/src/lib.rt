@@ -15,8 +15,8 @@ mod index;
 mod makers;
 
 use chart_core::{Finished, RowId};
+use chart_model::{NoMemory, Shapes};
 use counting::index_of;
-use cover::{NoMemory, Shapes};
 use makers::class_at;
 use std::alloc::Global;
 

@@ -12,7 +12,7 @@ ghost use Rattle.packed_forests.specs.Inner.Told.{is_over, makes, HasShape, IsCl
 use crate::ClassRows;
 use crate::index::Index;
 use chart_core::{Finished, Row, RowId};
-use cover::{Cover, NoMemory, Shapes};
+use chart_model::{Cover, NoMemory, Shapes};
 use std::alloc::Global;
 
 // Whether a row has the cover and the level of a host, whose structure subsumes its own.

@@ -6,18 +6,18 @@ use Rattle.chart_model.specs.At.{At, to_get, at_below}
 use Rattle.chart_model.specs.Chart as chart
 use Rattle.chart_core.specs.declared.Limits as declared
 use Rattle.chart_core.specs.Kept.{limits_seen}
-use Rattle.forest_model.specs.Forest.{Agree, AreApart, IsLexical}
+use Rattle.tree_model.specs.Forest.{Agree, AreApart, IsLexical}
 use Rattle.derivation.specs.Views.{derivation_of}
-use Rattle.rule_model.specs.Structures.{Structure}
-use Rattle.rule_model.specs.Mothers.{Rule, IsFullAt, Agrees, arity_at}
-use Rattle.rule_model.specs.Laws.{rules_full}
-use Rattle.rule_model.proofs.Closures.{closure_ends, kept_ends}
-use Rattle.rule_model.proofs.AllLaws.{leaves_agree}
-use Rattle.item_model.specs.Signs.{Signs, Instance, is_phrase_rule, phrase_rules, placed_rules, place_at, rule_system}
-use Rattle.item_model.specs.Items.{Item, IsItem, LeafTree, AreLeaves, calculus, leaves_from}
-use Rattle.item_model.specs.Forests as item
-use Rattle.item_model.proofs.Places.{leaf_from, get_found}
-use Rattle.item_model.proofs.Once.{one_structure}
+use Rattle.tree_model.specs.Structures.{Structure}
+use Rattle.tree_model.specs.Mothers.{Rule, IsFullAt, Agrees, arity_at}
+use Rattle.tree_model.specs.Laws.{rules_full}
+use Rattle.tree_model.proofs.Closures.{closure_ends, kept_ends}
+use Rattle.tree_model.proofs.AllLaws.{leaves_agree}
+use Rattle.tree_model.specs.Signs.{Signs, Instance, is_phrase_rule, phrase_rules, placed_rules, place_at, rule_system}
+use Rattle.tree_model.specs.Items.{Item, IsItem, LeafTree, AreLeaves, calculus, leaves_from}
+use Rattle.tree_model.specs.Forests as item
+use Rattle.tree_model.proofs.Places.{leaf_from, get_found}
+use Rattle.tree_model.proofs.Once.{one_structure}
 use Rattle.packed_items.specs.Packed.{Fit, IsPackedWithin, IsFound}
 use Rattle.packed_items.specs.Answers.{limits_in, answer_of}
 use Rattle.packed_items.specs.declared.Found.{Found}

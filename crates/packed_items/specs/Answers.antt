@@ -2,7 +2,7 @@
 use Rattle.std.specs.Prelude.{map}
 use Rattle.chart_core.specs.declared.Limits as declared
 use Rattle.derivation.specs.Views.{derivation_of}
-use Rattle.item_model.specs.Items.{Limits, Answer, ByUnaryChain, ByEdges, Readings, Trees}
+use Rattle.tree_model.specs.Items.{Limits, Answer, ByUnaryChain, ByEdges, Readings, Trees}
 use Rattle.packed_items.specs.declared.Found.{Found}
 use Rattle.packed_items.specs.declared.Found.TheVariants as found
 

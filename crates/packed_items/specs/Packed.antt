@@ -1,14 +1,14 @@
 -- What is found over the leaves of an item, in sets of classes and readings, and what that rests on.
 use Rattle.std.specs.Prelude.{ℕ, ◌<◌, ◌≤◌, List, length, map}
-use Rattle.cover.specs.Calculus.{Calculus}
+use Rattle.chart_model.specs.Calculus.{Calculus}
 use Rattle.chart_model.specs.At.{At}
 use Rattle.chart_model.specs.Chart.{Chart, Leaf, Limits}
 use Rattle.chart_model.specs.Limits.{IsLimitAnswer, UnaryChain, Edges, Within, IsClassCount}
 use Rattle.chart_core.specs.declared.Limits as declared
 use Rattle.chart_core.specs.Kept.{limits_seen}
 use Rattle.derivation.specs.Views.{derivation_of}
-use Rattle.forest_model.specs.Forest.{Agree, AreApart, IsForest}
-use Rattle.forest_model.specs.Readings.{Wholes, AreAllAccepted, AreMoreThan}
+use Rattle.tree_model.specs.Forest.{Agree, AreApart, IsForest}
+use Rattle.tree_model.specs.Readings.{Wholes, AreAllAccepted, AreMoreThan}
 use Rattle.packed_items.specs.declared.Found.{Found}
 use Rattle.packed_items.specs.declared.Found.TheVariants as found
 

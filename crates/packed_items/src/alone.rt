@@ -9,9 +9,8 @@ use crate::sieving::leaves_over;
 use crate::{Found, NoMemory, answer_in_order};
 use chart_core::{Leaf, Limits};
 use forest_unpack::Fulls;
-use shape_memo::RememberedShapes;
+use shape_memo::{RememberedShapes, SievedShapes, Sketched};
 use sieve::{Filter, Sieve};
-use sieved_shapes::{SievedShapes, Sketched};
 use std::alloc::Global;
 
 /// What an item is worked out with, kept from one item to the next. None of what it holds enters into an answer.

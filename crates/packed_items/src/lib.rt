@@ -17,11 +17,12 @@ ghost use Rattle.packed_items.specs.Packed.{Fit, IsFound};
 
 pub use alone::{Work, answer_remembered_alone, answer_sieved_alone};
 use chart_core::{ChartFault, Finished, Leaf, Limits, ordered_pass};
+use chart_model::Shapes;
 use chart_workers::{Crew, Rank, saturate};
-use cover::Shapes;
 use derivation::Tree;
 use forest_unpack::{Fulls, UnpackFault, unpack};
 pub use sieving::{answer_remembered, answer_sieved, leaves_over};
+pub use std::alloc::AllocError as NoMemory;
 use std::alloc::Global;
 use std::sync::Wait;
 use std::thread::Threads;
@@ -39,10 +40,6 @@ pub enum Found {
     /// the number of packed classes, and all trees that are asked for, each once, in the order of trees
     Trees { classes: u32, trees: Vec<Tree> },
 }
-
-/// Memory ran out.
-#[derive(Debug, Drop, Clone, Copy, PartialEq, Eq)]
-pub struct NoMemory;
 
 /// Finishes the chart over these leaves, smaller hosts first, and unpacks it: what `answer_leaves` finds, on the caller's thread. It stops
 /// at the least size by which a limit is broken.

@@ -7,12 +7,11 @@ ghost use Rattle.packed_items.specs.Packed.{Fit, IsFound};
 
 use crate::{Found, NoMemory, answer_leaves};
 use chart_core::{Leaf, Limits};
+use chart_model::Shapes;
 use chart_workers::{Crew, Rank};
-use cover::Shapes;
 use forest_unpack::Fulls;
-use shape_memo::RememberedShapes;
+use shape_memo::{RememberedShapes, SievedShapes, Sketched};
 use sieve::{Filter, Sieve};
-use sieved_shapes::{SievedShapes, Sketched};
 use std::alloc::Global;
 use std::sync::Wait;
 use std::thread::Threads;

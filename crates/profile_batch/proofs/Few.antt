@@ -1,10 +1,10 @@
 -- The items of a text that isn't long have few trees.
 use Rattle.std.proofs.Common.{ℕ, ◌<◌, ◌^◌, List, All, get_or, arith}
 use Rattle.std.proofs.lemmas.List.{length-map}
-use Rattle.profile_items.specs.declared.ProfileItem.{ProfileItem}
-use Rattle.profile_items.specs.declared.ProfileItem.TheVariants.{TooLong, NotUtf8, NoItem, Item as Written}
-use Rattle.profile_items.specs.Bounds.{IsWithin}
-use Rattle.profile_items.specs.Views.{item_kept}
+use Rattle.profile_reports.specs.declared.profiles.ProfileItem.{ProfileItem}
+use Rattle.profile_reports.specs.declared.profiles.ProfileItem.TheVariants.{TooLong, NotUtf8, NoItem, Item as Written}
+use Rattle.profile_reports.specs.Bounds.{IsWithin}
+use Rattle.profile_reports.specs.ItemsViews.{item_kept}
 use Rattle.profile_batch.specs.Views.{trees_of}
 
 of-item : (n : ℕ) (i : ProfileItem) → IsWithin n (item_kept i) → n < 2 ^ 31 → trees_of i < 2 ^ 32

@@ -6,8 +6,8 @@ use Rattle.std.proofs.lemmas.List.{length-map}
 use Rattle.derivation.specs.declared.Tree.{Tree}
 use Rattle.derivation.specs.Text.{IsNamed, text_of}
 use Rattle.derivation.specs.Views.{derivation_of}
-use Rattle.item_model.specs.Items.{Limits, Answer}
-use Rattle.parse_items.specs.Answers.{IsParseAnswer}
+use Rattle.tree_model.specs.Items.{Limits, Answer}
+use Rattle.tree_model.specs.Answers.{IsParseAnswer}
 use Rattle.lexical_items.specs.Seen.{lattice_seen}
 use Rattle.grammar_rules.specs.declared.ItemAnswer.{ItemAnswer}
 use Rattle.grammar_rules.specs.declared.ItemAnswer.TheVariants as answers
@@ -15,11 +15,11 @@ use Rattle.grammar_rules.specs.Views.{item_answer}
 use Rattle.engine.specs.Named.{AreNamed, IsFew}
 use Rattle.engine.specs.Speeches.{Speech, lattice_of_words}
 use Rattle.engine.proofs.NamedTrees.{unmap}
-use Rattle.profile_items.specs.declared.Expected.{Expected}
-use Rattle.profile_items.specs.declared.ProfileItem.{ProfileItem}
-use Rattle.profile_items.specs.declared.ProfileItem.TheVariants.{TooLong, NotUtf8, NoItem}
-use Rattle.profile_items.specs.Profiles.{too_long, not_utf8, no_item, an_item}
-use Rattle.profile_items.specs.Views.{item_kept}
+use Rattle.profile_reports.specs.declared.profiles.Expected.{Expected}
+use Rattle.profile_reports.specs.declared.profiles.ProfileItem.{ProfileItem}
+use Rattle.profile_reports.specs.declared.profiles.ProfileItem.TheVariants.{TooLong, NotUtf8, NoItem}
+use Rattle.profile_reports.specs.Profiles.{too_long, not_utf8, no_item, an_item}
+use Rattle.profile_reports.specs.ItemsViews.{item_kept}
 use Rattle.profile_reports.specs.declared.Got.TheVariants.{Bad, NoMemory}
 use Rattle.profile_reports.specs.declared.ItemResult.{ItemResult}
 use Rattle.profile_reports.specs.Comparing.{plain_result, result_of}

@@ -1,14 +1,14 @@
 -- What is found of items, as a report.
 use Rattle.std.proofs.Common.{suc, ◌≡◌, ◌∙◌, ◌||◌, ℕ, List, Bool, true, false, length, map, refl, sym, subst}
 use Rattle.std.proofs.lemmas.List.{length-map}
-use Rattle.item_model.specs.Items.{Limits}
+use Rattle.tree_model.specs.Items.{Limits}
 use Rattle.grammar_load.specs.Loaded.{GrammarTree}
 use Rattle.endings.specs.declared.commands.ItemsReport.{ItemsReport}
 use Rattle.engine.specs.Speeches.{Speech, IsSpeechOf}
 use Rattle.side_by_side.specs.Works.{AreGiven, no_thing, a_thing}
-use Rattle.profile_items.specs.declared.ProfileItem.{ProfileItem}
-use Rattle.profile_items.specs.Profiles.{Item, items_of}
-use Rattle.profile_items.specs.Views.{item_kept}
+use Rattle.profile_reports.specs.declared.profiles.ProfileItem.{ProfileItem}
+use Rattle.profile_reports.specs.Profiles.{Item, items_of}
+use Rattle.profile_reports.specs.ItemsViews.{item_kept}
 use Rattle.profile_reports.specs.declared.ItemResult.{ItemResult}
 use Rattle.profile_reports.specs.declared.report.ProfileReport.{ProfileReport}
 use Rattle.profile_reports.specs.Comparing.{lacks_memory, is_some_lacking}

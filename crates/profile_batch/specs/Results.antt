@@ -2,13 +2,13 @@
 use Rattle.std.specs.Prelude.{ℕ, ◌≡◌, Bool, false, List, map}
 use Rattle.std.specs.Str.{chars}
 use Rattle.derivation.specs.Text.{text_of}
-use Rattle.item_model.specs.Items.{Limits, Answer, LexicalDepth, ByUnaryChain, ByEdges, Readings, Trees}
-use Rattle.parse_items.specs.Answers.{IsParseAnswer}
+use Rattle.tree_model.specs.Items.{Limits, Answer, LexicalDepth, ByUnaryChain, ByEdges, Readings, Trees}
+use Rattle.tree_model.specs.Answers.{IsParseAnswer}
 use Rattle.lexical_items.specs.Seen.{lattice_seen}
 use Rattle.engine.specs.Speeches.{Speech, lattice_of_words}
 use Rattle.side_by_side.specs.Works.{AreGiven}
-use Rattle.profile_items.specs.declared.Expected.{Expected}
-use Rattle.profile_items.specs.Profiles.{Item, too_long, not_utf8, no_item, an_item}
+use Rattle.profile_reports.specs.declared.profiles.Expected.{Expected}
+use Rattle.profile_reports.specs.Profiles.{Item, too_long, not_utf8, no_item, an_item}
 use Rattle.profile_reports.specs.declared.Got.TheVariants.{Bad, NoMemory}
 use Rattle.profile_reports.specs.declared.ItemResult.{ItemResult}
 use Rattle.profile_reports.specs.Outcomes.{Outcome, by_lexical_depth, by_unary_chain, by_edges, by_readings, found}

@@ -1,7 +1,7 @@
 -- What contracts ask of the items that are given to `batch`.
 use Rattle.std.specs.Prelude.{ℕ, length}
-use Rattle.profile_items.specs.declared.ProfileItem.{ProfileItem}
-use Rattle.profile_items.specs.declared.ProfileItem.TheVariants.{Item as Written}
+use Rattle.profile_reports.specs.declared.profiles.ProfileItem.{ProfileItem}
+use Rattle.profile_reports.specs.declared.profiles.ProfileItem.TheVariants.{Item as Written}
 
 -- how many trees are written for an item
 abbrev pub trees_of : ProfileItem → ℕ

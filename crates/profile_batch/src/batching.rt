@@ -13,8 +13,8 @@ ghost use Rattle.grammar_names.specs.Fitting.{IsWellNamed};
 ghost use Rattle.endings.specs.Meanings.{Files, shelves};
 ghost use Rattle.endings.specs.Endings.{MadeOfItems};
 ghost use Rattle.engine.specs.Speeches.{Speech, IsSpeechOf};
-ghost use Rattle.profile_items.specs.Profiles.{items_of};
-ghost use Rattle.profile_items.specs.Views.{item_kept};
+ghost use Rattle.profile_reports.specs.Profiles.{items_of};
+ghost use Rattle.profile_reports.specs.ItemsViews.{item_kept};
 ghost use Rattle.profile_batch.specs.Batches.{batch_meaning};
 ghost use Rattle.profile_batch.specs.Results.{AreResultsOrGaps};
 ghost use Rattle.profile_batch.specs.Inner.Told.{IsToldOf, told_as};
@@ -26,8 +26,7 @@ use crate::turns::judge_all;
 use book_signs::laws::whole_book;
 use chart_core::Limits;
 use command_files::laws::late_text;
-use command_files::load_text;
-use command_grammars::load_grammar;
+use command_files::{load_grammar, load_text};
 use endings::commands::ItemsReport;
 use endings::pieces::Report;
 use endings::{Fault, Stop};
@@ -36,8 +35,9 @@ use engine::{Engine, Use, with_engine};
 use grammar_load::Grammar;
 use grammar_names::loaded_names;
 use lkb_io::Shelf;
-use profile_items::{NoMemory, ProfileItem, profile};
-use profile_reports::{ItemResult, ProfileReport, report_on, some_lacking};
+use profile_reports::{
+    ItemResult, NoMemory, ProfileItem, ProfileReport, profile, report_on, some_lacking,
+};
 use std::alloc::Global;
 use std::sync::Wait;
 use std::thread::Threads;
@@ -55,15 +55,15 @@ struct Items<'i> {
     ghost trees: { All (λ i. trees_of i < 2 ^ 32) items.now },
 }
 
-impl Use<(), ()> for Items<'_> {
+impl<X> Use<(), (), X> for Items<'_> {
     ghost use Rattle.std.specs.Prelude.{map, IfOk};
     ghost use Rattle.packed_items.specs.Answers.{limits_in};
-    ghost use Rattle.profile_items.specs.Views.{item_kept};
+    ghost use Rattle.profile_reports.specs.ItemsViews.{item_kept};
     ghost use Rattle.profile_batch.specs.Results.{AreResultsOrGaps};
 
     type Out = Result<Vec<ItemResult>, NoMemory>;
 
-    ghost Gives = { λ job g speech a b c d out. IfOk out (λ results. AreResultsOrGaps speech (limits_in job.limits) job.limits.lexical (map item_kept job.items.now) results.items) };
+    ghost Gives = { λ job g speech a b c d x y out. IfOk out (λ results. AreResultsOrGaps speech (limits_in job.limits) job.limits.lexical (map item_kept job.items.now) results.items) };
 
     fn run<Rt: Threads + Wait + Sync>(
         &self,
@@ -72,6 +72,7 @@ impl Use<(), ()> for Items<'_> {
         engine: &Engine<'_, '_, '_, '_, '_, '_, '_, '_, '_, '_>,
         _a: &mut (),
         _b: &mut (),
+        _c: &mut X,
         gate: &dyn Gate,
     ) -> Result<Vec<ItemResult>, NoMemory> {
         let judge = Judge {
@@ -113,7 +114,17 @@ pub fn batch<Rt: Threads + Wait + Sync>(
     };
     let mut none = ();
     let mut nothing = ();
-    match with_engine(rt, alloc, grammar, &job, &mut none, &mut nothing, gate) {
+    let mut no_more = ();
+    match with_engine(
+        rt,
+        alloc,
+        grammar,
+        &job,
+        &mut none,
+        &mut nothing,
+        &mut no_more,
+        gate,
+    ) {
         Ok(results) => results,
         Err(_) => Err(NoMemory),
     }
@@ -170,14 +181,20 @@ pub(crate) fn report_of<S: Shelf, Rt: Threads + Wait + Sync>(
     shelf: &mut S,
     gate: &dyn Gate,
 ) -> Result<ItemsReport, Fault>
-    ensures { MadeOfItems (batch_meaning command.now.grammar.now (option_map (λ s. s.now) command.now.settings) command.now.profile.now (limits_in command.now.limits) command.now.limits.lexical)
+    ensures { MadeOfItems (batch_meaning command.now.grammar.now (option_map (λ s. s.now) command.now.settings) command.now.verbose command.now.profile.now (limits_in command.now.limits) command.now.limits.lexical)
         (shelves S.files S.faults S.asked shelf.old shelf.new) result }
 {
     whole_book();
     loaded_names();
     late_text();
-    let grammar = load_grammar(alloc, shelf, command.grammar, command.settings)?;
-    let text = load_text(alloc, shelf, command.profile)?;
+    let grammar = load_grammar(
+        alloc,
+        shelf,
+        command.grammar,
+        command.settings,
+        command.verbose,
+    )?;
+    let text = load_text(alloc, shelf, command.profile, command.verbose)?;
     match report_with(rt, alloc, command, &grammar, &text, gate) {
         Ok(report) => Ok(report),
         Err(_) => Err(Fault::Stopped(Stop::NoMemory)),

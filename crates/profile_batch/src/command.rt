@@ -24,6 +24,8 @@ pub struct Batch<'a> {
     pub limits: Limits,
     /// How many workers draw items, 1 to 64. It changes no answer.
     pub workers: u32,
+    /// Whether more is told of a fault of its files.
+    pub verbose: bool,
     ghost in_range: { InRange limits },
     ghost crew: { IsCrewSize workers },
 }
@@ -33,7 +35,7 @@ impl OfItems for Batch<'_> {
     ghost use Rattle.packed_items.specs.Answers.{limits_in};
     ghost use Rattle.profile_batch.specs.Batches.{batch_meaning};
 
-    ghost meaning = { λ b. batch_meaning b.grammar.now (option_map (λ s. s.now) b.settings) b.profile.now (limits_in b.limits) b.limits.lexical };
+    ghost meaning = { λ b. batch_meaning b.grammar.now (option_map (λ s. s.now) b.settings) b.verbose b.profile.now (limits_in b.limits) b.limits.lexical };
 
     fn report<S: Shelf, Rt: Threads + Wait + Sync>(
         &self,

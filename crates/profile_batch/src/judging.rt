@@ -1,7 +1,7 @@
 //! An item of a profile, by what a grammar gives for its sentence.
 
 ghost use Rattle.std.specs.Prelude.{◌≡◌, ℕ, ◌<◌, ◌^◌, All, true, false, length, map, IfOk, string_bytes};
-ghost use Rattle.item_model.specs.Items.{Trees};
+ghost use Rattle.tree_model.specs.Items.{Trees};
 ghost use Rattle.derivation.specs.Text.{IsNamed, text_of};
 ghost use Rattle.derivation.specs.Views.{derivation_of};
 ghost use Rattle.grammar_rules.specs.Views.{item_answer};
@@ -15,8 +15,7 @@ use endings::lines::Share;
 use engine::desks::Desks;
 use engine::{Engine, lattice_of_words};
 use grammar_rules::ItemAnswer;
-use profile_items::{NoMemory, ProfileItem};
-use profile_reports::{Came, Got, ItemResult, result_of};
+use profile_reports::{Came, Got, ItemResult, NoMemory, ProfileItem, result_of};
 use side_by_side::Work;
 use std::alloc::Global;
 use std::sync::Wait;
@@ -106,15 +105,15 @@ impl Judge<'_, '_, '_> {
     ghost use Rattle.chart_core.specs.Kept.{InRange};
     ghost use Rattle.packed_items.specs.Answers.{limits_in};
     ghost use Rattle.lexical_items.specs.Seen.{lattice_seen};
-    ghost use Rattle.parse_items.specs.Answers.{IsParseAnswer};
-    ghost use Rattle.item_model.specs.Items.{Answer};
+    ghost use Rattle.tree_model.specs.Answers.{IsParseAnswer};
+    ghost use Rattle.tree_model.specs.Items.{Answer};
     ghost use Rattle.engine.specs.Ready.{IsReady};
     ghost use Rattle.engine.specs.Speeches.{lattice_of_words};
     ghost use Rattle.engine.specs.Views.{speech_of};
-    ghost use Rattle.profile_items.specs.declared.Expected.{Expected};
-    ghost use Rattle.profile_items.specs.Profiles.{an_item};
+    ghost use Rattle.profile_reports.specs.declared.profiles.Expected.{Expected};
+    ghost use Rattle.profile_reports.specs.Profiles.{an_item};
     ghost use Rattle.profile_reports.specs.Views.{Keeps, HasTexts, texts_kept};
-    ghost use Rattle.profile_items.specs.Views.{item_kept};
+    ghost use Rattle.profile_reports.specs.ItemsViews.{item_kept};
     ghost use Rattle.profile_batch.specs.Results.{outcome_of, IsResult, IsResultOrGap};
     ghost use Rattle.profile_batch.specs.Views.{trees_of};
 
@@ -226,7 +225,7 @@ impl Work<ProfileItem, ItemResult> for Judge<'_, '_, '_> {
     ghost use Rattle.packed_items.specs.Answers.{limits_in};
     ghost use Rattle.engine.specs.Ready.{IsReady};
     ghost use Rattle.engine.specs.Views.{speech_of};
-    ghost use Rattle.profile_items.specs.Views.{item_kept};
+    ghost use Rattle.profile_reports.specs.ItemsViews.{item_kept};
     ghost use Rattle.profile_batch.specs.Results.{IsResultOrGap};
     ghost use Rattle.profile_batch.specs.Views.{trees_of};
 

@@ -9,5 +9,5 @@ mod turns;
 
 pub use batching::batch;
 pub use command::Batch;
-pub use profile_items::{Expected, NoMemory, ProfileItem, profile};
-pub use profile_reports::{Got, ItemResult};
+pub use profile_reports::{Expected, Got, ItemResult, ProfileItem, profile};
+pub use std::alloc::AllocError as NoMemory;

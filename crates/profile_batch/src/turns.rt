@@ -6,14 +6,13 @@ ghost use Rattle.packed_items.specs.Answers.{limits_in};
 ghost use Rattle.engine.specs.Ready.{IsReady};
 ghost use Rattle.engine.specs.Views.{speech_of};
 ghost use Rattle.side_by_side.specs.Works.{AreGiven};
-ghost use Rattle.profile_items.specs.Views.{item_kept};
+ghost use Rattle.profile_reports.specs.ItemsViews.{item_kept};
 ghost use Rattle.profile_batch.specs.Results.{IsResultOrGap};
 ghost use Rattle.profile_batch.specs.Views.{trees_of};
 
 use crate::judging::Judge;
 use engine::desks::Desks;
-use profile_items::{NoMemory, ProfileItem};
-use profile_reports::{Got, ItemResult};
+use profile_reports::{Got, ItemResult, NoMemory, ProfileItem};
 use side_by_side::each_by;
 use std::alloc::Global;
 use std::sync::Wait;

@@ -1,9 +1,9 @@
 -- The lines and the counts of items, one item more.
 use Rattle.std.proofs.Common.{◌≡◌, ℕ, ◌+◌, ◌<◌, ◌≤◌, List, ◌∷◌, ◌++◌, length, map, drop, get_or, sym, ap, ◌∙◌, arith}
 use Rattle.std.proofs.lemmas.List.{drop_more, append_assoc}
-use Rattle.profile_items.specs.declared.ProfileItem.{ProfileItem}
-use Rattle.profile_items.specs.Profiles.{Item}
-use Rattle.profile_items.specs.Views.{item_kept}
+use Rattle.profile_reports.specs.declared.profiles.ProfileItem.{ProfileItem}
+use Rattle.profile_reports.specs.Profiles.{Item}
+use Rattle.profile_reports.specs.ItemsViews.{item_kept}
 use Rattle.profile_reports.specs.declared.Counts.{Counts}
 use Rattle.profile_reports.specs.declared.ItemResult.{ItemResult}
 use Rattle.profile_reports.specs.declared.Verdict.{Verdict}

@@ -1,9 +1,9 @@
 -- What is found of an item of a profile, and what that means.
 use Rattle.std.specs.Prelude.{ℕ, ◌==◌, ◌&&◌, Bool, true, false, if◌then◌else◌, List, [], ◌∷◌}
 use Rattle.std.specs.List.{list_any}
-use Rattle.profile_items.specs.declared.Expected.{Expected}
-use Rattle.profile_items.specs.declared.Expected.TheVariants.{Unknown, Readings as ExpectsReadings, LexicalDepth as ExpectsDepth, UnaryChain as ExpectsChain, Edges as ExpectsEdges, TooManyReadings as ExpectsMany}
-use Rattle.profile_items.specs.Profiles.{Item, an_item}
+use Rattle.profile_reports.specs.declared.profiles.Expected.{Expected}
+use Rattle.profile_reports.specs.declared.profiles.Expected.TheVariants.{Unknown, Readings as ExpectsReadings, LexicalDepth as ExpectsDepth, UnaryChain as ExpectsChain, Edges as ExpectsEdges, TooManyReadings as ExpectsMany}
+use Rattle.profile_reports.specs.Profiles.{Item, an_item}
 use Rattle.profile_reports.specs.declared.Got.{Got}
 use Rattle.profile_reports.specs.declared.Got.TheVariants.{Readings, LexicalDepth, UnaryChain, Edges, TooManyReadings, NoMemory}
 use Rattle.profile_reports.specs.declared.ItemResult.{ItemResult}

@@ -4,3 +4,7 @@ pub mod Views
 pub mod Comparing
 pub mod Lines
 pub mod Inner
+pub mod Names
+pub mod Profiles
+pub mod Bounds
+pub mod ItemsViews

@@ -1,10 +1,10 @@
 -- The report lines of a profile, each with its end.
 use Rattle.std.specs.Prelude.{ℕ, ◌+◌, ◌==◌, ◌&&◌, ◌||◌, not, Bool, true, false, if◌then◌else◌, List, [], ◌∷◌, ◌++◌, length, codes}
 use Rattle.std.specs.Fmt.{decimal}
-use Rattle.profile_items.specs.declared.Expected.{Expected}
-use Rattle.profile_items.specs.declared.Expected.TheVariants.{Unknown, Readings as ExpectsReadings, LexicalDepth as ExpectsDepth, UnaryChain as ExpectsChain, Edges as ExpectsEdges, TooManyReadings as ExpectsMany}
-use Rattle.profile_items.specs.Names.{lexical_depth_name, unary_chain_name, edges_name, readings_name}
-use Rattle.profile_items.specs.Profiles.{Item, too_long, not_utf8, no_item, an_item}
+use Rattle.profile_reports.specs.declared.profiles.Expected.{Expected}
+use Rattle.profile_reports.specs.declared.profiles.Expected.TheVariants.{Unknown, Readings as ExpectsReadings, LexicalDepth as ExpectsDepth, UnaryChain as ExpectsChain, Edges as ExpectsEdges, TooManyReadings as ExpectsMany}
+use Rattle.profile_reports.specs.Names.{lexical_depth_name, unary_chain_name, edges_name, readings_name}
+use Rattle.profile_reports.specs.Profiles.{Item, too_long, not_utf8, no_item, an_item}
 use Rattle.profile_reports.specs.declared.Counts.{Counts}
 use Rattle.profile_reports.specs.declared.Got.{Got}
 use Rattle.profile_reports.specs.declared.Got.TheVariants.{Bad as GotBad, Readings, LexicalDepth, UnaryChain, Edges, TooManyReadings, NoMemory}

@@ -2,14 +2,20 @@
 #![tactic(auto)]
 
 mod compare;
+mod heads;
+mod items;
+mod items_lines;
 mod lines;
+mod profiles;
 mod report;
 mod texts;
 mod verdicts;
 
 pub use compare::result_of;
-pub use profile_items::NoMemory;
+pub use items::profile;
+pub use profiles::{Expected, ProfileItem};
 pub use report::{ProfileReport, report_on};
+pub use std::alloc::AllocError as NoMemory;
 pub use verdicts::{some_lacking, verdict_of};
 
 /// What a grammar gives for an item.

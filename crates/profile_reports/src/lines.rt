@@ -1,14 +1,13 @@
 //! The report lines of a profile.
 ghost use Rattle.std.specs.Prelude.{◌≡◌, ◌++◌, ◌∷◌, [], IfOk, OnOk};
 ghost use Rattle.std.specs.Fmt.{decimal};
-ghost use Rattle.profile_items.specs.Views.{item_kept};
+ghost use Rattle.profile_reports.specs.ItemsViews.{item_kept};
 ghost use Rattle.profile_reports.specs.Comparing.{verdict_on, verdict_of};
 ghost use Rattle.profile_reports.specs.Lines.{got_text, expected_text, compared_text, told_of, told, item_line, trees_line, has_trees, summary_line};
 
 use crate::verdicts::lacks_memory;
-use crate::{Counts, Got, ItemResult, NoMemory, Verdict};
+use crate::{Counts, Expected, Got, ItemResult, NoMemory, ProfileItem, Verdict};
 use itoa::Buffer;
-use profile_items::{Expected, ProfileItem};
 use std::alloc::Global;
 
 // These bytes.

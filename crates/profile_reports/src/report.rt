@@ -1,13 +1,12 @@
 //! The report on a profile.
 ghost use Rattle.std.specs.Prelude.{◌≡◌, ◌<◌, ◌^◌, ◌++◌, length, map, IfOk, OnOk};
-ghost use Rattle.profile_items.specs.Views.{item_kept};
+ghost use Rattle.profile_reports.specs.ItemsViews.{item_kept};
 ghost use Rattle.profile_reports.specs.Comparing.{verdict_of};
 ghost use Rattle.profile_reports.specs.Lines.{item_lines, trees_lines, report_lines, is_refused};
 
 use crate::lines::{has_trees, item_line, summary_line, trees_line};
 use crate::verdicts::{count, lacks_memory, verdict_of};
-use crate::{Counts, ItemResult, NoMemory, Verdict};
-use profile_items::ProfileItem;
+use crate::{Counts, ItemResult, NoMemory, ProfileItem, Verdict};
 use std::alloc::Global;
 
 /// The report lines of a profile, each with its end, and whether an item differs or is bad.

@@ -1,11 +1,10 @@
 //! Verdicts on items.
 ghost use Rattle.std.specs.Prelude.{◌≡◌, ◌+◌, ◌-◌, ◌<◌, ◌^◌};
-ghost use Rattle.profile_items.specs.Views.{item_kept};
+ghost use Rattle.profile_reports.specs.ItemsViews.{item_kept};
 ghost use Rattle.profile_reports.specs.Comparing.{is_expected, compared, lacks_memory, is_some_lacking, verdict_on, verdict_of};
 ghost use Rattle.profile_reports.specs.Lines.{counted};
 
-use crate::{Counts, Got, ItemResult, Verdict};
-use profile_items::{Expected, ProfileItem};
+use crate::{Counts, Expected, Got, ItemResult, ProfileItem, Verdict};
 
 // Whether what came is what is expected.
 fn is_expected(expected: Expected, got: Got) -> bool

@@ -2,3 +2,14 @@ pub mod Wholes
 pub mod Reaching
 pub mod Telling
 pub mod Valid
+pub mod OneGraph
+pub mod Exact
+pub mod Reached
+pub mod Rules
+pub mod Tested
+pub mod Seen
+pub mod Listed
+pub mod Lists
+pub mod Runs
+pub mod Told
+pub mod Words

@@ -3,12 +3,12 @@ use Rattle.std.specs.Prelude.{ℕ, ◌≡◌, ◌<◌, Option, Some, None, List,
 use Rattle.std.proofs.Common.{zero, suc, sym, subst, arith}
 use Rattle.std.proofs.lemmas.List.Elements.{All-head, All-tail, All-nil, All-cons}
 use Rattle.fs_model.specs.Closure.{AreConsistent}
-use Rattle.cover.specs.declared.counts.Counts.{Counts}
-use Rattle.rule_model.specs.Structures.{Structure}
-use Rattle.rule_model.specs.Mothers.{Rule, Meant, IsFullAt}
-use Rattle.rule_model.proofs.Closures.{falls}
-use Rattle.rule_model.proofs.MotherLaws.{meant_full, mother_consistent}
-use Rattle.item_model.specs.Signs.{Signs, rule_system}
+use Rattle.chart_model.specs.declared.counts.Counts.{Counts}
+use Rattle.tree_model.specs.Structures.{Structure}
+use Rattle.tree_model.specs.Mothers.{Rule, Meant, IsFullAt}
+use Rattle.tree_model.proofs.Closures.{falls}
+use Rattle.tree_model.proofs.MotherLaws.{meant_full, mother_consistent}
+use Rattle.tree_model.specs.Signs.{Signs, rule_system}
 use Rattle.forest_unpack.specs.Reached.{IsReached, reached_leaf, reached_phrase}
 use Rattle.rule_trees.specs.Mothers.{IsMade, made_mother}
 use Rattle.tree_structures.proofs.Making.{full_made}

@@ -7,9 +7,9 @@ use Rattle.fs_model.specs.Claims.{IsOrder, Has, here, there}
 use Rattle.fs_graph.specs.GraphMap.{GraphMap, arcs_at}
 use Rattle.fs_unify.specs.Rules.{Grammar}
 use Rattle.fs_unify.specs.Placing.{IsAnswerIn}
-use Rattle.rule_model.specs.Structures.{Structure}
-use Rattle.rule_model.specs.Mothers.{Meant}
-use Rattle.item_model.specs.Signs.{Signs, rule_system}
+use Rattle.tree_model.specs.Structures.{Structure}
+use Rattle.tree_model.specs.Mothers.{Meant}
+use Rattle.tree_model.specs.Signs.{Signs, rule_system}
 use Rattle.mrs_model.specs.Meanings.{Meaning}
 use Rattle.mrs_model.specs.declared.equality.Renaming.{Renaming}
 use Rattle.mrs_model.specs.Renaming.{AreEqual, IsRenaming}

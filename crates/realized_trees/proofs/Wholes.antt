@@ -2,15 +2,15 @@
 use Rattle.std.specs.Prelude.{ℕ, ◌≡◌, Option, List, slice_get}
 use Rattle.std.proofs.Common.{refl, sym, subst, ◌∙◌}
 use mathlib.Core.Equiv.{iso_to_equiv}
-use Rattle.cover.specs.declared.counts.Counts.{Counts}
-use Rattle.rule_model.specs.Structures.{Structure}
-use Rattle.rule_model.specs.Laws.{rules_full}
-use Rattle.item_model.specs.Signs.{Signs, rule_system, placed_rules, place_at}
-use Rattle.item_model.specs.Lexical.{Words}
-use Rattle.item_model.specs.Trees.{IsRooted}
-use Rattle.item_model.specs.Items.{LeafTree, Limits}
-use Rattle.item_model.specs.Forests.{wholes, leaf_at, full_at}
-use Rattle.contributions.specs.Bags.{bound_of, preds_of}
+use Rattle.chart_model.specs.declared.counts.Counts.{Counts}
+use Rattle.tree_model.specs.Structures.{Structure}
+use Rattle.tree_model.specs.Laws.{rules_full}
+use Rattle.tree_model.specs.Signs.{Signs, rule_system, placed_rules, place_at}
+use Rattle.tree_model.specs.Lexical.{Words}
+use Rattle.tree_model.specs.Trees.{IsRooted}
+use Rattle.tree_model.specs.Items.{LeafTree, Limits}
+use Rattle.tree_model.specs.Forests.{wholes, leaf_at, full_at}
+use Rattle.generate_model.specs.Bags.{bound_of, preds_of}
 use Rattle.generate_model.specs.Contributions.{Input, Means, asked_of}
 use Rattle.generate_model.specs.Realizations.{IsGenAccepted, gen_item}
 use Rattle.generated_leaves.specs.Leaves.{WordLeaf}

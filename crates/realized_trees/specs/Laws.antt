@@ -1,10 +1,10 @@
 -- What is asked for is what the item of generation accepts.
 use Rattle.std.specs.Prelude.{ℕ, ◌≡◌, ◌↔◌, Option, List, []}
-use Rattle.cover.specs.declared.counts.Counts.{Counts}
-use Rattle.rule_model.specs.Structures.{Structure}
-use Rattle.item_model.specs.Signs.{Signs}
-use Rattle.item_model.specs.Lexical.{Words}
-use Rattle.contributions.specs.Bags.{bound_of, preds_of}
+use Rattle.chart_model.specs.declared.counts.Counts.{Counts}
+use Rattle.tree_model.specs.Structures.{Structure}
+use Rattle.tree_model.specs.Signs.{Signs}
+use Rattle.tree_model.specs.Lexical.{Words}
+use Rattle.generate_model.specs.Bags.{bound_of, preds_of}
 use Rattle.generate_model.specs.Contributions.{Input, asked_of}
 use Rattle.generate_model.specs.Realizations.{IsGenAccepted}
 use Rattle.generated_leaves.specs.Leaves.{WordLeaf}

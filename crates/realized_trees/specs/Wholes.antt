@@ -1,12 +1,12 @@
 -- Full structures of the trees over the leaves of generation, and which trees are asked for.
 use Rattle.std.specs.Prelude.{ℕ, ◌≡◌, Option, Some, None, List, [], slice_get}
-use Rattle.cover.specs.declared.counts.Counts.{Counts}
+use Rattle.chart_model.specs.declared.counts.Counts.{Counts}
 use Rattle.derivation.specs.Trees.{Derivation, lexical}
-use Rattle.forest_model.specs.Readings.{Wholes}
-use Rattle.rule_model.specs.Structures.{Structure}
-use Rattle.rule_model.specs.Laws.{rules_full}
-use Rattle.item_model.specs.Signs.{Signs, rule_system, placed_rules, place_at}
-use Rattle.item_model.specs.Trees.{Full, IsRooted}
+use Rattle.tree_model.specs.Readings.{Wholes}
+use Rattle.tree_model.specs.Structures.{Structure}
+use Rattle.tree_model.specs.Laws.{rules_full}
+use Rattle.tree_model.specs.Signs.{Signs, rule_system, placed_rules, place_at}
+use Rattle.tree_model.specs.Trees.{Full, IsRooted}
 use Rattle.mrs_model.specs.Meanings.{Meaning}
 use Rattle.mrs_places.specs.Paths.{Paths}
 use Rattle.book_signs.specs.Trees.{SignTree}

@@ -9,7 +9,7 @@ ghost use Rattle.realized_trees.specs.Inner.Props.{path_props};
 
 use crate::meaning::is_realized;
 use book_signs::SignBook;
-use cover::Counts;
+use chart_model::Counts;
 use derivation::Tree;
 use forest_unpack::{FullParts, Fulls, NoMemory};
 use fs_unify::Scratch;
@@ -41,8 +41,8 @@ pub struct RealizedFulls<'a> {
 
 impl<'a> Fulls for RealizedFulls<'a> {
     ghost use Rattle.std.specs.Prelude.{map};
-    ghost use Rattle.cover.specs.declared.counts.Counts.{Counts as CountsValue};
-    ghost use Rattle.rule_model.specs.Structures.{Structure};
+    ghost use Rattle.chart_model.specs.declared.counts.Counts.{Counts as CountsValue};
+    ghost use Rattle.tree_model.specs.Structures.{Structure};
     ghost use Rattle.mrs_model.specs.Views.{meaning_of};
     ghost use Rattle.mrs_places.specs.Paths.{paths_of};
     ghost use Rattle.book_signs.specs.Trees.{signs_of};

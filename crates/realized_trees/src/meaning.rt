@@ -2,9 +2,9 @@
 
 ghost use Rattle.std.specs.Prelude.{◌≡◌, ◌↔◌, length, IsTrue, IfOk, IfSome, MatchOption};
 ghost use Rattle.fs_model.specs.Closure.{AreConsistent};
-ghost use Rattle.rule_model.specs.Mothers.{Meant};
-ghost use Rattle.item_model.specs.Signs.{rule_system};
-ghost use Rattle.item_model.specs.Trees.{IsRooted};
+ghost use Rattle.tree_model.specs.Mothers.{Meant};
+ghost use Rattle.tree_model.specs.Signs.{rule_system};
+ghost use Rattle.tree_model.specs.Trees.{IsRooted};
 ghost use Rattle.mrs_model.specs.Meanings.{Meaning};
 ghost use Rattle.mrs_model.specs.Valid.{IsValid};
 ghost use Rattle.mrs_model.specs.Views.{meaning_of};

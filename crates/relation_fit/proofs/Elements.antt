@@ -9,11 +9,11 @@ use Rattle.fs_model.specs.Claims.{Path, System, IsOrder}
 use Rattle.fs_model.specs.Closure.{Closure, introduced}
 use Rattle.fs_model.proofs.TableLemmas.{walk-append, walk-prefix, walk_ends}
 use Rattle.fs_graph.specs.GraphMap.{GraphMap, IsGraph, node_at, table_of, arc_to, arcs_at, type_at, reader_of}
-use Rattle.rule_model.specs.Structures.{Structure, Says}
-use Rattle.rule_model.specs.Views.{Shows}
-use Rattle.rule_model.specs.Mothers.{Meant}
-use Rattle.cover.specs.declared.counts.Counts.{Counts}
-use Rattle.item_model.specs.Signs.{Signs, rule_system}
+use Rattle.tree_model.specs.Structures.{Structure, Says}
+use Rattle.tree_model.specs.Views.{Shows}
+use Rattle.tree_model.specs.Mothers.{Meant}
+use Rattle.chart_model.specs.declared.counts.Counts.{Counts}
+use Rattle.tree_model.specs.Signs.{Signs, rule_system}
 use Rattle.mrs_model.specs.Renaming.{renamed_ep, unspanned}
 use Rattle.mrs_places.specs.Paths.{Feature, Paths}
 use Rattle.mrs_places.specs.Looking as looking

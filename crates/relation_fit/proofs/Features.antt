@@ -4,10 +4,10 @@ use Rattle.std.specs.List.{list_all}
 use Rattle.std.proofs.Common.{refl, sym, ◌∙◌, ap, subst, arith, append_assoc, append-nil, get_or, add-one, drop-cons, zero, suc}
 use Rattle.std.proofs.lemmas.Bool.{eqb-true, eq-eqb}
 use Rattle.fs_model.specs.Claims.{Path}
-use Rattle.fs_paths.specs.declared.facts.Feat.{Feat}
-use Rattle.fs_paths.specs.Facts.{path_of}
-use Rattle.rule_model.specs.Cuts.{has_feature, is_kept}
-use Rattle.rule_model.specs.Mothers.{RuleSystem, daughters_cut}
+use Rattle.fs_graph.specs.declared.facts.Feat.{Feat}
+use Rattle.fs_graph.specs.Facts.{path_of}
+use Rattle.tree_model.specs.Cuts.{has_feature, is_kept}
+use Rattle.tree_model.specs.Mothers.{RuleSystem, daughters_cut}
 use Rattle.generate_model.specs.Threads.{Open}
 use Rattle.generate_model.specs.Embedding.{IsOutside}
 use Rattle.mrs_places.specs.declared.paths.MrsFeat.{MrsFeat}

@@ -8,8 +8,8 @@ use Rattle.fs_model.specs.Claims.{Path, same, Has, here, there}
 use Rattle.fs_model.specs.Closure.{Closure}
 use Rattle.fs_model.specs.Sources.{Told}
 use Rattle.fs_graph.specs.GraphMap.{GraphMap, node_at, reader_of}
-use Rattle.rule_model.specs.Views.{Shows}
-use Rattle.rule_model.specs.Mothers.{Rule, RuleSystem}
+use Rattle.tree_model.specs.Views.{Shows}
+use Rattle.tree_model.specs.Mothers.{Rule, RuleSystem}
 use Rattle.generate_model.specs.Threads.{Open, Reaches}
 use Rattle.generate_model.specs.Embedding.{moved_to}
 use Rattle.generate_model.specs.Threading.{Links, links_none, links_next, IsThreading}

@@ -10,14 +10,14 @@ use Rattle.fs_model.specs.Claims.{Path, Claim, exists_at, same, below, System, I
 use Rattle.fs_model.specs.Closure.{below_exists, same_sym, same_trans}
 use Rattle.fs_model.specs.Table.{walk}
 use Rattle.fs_model.proofs.TableLemmas.{walk-append, walk-prefix}
-use Rattle.fs_paths.specs.declared.facts.Feat.{Feat}
-use Rattle.fs_paths.specs.Facts.{path_of}
+use Rattle.fs_graph.specs.declared.facts.Feat.{Feat}
+use Rattle.fs_graph.specs.Facts.{path_of}
 use Rattle.fs_graph.specs.declared.graph.GraphArc.{GraphArc}
 use Rattle.fs_graph.specs.GraphMap.{GraphMap, IsGraph, table_of, node_at, type_at, arc_to, arcs_at, arc_named, reader_of}
-use Rattle.rule_model.specs.Structures.{Structure}
-use Rattle.rule_model.specs.Mothers.{Meant}
-use Rattle.item_model.specs.Signs.{Signs, rule_system}
-use Rattle.cover.specs.declared.counts.Counts.{Counts}
+use Rattle.tree_model.specs.Structures.{Structure}
+use Rattle.tree_model.specs.Mothers.{Meant}
+use Rattle.tree_model.specs.Signs.{Signs, rule_system}
+use Rattle.chart_model.specs.declared.counts.Counts.{Counts}
 use Rattle.mrs_model.specs.Meanings.{Property, Variable, Filler, of_var, of_text, Argument, Predication, Meaning}
 use Rattle.mrs_places.specs.Paths.{Feature, Paths}
 use Rattle.mrs_places.specs.Looking.{step}

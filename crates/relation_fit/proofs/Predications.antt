@@ -9,9 +9,9 @@ use Rattle.type_hierarchy.specs.Table.{TypeTable}
 use Rattle.fs_model.specs.Claims.{Path, System, IsOrder}
 use Rattle.fs_graph.specs.declared.graph.GraphArc.{GraphArc}
 use Rattle.fs_graph.specs.GraphMap.{GraphMap, IsGraph, node_at, type_at, arcs_at}
-use Rattle.rule_model.specs.Structures.{Structure}
-use Rattle.rule_model.specs.Mothers.{Meant}
-use Rattle.item_model.specs.Signs.{Signs, rule_system}
+use Rattle.tree_model.specs.Structures.{Structure}
+use Rattle.tree_model.specs.Mothers.{Meant}
+use Rattle.tree_model.specs.Signs.{Signs, rule_system}
 use Rattle.mrs_model.specs.Meanings.{Variable, Filler, of_var, of_text, Argument, Predication, Meaning}
 use Rattle.mrs_model.specs.Renaming.{renamed_filler, renamed_argument, renamed_ep, unspanned, IsRenaming}
 use Rattle.mrs_places.specs.Paths.{Feature, Paths}

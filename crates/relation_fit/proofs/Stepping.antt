@@ -6,8 +6,8 @@ use Rattle.std.proofs.lemmas.List.{map-append}
 use Rattle.std.proofs.lemmas.List.Sorted.{IsPermutation-map, IsPermutation-remove}
 use Rattle.fs_model.specs.Claims.{Path}
 use Rattle.fs_graph.specs.GraphMap.{GraphMap, node_at}
-use Rattle.fs_paths.specs.declared.facts.Feat.{Feat}
-use Rattle.fs_paths.specs.Facts.{path_of}
+use Rattle.fs_graph.specs.declared.facts.Feat.{Feat}
+use Rattle.fs_graph.specs.Facts.{path_of}
 use Rattle.relation_fit.specs.declared.links.DaughterList.{DaughterList}
 use Rattle.relation_fit.specs.declared.list.RelationList.{RelationList}
 use Rattle.relation_fit.specs.Lists.{list_seen}

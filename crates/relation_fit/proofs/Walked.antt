@@ -5,8 +5,8 @@ use Rattle.std.proofs.lemmas.List.{map-append, get_or_append_left, get_or-append
 use Rattle.std.proofs.lemmas.Bool.{cases_lt}
 use Rattle.fs_graph.specs.declared.graph.Node.{Node}
 use Rattle.fs_graph.specs.GraphMap.{GraphMap, IsGraph, node_at, arc_to, arcs_at, reader_of}
-use Rattle.rule_model.specs.Structures.{Structure}
-use Rattle.rule_model.specs.Mothers.{RuleSystem, Meant}
+use Rattle.tree_model.specs.Structures.{Structure}
+use Rattle.tree_model.specs.Mothers.{RuleSystem, Meant}
 use Rattle.generate_model.specs.Threads.{times}
 use Rattle.generate_model.specs.Threading.{Fit}
 use Rattle.relation_fit.specs.Fits.{IsPartOf}

@@ -4,7 +4,7 @@ use Rattle.fs_model.specs.Claims.{Path, Claim, same, below, System, IsOrder}
 use Rattle.fs_model.specs.Sources.{Reader}
 use Rattle.type_hierarchy.specs.Table.{TypeTable, is_below}
 use Rattle.mrs_places.specs.Paths.{Paths}
-use Rattle.item_model.specs.Signs.{Signs}
+use Rattle.tree_model.specs.Signs.{Signs}
 use Rattle.generate_model.specs.Contributions.{Input}
 use Rattle.relation_fit.specs.Lists.{RelList, list_in}
 

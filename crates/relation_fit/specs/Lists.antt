@@ -2,8 +2,8 @@
 use Rattle.std.specs.Prelude.{ℕ, Option, Some, None, Vec, List, [], ◌∷◌, ◌++◌, map}
 use Rattle.std.specs.Global.{Global}
 use Rattle.fs_model.specs.Claims.{Path}
-use Rattle.fs_paths.specs.declared.facts.Feat.{Feat}
-use Rattle.fs_paths.specs.Facts.{path_of}
+use Rattle.fs_graph.specs.declared.facts.Feat.{Feat}
+use Rattle.fs_graph.specs.Facts.{path_of}
 use Rattle.generate_model.specs.Threads.{Open}
 use Rattle.mrs_places.specs.Paths.{Feature, Paths}
 use Rattle.relation_fit.specs.declared.list.RelationList.{RelationList}

@@ -2,7 +2,7 @@
 use Rattle.std.specs.Prelude.{ℕ, ◌==◌, ◌&&◌, ◌||◌, not, nat_lt, Bool, true, false, if◌then◌else◌, Option, Some, None, List, length}
 use Rattle.std.specs.List.{list_any, list_all}
 use Rattle.std.proofs.Common.{zero, suc}
-use Rattle.fs_paths.specs.Facts.{path_of}
+use Rattle.fs_graph.specs.Facts.{path_of}
 use Rattle.fs_model.specs.Table.{walk}
 use Rattle.fs_graph.specs.GraphMap.{GraphMap, table_of, node_at, type_at, arcs_at, arc_to}
 use Rattle.type_hierarchy.specs.Table.{TypeTable, count_of, completed_count, is_below}

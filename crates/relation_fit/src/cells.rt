@@ -2,8 +2,8 @@
 
 ghost use Rattle.std.specs.Prelude.{◌≡◌, ◌<◌, true, length, option_map, IfOk, IfSome};
 ghost use Rattle.fs_graph.specs.GraphMap.{arc_to, arcs_at, reader_of};
-ghost use Rattle.rule_model.specs.Structures.{Structure};
-ghost use Rattle.rule_model.specs.Mothers.{RuleSystem, Meant};
+ghost use Rattle.tree_model.specs.Structures.{Structure};
+ghost use Rattle.tree_model.specs.Mothers.{RuleSystem, Meant};
 ghost use Rattle.generate_model.specs.Threading.{Fit};
 ghost use Rattle.relation_fit.specs.Fits.{IsPartOf};
 ghost use Rattle.relation_fit.specs.Lists.{list_seen};
@@ -11,8 +11,7 @@ ghost use Rattle.relation_fit.specs.Inner.Cells.{AreCells, nodes_of};
 
 use crate::NoMemory;
 use crate::list::RelationList;
-use fs_graph::{Graph, GraphArc, Node};
-use fs_paths::Feat;
+use fs_graph::{Feat, Graph, GraphArc, Node};
 use std::alloc::Global;
 
 // Where the arc with a feature leads.

@@ -1,12 +1,12 @@
 //! Structures with too many relations.
 
 ghost use Rattle.std.specs.Prelude.{◌≡◌, true, length, IfOk};
-ghost use Rattle.cover.specs.declared.counts.Counts.{Counts as CountsOf};
+ghost use Rattle.chart_model.specs.declared.counts.Counts.{Counts as CountsOf};
 ghost use Rattle.fs_graph.specs.GraphMap.{reader_of};
-ghost use Rattle.rule_model.specs.Structures.{Structure};
-ghost use Rattle.rule_model.specs.Views.{Shows};
-ghost use Rattle.rule_model.specs.Mothers.{Meant};
-ghost use Rattle.item_model.specs.Signs.{Signs, rule_system};
+ghost use Rattle.tree_model.specs.Structures.{Structure};
+ghost use Rattle.tree_model.specs.Views.{Shows};
+ghost use Rattle.tree_model.specs.Mothers.{Meant};
+ghost use Rattle.tree_model.specs.Signs.{Signs, rule_system};
 ghost use Rattle.generate_model.specs.Threading.{Hopeless};
 ghost use Rattle.generate_model.specs.Contributions.{Input, Means};
 ghost use Rattle.relation_fit.specs.Lists.{list_seen};

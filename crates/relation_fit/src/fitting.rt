@@ -2,14 +2,14 @@
 
 ghost use Rattle.std.specs.Prelude.{◌≡◌, ◌<◌, ◌&&◌, ◌∷◌, nat_lt, true, false, All, length, option_map, IfSome};
 ghost use Rattle.std.specs.List.{list_any, list_all};
-ghost use Rattle.cover.specs.declared.counts.Counts.{Counts as CountsOf};
+ghost use Rattle.chart_model.specs.declared.counts.Counts.{Counts as CountsOf};
 ghost use Rattle.type_hierarchy.specs.Table.{count_of};
-ghost use Rattle.fs_paths.specs.Facts.{path_of};
+ghost use Rattle.fs_graph.specs.Facts.{path_of};
 ghost use Rattle.fs_model.specs.Table.{walk};
 ghost use Rattle.fs_graph.specs.GraphMap.{reader_of, table_of, type_at};
-ghost use Rattle.rule_model.specs.Structures.{Structure};
-ghost use Rattle.rule_model.specs.Mothers.{Meant};
-ghost use Rattle.item_model.specs.Signs.{Signs, rule_system};
+ghost use Rattle.tree_model.specs.Structures.{Structure};
+ghost use Rattle.tree_model.specs.Mothers.{Meant};
+ghost use Rattle.tree_model.specs.Signs.{Signs, rule_system};
 ghost use Rattle.generate_model.specs.Threading.{Hopeless};
 ghost use Rattle.generate_model.specs.Contributions.{Input, Means};
 ghost use Rattle.mrs_places.specs.Paths.{paths_of};
@@ -22,8 +22,7 @@ ghost use Rattle.relation_fit.specs.Tests.{is_under, may_be, prop_fits, value_fi
 use crate::cells::next;
 use crate::list::RelationList;
 use crate::seeking::{Named, Sought, SoughtEp, SoughtProp, SoughtRole, SoughtValue};
-use fs_graph::{Graph, Node};
-use fs_paths::Feat;
+use fs_graph::{Feat, Graph, Node};
 use mrs_places::{MrsPaths, step};
 use type_hierarchy::{Ty, Types};
 

@@ -18,20 +18,4 @@ pub use fitting::has_misfit;
 pub use links::threads;
 pub use list::{RelationList, is_outside, relation_list};
 pub use seeking::{Named, Sought, SoughtEp, SoughtProp, SoughtRole, SoughtValue, sought_of};
-use std::alloc::{AllocError, AllocFailed};
-
-/// Memory was wanting.
-#[derive(Debug, Drop, Clone, Copy, PartialEq, Eq)]
-pub struct NoMemory;
-
-impl From<AllocError> for NoMemory {
-    fn from(_error: AllocError) -> NoMemory {
-        NoMemory
-    }
-}
-
-impl<T: Drop> From<AllocFailed<T>> for NoMemory {
-    fn from(_error: AllocFailed<T>) -> NoMemory {
-        NoMemory
-    }
-}
+pub use std::alloc::AllocError as NoMemory;

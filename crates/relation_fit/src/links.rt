@@ -4,9 +4,9 @@ ghost use Rattle.std.specs.Prelude.{◌≡◌, ◌++◌, true, map, Some, IfOk, 
 ghost use Rattle.fs_graph.specs.GraphMap.{node_at, reader_of};
 ghost use Rattle.fs_model.specs.Closure.{Closure};
 ghost use Rattle.fs_model.specs.Sources.{Told};
-ghost use Rattle.fs_paths.specs.Facts.{path_of};
-ghost use Rattle.rule_model.specs.Views.{Shows};
-ghost use Rattle.rule_model.specs.Mothers.{Rule, RuleSystem};
+ghost use Rattle.fs_graph.specs.Facts.{path_of};
+ghost use Rattle.tree_model.specs.Views.{Shows};
+ghost use Rattle.tree_model.specs.Mothers.{Rule, RuleSystem};
 ghost use Rattle.generate_model.specs.Embedding.{moved_to};
 ghost use Rattle.generate_model.specs.Threading.{IsThreading};
 ghost use Rattle.relation_fit.specs.Lists.{list_seen, places_seen};
@@ -14,8 +14,7 @@ ghost use Rattle.relation_fit.specs.Inner.Links.{open_seen, BeginsAt};
 
 use crate::NoMemory;
 use crate::list::RelationList;
-use fs_graph::{Graph, Node};
-use fs_paths::Feat;
+use fs_graph::{Feat, Graph, Node};
 use std::alloc::Global;
 
 // A daughter's list, by paths from her mother's root.

@@ -1,16 +1,16 @@
 //! Where the relations of a structure stand.
 
 ghost use Rattle.std.specs.Prelude.{◌≡◌, [], true, map, option_map, IfOk};
-ghost use Rattle.fs_paths.specs.Facts.{path_of};
-ghost use Rattle.rule_model.specs.Mothers.{RuleSystem, daughters_cut};
+ghost use Rattle.fs_graph.specs.Facts.{path_of};
+ghost use Rattle.tree_model.specs.Mothers.{RuleSystem, daughters_cut};
 ghost use Rattle.generate_model.specs.Embedding.{IsOutside};
 ghost use Rattle.mrs_places.specs.Paths.{feature_of, paths_of};
 ghost use Rattle.relation_fit.specs.Lists.{list_seen, list_in, numbers, longer};
 ghost use Rattle.relation_fit.specs.Inner.Lists.{begins_apart};
-ghost use Rattle.rule_model.specs.Cuts.{has_feature};
+ghost use Rattle.tree_model.specs.Cuts.{has_feature};
 
 use crate::NoMemory;
-use fs_paths::Feat;
+use fs_graph::Feat;
 use mrs_places::{MrsFeat, MrsPaths};
 use std::alloc::Global;
 

@@ -8,7 +8,7 @@ ghost use Rattle.mrs_extract.specs.Extraction.{Normal, feature_name};
 ghost use Rattle.mrs_extract.specs.Inner.Routes.{joined, numbers_of};
 
 use crate::NoMemory;
-use fs_paths::Feat;
+use fs_graph::Feat;
 use mrs_places::MrsPaths;
 use std::alloc::Global;
 

@@ -12,7 +12,7 @@ ghost use Rattle.relation_fit.specs.Sought.{IsPredicate, IsText, IsValue, AreNam
 
 use crate::NoMemory;
 use crate::names::{begins_as, feature_named, path_named};
-use fs_paths::Feat;
+use fs_graph::Feat;
 use mrs_model::{Ep, Mrs, Prop, Role, Value, Var};
 use mrs_places::MrsPaths;
 use std::alloc::Global;

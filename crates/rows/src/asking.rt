@@ -7,14 +7,13 @@ use crate::answers::{Asked, Means};
 use crate::grammars::Ready;
 use crate::lent::{Listing, Order, Test};
 use engine::lattice_of_words;
-use held_gate::HoldingGate;
 use mrs_text::read;
 use sieve::Sieve;
 use std::alloc::{AllocError, Global};
 use std::sync::Wait;
 use std::sync::atomic::{AtomicU64, Ordering};
 use std::thread::Threads;
-use worker_gate::OpenGate;
+use worker_gate::{HoldingGate, OpenGate};
 
 /// Adds a line.
 pub fn add_line(text: &str, out: &mut Vec<u8>) -> Result<(), AllocError> {

@@ -13,15 +13,14 @@ ghost use Rattle.engine.specs.Ready.{IsReady};
 use crate::asking::add_line;
 use book_signs::laws::whole_book;
 use chart_core::Limits;
-use command_grammars::load_grammar;
+use command_files::load_grammar;
 use engine::{Engine, Use, with_engine};
 use fs_unify::Scratch;
 use grammar_load::Grammar;
 use grammar_names::loaded_names;
 use lkb_io::Shelf;
 use mrs_generate::{Contributors, contributors_of};
-use mrs_paths::c_cont_path;
-use mrs_places::MrsFeat;
+use mrs_places::{MrsFeat, c_cont_path};
 use std::alloc::{AllocError, Global};
 use std::sync::Wait;
 use std::thread::Threads;
@@ -55,10 +54,10 @@ struct Steps<'x> {
     text: &'x str,
 }
 
-impl Use<Vec<u8>, ()> for Steps<'_> {
+impl<X> Use<Vec<u8>, (), X> for Steps<'_> {
     type Out = Result<(), AllocError>;
 
-    ghost Gives = { λ _ _ _ _ _ _ _ _. Unit {0} };
+    ghost Gives = { λ _ _ _ _ _ _ _ _ _ _. Unit {0} };
 
     fn run<R: Threads + Wait + Sync>(
         &self,
@@ -67,6 +66,7 @@ impl Use<Vec<u8>, ()> for Steps<'_> {
         engine: &Engine<'_, '_, '_, '_, '_, '_, '_, '_, '_, '_>,
         out: &mut Vec<u8>,
         _nothing: &mut (),
+        _no_more: &mut X,
         _gate: &dyn Gate,
     ) -> Result<(), AllocError> {
         let grammar = engine.grammar;
@@ -129,7 +129,17 @@ fn show_with<R: Threads + Wait + Sync>(
 {
     let job = Steps { text: steps };
     let mut nothing = ();
-    match with_engine(rt, alloc, grammar, &job, out, &mut nothing, &OpenGate) {
+    let mut no_more = ();
+    match with_engine(
+        rt,
+        alloc,
+        grammar,
+        &job,
+        out,
+        &mut nothing,
+        &mut no_more,
+        &OpenGate,
+    ) {
         Ok(done) => done,
         Err(_) => Err(AllocError),
     }
@@ -146,7 +156,7 @@ pub fn show<S: Shelf, R: Threads + Wait + Sync>(
 ) -> Result<(), AllocError> {
     whole_book();
     loaded_names();
-    let Ok(grammar) = load_grammar(alloc, shelf, name, None) else {
+    let Ok(grammar) = load_grammar(alloc, shelf, name, None, false) else {
         return add_line("no grammar", out);
     };
     show_with(rt, alloc, &grammar, steps, out)

@@ -1,11 +1,10 @@
 //! What is written of runs.
 use crate::devices::Devices;
 use crate::row::{Call, Row, counted};
-use held_gate::HoldingGate;
 use std::alloc::{AllocError, AllocGlobal, Global};
 use std::sync::Wait;
 use std::thread::Threads;
-use worker_gate::OpenGate;
+use worker_gate::{HoldingGate, OpenGate};
 
 // Adds a text.
 fn put(out: &mut Vec<u8>, text: &str) -> Result<(), AllocError> {

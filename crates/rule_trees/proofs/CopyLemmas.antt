@@ -4,10 +4,10 @@ use Rattle.std.specs.Prelude.{not, if◌then◌else◌}
 use Rattle.std.specs.List.{list_all}
 use Rattle.fs_model.specs.Claims.{Path, System, IsOrder}
 use Rattle.fs_model.specs.Sources.{Reader, IsSameStructure, Subsumes}
-use Rattle.rule_model.specs.Cuts.{Cut, has_feature, is_kept}
-use Rattle.rule_model.specs.Views.{view, without, IsKeptOf}
-use Rattle.rule_model.proofs.Overs.{over_one}
-use Rattle.rule_model.proofs.ViewLemmas.{subsumes_over}
+use Rattle.tree_model.specs.Cuts.{Cut, has_feature, is_kept}
+use Rattle.tree_model.specs.Views.{view, without, IsKeptOf}
+use Rattle.tree_model.proofs.Overs.{over_one}
+use Rattle.tree_model.proofs.ViewLemmas.{subsumes_over}
 
 abbrev no_cut : Cut
 no_cut = record { at_root = []; anywhere = [] }

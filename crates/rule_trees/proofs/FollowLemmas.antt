@@ -8,16 +8,16 @@ use Rattle.fs_graph.specs.GraphMap.{GraphMap, reader_of}
 use Rattle.fs_unify.specs.Rules.{system_of}
 use Rattle.fs_unify.specs.Owing.{OwedRules}
 use Rattle.fs_unify.specs.Placing.{PlacedGraph, source_of}
-use Rattle.rule_model.specs.Structures.{Structure, Beside, beside_here, beside_there, Says}
-use Rattle.rule_model.specs.Cuts.{Cut, Kept, kept_exists, kept_same, kept_below, is_kept}
-use Rattle.rule_model.specs.Mothers.{Rule, RuleSystem, Parts, of_rule, of_daughter, Meant, Whole, Applies, daughters_cut}
-use Rattle.rule_model.specs.Views.{view, without, IsKeptOf, inside_none, inside_more, source_of as source_at}
-use Rattle.rule_model.proofs.Closures.{grows, moved, falls, keeps_more}
-use Rattle.rule_model.proofs.MotherLaws.{full_meant}
-use Rattle.rule_model.proofs.SaidLemmas.{said_is_says, said_is_consistent}
-use Rattle.rule_model.proofs.ViewLemmas.{says_tells, tells_says, none_applies}
-use Rattle.item_model.specs.Signs.{Instance, Signs, rule_system}
-use Rattle.item_model.specs.Lexical.{IsUnderRule}
+use Rattle.tree_model.specs.Structures.{Structure, Beside, beside_here, beside_there, Says}
+use Rattle.tree_model.specs.Cuts.{Cut, Kept, kept_exists, kept_same, kept_below, is_kept}
+use Rattle.tree_model.specs.Mothers.{Rule, RuleSystem, Parts, of_rule, of_daughter, Meant, Whole, Applies, daughters_cut}
+use Rattle.tree_model.specs.Views.{view, without, IsKeptOf, inside_none, inside_more, source_of as source_at}
+use Rattle.tree_model.proofs.Closures.{grows, moved, falls, keeps_more}
+use Rattle.tree_model.proofs.MotherLaws.{full_meant}
+use Rattle.tree_model.proofs.SaidLemmas.{said_is_says, said_is_consistent}
+use Rattle.tree_model.proofs.ViewLemmas.{says_tells, tells_says, none_applies}
+use Rattle.tree_model.specs.Signs.{Instance, Signs, rule_system}
+use Rattle.tree_model.specs.Lexical.{IsUnderRule}
 use Rattle.book_signs.specs.Signed.{facts_of}
 use Rattle.book_signs.specs.Trees.{SignTree, signs_of, rule_at, facts_at, places_at}
 use Rattle.rule_trees.specs.Mothers.{view_in, IsShortIn}

@@ -6,14 +6,14 @@ use Rattle.fs_model.specs.Closure.{Closure, given_claim, IsConsistent}
 use Rattle.fs_model.specs.Sources.{Source, Told}
 use Rattle.fs_graph.specs.GraphMap.{GraphMap, reader_of}
 use Rattle.fs_unify.specs.Rules.{system_of}
-use Rattle.rule_model.specs.Structures.{Structure, IsStructureOf}
-use Rattle.rule_model.specs.Mothers.{Rule, IsFullAt}
-use Rattle.rule_model.specs.Views.{Shows, source_alone}
-use Rattle.rule_model.proofs.Closures.{grows}
-use Rattle.rule_model.proofs.SaidLemmas.{alone_said, said_alone, said_is_consistent}
-use Rattle.rule_model.proofs.ViewLemmas.{graph_shows, shows_same, viewed, alone_to, alone_back}
-use Rattle.item_model.specs.Signs.{Instance, Signs, rule_system}
-use Rattle.item_model.specs.Lexical.{IsEntry, IsUnderRule}
+use Rattle.tree_model.specs.Structures.{Structure, IsStructureOf}
+use Rattle.tree_model.specs.Mothers.{Rule, IsFullAt}
+use Rattle.tree_model.specs.Views.{Shows, source_alone}
+use Rattle.tree_model.proofs.Closures.{grows}
+use Rattle.tree_model.proofs.SaidLemmas.{alone_said, said_alone, said_is_consistent}
+use Rattle.tree_model.proofs.ViewLemmas.{graph_shows, shows_same, viewed, alone_to, alone_back}
+use Rattle.tree_model.specs.Signs.{Instance, Signs, rule_system}
+use Rattle.tree_model.specs.Lexical.{IsEntry, IsUnderRule}
 use Rattle.book_signs.specs.Conditions.{IsClosed}
 use Rattle.book_signs.specs.Signed.{facts_of}
 use Rattle.book_signs.specs.Trees.{SignTree, signs_of, facts_at, entries_of, lexical_rules_of, HaveArities}

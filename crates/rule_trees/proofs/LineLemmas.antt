@@ -2,10 +2,10 @@
 use Rattle.std.proofs.Common.{ℕ, ◌≡◌, ◌<◌, ◌∙◌, List, length, Option, None, Some, sym, ap, subst}
 use Rattle.std.proofs.lemmas.Option.{get_or_from_slice_get}
 use Rattle.std.specs.Prelude.{slice_get, slice_index_or, MatchOption}
-use Rattle.rule_model.specs.Mothers.{arity_at}
-use Rattle.rule_model.specs.Structures.{Structure}
-use Rattle.rule_model.specs.Mothers.{IsFullAt}
-use Rattle.item_model.specs.Signs.{Signs, rule_system, placed_rules, place_at}
+use Rattle.tree_model.specs.Mothers.{arity_at}
+use Rattle.tree_model.specs.Structures.{Structure}
+use Rattle.tree_model.specs.Mothers.{IsFullAt}
+use Rattle.tree_model.specs.Signs.{Signs, rule_system, placed_rules, place_at}
 use Rattle.book_signs.specs.Trees.{phrase_rules_of}
 use Rattle.rule_trees.specs.Mothers.{HasDaughters, IsMother}
 use Rattle.rule_trees.specs.Wholes.{IsRuled}

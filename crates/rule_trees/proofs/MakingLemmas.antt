@@ -10,13 +10,13 @@ use Rattle.fs_unify.specs.Rules.{Grammar, system_of}
 use Rattle.fs_unify.specs.Owing.{OwedFacts, OwedRules, IsWellFormedBut, ListsOwed, owes_nothing, owes_rules}
 use Rattle.fs_unify.specs.Placing.{PlacedGraph, IsPlacedIn, part_of, source_of}
 use Rattle.fs_trim.specs.Cutting.{IsShort}
-use Rattle.rule_model.specs.Mothers.{Rule, IsFull, IsFullAt, Applies, AppliesAt, daughters_cut}
-use Rattle.rule_model.specs.Views.{view, IsInside, AllInside, inside_none, inside_more, IsTrimmed, parts_at, source_alone, source_of as source_at}
-use Rattle.rule_model.proofs.PathLemmas.{has_path_below}
-use Rattle.rule_model.specs.Said.{rule_said}
-use Rattle.rule_model.proofs.SaidLemmas.{said_trims, said_is_consistent}
-use Rattle.rule_model.proofs.ViewLemmas.{trimmed_full, none_applies}
-use Rattle.item_model.specs.Signs.{Instance, Signs, rule_system}
+use Rattle.tree_model.specs.Mothers.{Rule, IsFull, IsFullAt, Applies, AppliesAt, daughters_cut}
+use Rattle.tree_model.specs.Views.{view, IsInside, AllInside, inside_none, inside_more, IsTrimmed, parts_at, source_alone, source_of as source_at}
+use Rattle.tree_model.proofs.PathLemmas.{has_path_below}
+use Rattle.tree_model.specs.Said.{rule_said}
+use Rattle.tree_model.proofs.SaidLemmas.{said_trims, said_is_consistent}
+use Rattle.tree_model.proofs.ViewLemmas.{trimmed_full, none_applies}
+use Rattle.tree_model.specs.Signs.{Instance, Signs, rule_system}
 use Rattle.book_signs.specs.Conditions.{IsClosed}
 use Rattle.book_signs.specs.Signed.{facts_of}
 use Rattle.book_signs.specs.Trees.{SignTree, signs_of, rule_at, facts_at, places_at, ArePathsIn}

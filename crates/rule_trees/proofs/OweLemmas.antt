@@ -4,11 +4,11 @@ use Rattle.std.specs.Prelude.{All, slice_get}
 use Rattle.std.proofs.lemmas.List.Elements.{All-head, All-tail, All-nil, All-cons}
 use Rattle.fs_graph.specs.GraphMap.{GraphMap, reader_of}
 use Rattle.fs_trim.proofs.OweLemmas.{fulls_owe, closures_owe}
-use Rattle.rule_model.specs.Structures.{Structure}
-use Rattle.rule_model.specs.Mothers.{Rule, IsFullAt}
+use Rattle.tree_model.specs.Structures.{Structure}
+use Rattle.tree_model.specs.Mothers.{Rule, IsFullAt}
 use Rattle.fs_trim.specs.Cutting.{owed_of}
-use Rattle.item_model.specs.Signs.{Signs, rule_system}
-use Rattle.item_model.specs.Lexical.{FullUnder, under_none, under_next}
+use Rattle.tree_model.specs.Signs.{Signs, rule_system}
+use Rattle.tree_model.specs.Lexical.{FullUnder, under_none, under_next}
 use Rattle.lexical_items.specs.Fulls.{IsLexicalFull}
 use Rattle.lexical_items.specs.Listed.{Lexeme}
 use Rattle.forest_unpack.specs.Reached.{IsReached, reached_leaf, reached_phrase}

@@ -4,8 +4,8 @@ use Rattle.std.specs.Prelude.{option_map, slice_get}
 use Rattle.std.proofs.lemmas.List.{length-map}
 use Rattle.fs_model.specs.Claims.{Has, here, there}
 use Rattle.chart_model.specs.At.{At, here as at_here, there as at_there, to_get}
-use Rattle.rule_model.specs.Mothers.{Rule}
-use Rattle.item_model.specs.Signs.{Kind, an_entry, a_lexical_rule, Instance, Signs, is_phrase_rule, phrase_rules, placed_rules, place_at, rule_system}
+use Rattle.tree_model.specs.Mothers.{Rule}
+use Rattle.tree_model.specs.Signs.{Kind, an_entry, a_lexical_rule, Instance, Signs, is_phrase_rule, phrase_rules, placed_rules, place_at, rule_system}
 use Rattle.lexical_items.specs.Places.{ArePlaces}
 use Rattle.book_signs.specs.Trees.{places_where, kinds_of, is_entry, is_lexical_rule, entries_of, lexical_rules_of, phrase_rules_of, HasArity, HaveArities, rule_at}
 use Rattle.book_signs.proofs.KindLemmas.{kinded, has_kind, entry_kind, lexical_kind, phrase_places}

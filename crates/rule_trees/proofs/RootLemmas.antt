@@ -9,15 +9,15 @@ use Rattle.fs_graph.specs.GraphMap.{GraphMap, reader_of}
 use Rattle.fs_unify.specs.Rules.{system_of}
 use Rattle.fs_unify.specs.Owing.{OwedFacts, OwedRules, IsWellFormedBut, ListsOwed}
 use Rattle.fs_unify.specs.Placing.{PlacedGraph, IsPlacedIn, source_of}
-use Rattle.rule_model.specs.Structures.{Structure, Beside, beside_here, beside_there, Says}
-use Rattle.rule_model.specs.Mothers.{Rule, Parts, of_rule, of_daughter}
-use Rattle.rule_model.specs.Views.{AllInside, inside_none, inside_more, source_of as source_at}
-use Rattle.rule_model.specs.Said.{rule_said}
-use Rattle.rule_model.proofs.SaidLemmas.{alone_said, said_alone}
-use Rattle.rule_model.proofs.Closures.{grows, falls}
-use Rattle.rule_model.proofs.ViewLemmas.{at_root, parts_to, parts_back}
-use Rattle.item_model.specs.Signs.{Kind, Instance, Signs, rule_system}
-use Rattle.item_model.specs.Trees.{Both, of_root, of_full, IsRooted}
+use Rattle.tree_model.specs.Structures.{Structure, Beside, beside_here, beside_there, Says}
+use Rattle.tree_model.specs.Mothers.{Rule, Parts, of_rule, of_daughter}
+use Rattle.tree_model.specs.Views.{AllInside, inside_none, inside_more, source_of as source_at}
+use Rattle.tree_model.specs.Said.{rule_said}
+use Rattle.tree_model.proofs.SaidLemmas.{alone_said, said_alone}
+use Rattle.tree_model.proofs.Closures.{grows, falls}
+use Rattle.tree_model.proofs.ViewLemmas.{at_root, parts_to, parts_back}
+use Rattle.tree_model.specs.Signs.{Kind, Instance, Signs, rule_system}
+use Rattle.tree_model.specs.Trees.{Both, of_root, of_full, IsRooted}
 use Rattle.book_signs.specs.Trees.{SignTree, signs_of, facts_at, places_where, kinds_of, is_root, roots_of}
 use Rattle.book_signs.specs.Conditions.{IsClosed}
 use Rattle.book_signs.specs.Signed.{facts_of}

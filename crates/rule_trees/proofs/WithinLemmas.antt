@@ -6,10 +6,10 @@ use Rattle.std.proofs.lemmas.Simd.{map-map}
 use Rattle.constraint_expand.specs.declared.books.Book.{Book}
 use Rattle.type_hierarchy.specs.Table.{count_of}
 use Rattle.fs_graph.specs.GraphMap.{GraphMap}
-use Rattle.rule_model.specs.Structures.{Structure}
+use Rattle.tree_model.specs.Structures.{Structure}
 use Rattle.book_signs.specs.Trees.{SignTree, signs_of, rule_at}
-use Rattle.rule_model.specs.Mothers.{Rule, IsFullAt, AppliesAt}
-use Rattle.item_model.specs.Signs.{Signs, rule_system}
+use Rattle.tree_model.specs.Mothers.{Rule, IsFullAt, AppliesAt}
+use Rattle.tree_model.specs.Signs.{Signs, rule_system}
 use Rattle.rule_trees.specs.Mothers.{IsShortIn, IsMother, IsMotherOf, AppliesTo, view_in}
 use Rattle.rule_trees.specs.Bounded.{IsWithin}
 

@@ -2,11 +2,11 @@
 use Rattle.std.specs.Prelude.{ℕ, ◌≡◌, Option, Some, None, List, map, length, slice_get}
 use Rattle.fs_graph.specs.GraphMap.{GraphMap, reader_of}
 use Rattle.fs_trim.specs.Cutting.{IsShort}
-use Rattle.rule_model.specs.Structures.{Structure}
-use Rattle.rule_model.specs.Mothers.{Rule, IsFull, IsFullAt, AppliesAt}
-use Rattle.rule_model.specs.Views.{view}
-use Rattle.item_model.specs.Signs.{Instance, Signs, rule_system}
-use Rattle.item_model.specs.Lexical.{IsEntry}
+use Rattle.tree_model.specs.Structures.{Structure}
+use Rattle.tree_model.specs.Mothers.{Rule, IsFull, IsFullAt, AppliesAt}
+use Rattle.tree_model.specs.Views.{view}
+use Rattle.tree_model.specs.Signs.{Instance, Signs, rule_system}
+use Rattle.tree_model.specs.Lexical.{IsEntry}
 use Rattle.book_signs.specs.Trees.{SignTree, signs_of, rule_at}
 
 -- the structure that a graph is, on the paths that may be

@@ -1,13 +1,13 @@
 -- Full structures of the trees over a line's lexical trees, and which trees are asked for.
 use Rattle.std.specs.Prelude.{ℕ, ◌≡◌, ◌<◌, Option, Some, None, List, [], length, slice_get}
-use Rattle.cover.specs.declared.span.Span.{Span}
+use Rattle.chart_model.specs.declared.span.Span.{Span}
 use Rattle.derivation.specs.Trees.{Derivation, lexical}
-use Rattle.forest_model.specs.Readings.{Wholes}
-use Rattle.rule_model.specs.Structures.{Structure}
-use Rattle.rule_model.specs.Mothers.{arity_at}
-use Rattle.rule_model.specs.Laws.{rules_full}
-use Rattle.item_model.specs.Signs.{Signs, rule_system, placed_rules, place_at}
-use Rattle.item_model.specs.Trees.{IsRooted}
+use Rattle.tree_model.specs.Readings.{Wholes}
+use Rattle.tree_model.specs.Structures.{Structure}
+use Rattle.tree_model.specs.Mothers.{arity_at}
+use Rattle.tree_model.specs.Laws.{rules_full}
+use Rattle.tree_model.specs.Signs.{Signs, rule_system, placed_rules, place_at}
+use Rattle.tree_model.specs.Trees.{IsRooted}
 use Rattle.lexical_items.specs.Fulls.{IsLexicalFull}
 use Rattle.lexical_items.specs.Listed.{Lexeme}
 

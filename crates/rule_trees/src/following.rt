@@ -1,8 +1,8 @@
 //! Which lexical rule may apply to what another makes.
 
 ghost use Rattle.std.specs.Prelude.{◌≡◌, ◌<◌, false, length, IfOk};
-ghost use Rattle.rule_model.specs.Structures.{Structure};
-ghost use Rattle.item_model.specs.Lexical.{IsUnderRule};
+ghost use Rattle.tree_model.specs.Structures.{Structure};
+ghost use Rattle.tree_model.specs.Lexical.{IsUnderRule};
 ghost use Rattle.book_signs.specs.Trees.{signs_of};
 ghost use Rattle.rule_trees.specs.Mothers.{IsShortIn, HasDaughters};
 ghost use Rattle.rule_trees.specs.Inner.Following.{IsOwnOf, NeverApplies};

@@ -10,8 +10,7 @@ use crate::making::made;
 use book_signs::SignBook;
 use fs_graph::Graph;
 use fs_unify::Scratch;
-use lexical_items::{LexicalFulls, NoMemory};
-use lexical_memo::MarkedFulls;
+use lexical_items::{LexicalFulls, MarkedFulls, NoMemory};
 use std::alloc::Global;
 
 /// The full structures of entries and lexical rules of a grammar.

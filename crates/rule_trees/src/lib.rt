@@ -18,26 +18,4 @@ pub use lexical::SignFulls;
 pub use line::LineFulls;
 pub use mothers::mother_of;
 pub use roots::rooted;
-use std::alloc::{AllocError, AllocFailed};
-
-/// Memory was wanting.
-#[derive(Clone, Copy, Debug, PartialEq, Eq)]
-pub struct NoMemory;
-
-impl From<AllocError> for NoMemory {
-    fn from(_error: AllocError) -> NoMemory {
-        NoMemory
-    }
-}
-
-impl<T: Drop> From<AllocFailed<T>> for NoMemory {
-    fn from(_error: AllocFailed<T>) -> NoMemory {
-        NoMemory
-    }
-}
-
-impl From<fs_unify::NoMemory> for NoMemory {
-    fn from(_error: fs_unify::NoMemory) -> NoMemory {
-        NoMemory
-    }
-}
+pub use std::alloc::AllocError as NoMemory;

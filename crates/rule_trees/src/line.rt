@@ -1,7 +1,7 @@
 //! The full structures of the trees over a line's lexical trees.
 
 ghost use Rattle.std.specs.Prelude.{◌≡◌, ◌↔◌, IfOk, IsTrue};
-ghost use Rattle.item_model.specs.Trees.{IsRooted};
+ghost use Rattle.tree_model.specs.Trees.{IsRooted};
 ghost use Rattle.book_signs.specs.Trees.{signs_of};
 ghost use Rattle.rule_trees.specs.Mothers.{IsMade, view_in};
 
@@ -9,7 +9,7 @@ use crate::full::FullStructure;
 use crate::mothers::mother_of;
 use crate::roots::rooted;
 use book_signs::SignBook;
-use cover::Span;
+use chart_model::Span;
 use derivation::Tree;
 use forest_unpack::{FullParts, Fulls, NoMemory};
 use fs_unify::Scratch;
@@ -47,8 +47,8 @@ fn is_rooted(
 
 impl<'a> Fulls for LineFulls<'a> {
     ghost use Rattle.std.specs.Prelude.{map};
-    ghost use Rattle.cover.specs.declared.span.Span.{Span as SpanValue};
-    ghost use Rattle.rule_model.specs.Structures.{Structure};
+    ghost use Rattle.chart_model.specs.declared.span.Span.{Span as SpanValue};
+    ghost use Rattle.tree_model.specs.Structures.{Structure};
     ghost use Rattle.book_signs.specs.Trees.{signs_of};
     ghost use Rattle.lexical_items.specs.Views.{lexeme_seen};
     ghost use Rattle.rule_trees.specs.Mothers.{view_in};

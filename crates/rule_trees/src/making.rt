@@ -8,8 +8,7 @@ ghost use Rattle.rule_trees.specs.Inner.Placed.{placed_with};
 
 use crate::NoMemory;
 use book_signs::SignBook;
-use fs_graph::Graph;
-use fs_paths::Feat;
+use fs_graph::{Feat, Graph};
 use fs_trim::unify_without;
 use fs_unify::{Owed, Parts, Scratch};
 use std::alloc::Global;

@@ -1,7 +1,7 @@
 //! Mothers over daughters' full structures.
 
 ghost use Rattle.std.specs.Prelude.{◌≡◌, ◌++◌, map, All, IfOk, OnOk, MatchOption, None};
-ghost use Rattle.rule_model.specs.Structures.{Structure};
+ghost use Rattle.tree_model.specs.Structures.{Structure};
 ghost use Rattle.forest_unpack.specs.Parts.{AreParts, parts_of};
 ghost use Rattle.book_signs.specs.Trees.{signs_of};
 ghost use Rattle.rule_trees.specs.Mothers.{IsShortIn, IsMade, IsMother, AppliesTo, view_in, HasDaughters};

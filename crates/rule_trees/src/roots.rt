@@ -1,7 +1,7 @@
 //! Whether a structure is rooted.
 
 ghost use Rattle.std.specs.Prelude.{◌≡◌, ◌↔◌, ◌<◌, length, IsTrue, IfOk};
-ghost use Rattle.item_model.specs.Trees.{IsRooted};
+ghost use Rattle.tree_model.specs.Trees.{IsRooted};
 ghost use Rattle.book_signs.specs.Trees.{signs_of};
 ghost use Rattle.rule_trees.specs.Mothers.{IsShortIn, IsMade, view_in};
 ghost use Rattle.rule_trees.specs.Inner.Owing.{OwesDaughters};

@@ -1,5 +1,5 @@
 -- What holds of `scope`.
-use Rattle.std.proofs.Common.{ℕ}
+use Rattle.std.proofs.Common.{ℕ, ◌∙◌, sym}
 use Rattle.endings.specs.Meanings.{Lawful}
 use Rattle.endings.proofs.ToldLines.{no-gap}
 use Rattle.scope_commands.specs.Answers.{IsAnswer}
@@ -14,5 +14,6 @@ scope-laws texts readings max = record {
   one_first = λ files f g a b. absurd a;
   not_both = λ files f l a. a;
   one_report = λ files lines pieces others refused may p q. one-answers (IsAnswer max) (one-answer texts readings max) 1 lines pieces others refused may p q;
+  one_notes = λ files lines text other p q. p ∙ sym q;
   calm = λ h f x none. x.0;
 }

@@ -2,12 +2,12 @@
 use Rattle.std.proofs.Common.{ℕ, suc, ◌≡◌, ◌∙◌, ◌||◌, List, [], ◌∷◌, map, Bool, true, false, refl, sym, ap, subst, All, Some}
 use Rattle.std.specs.List.{slice_get}
 use Rattle.std.proofs.lemmas.Option.{slice_get_within, get_or_from_slice_get}
-use Rattle.item_model.specs.Items.{Limits, Answer}
+use Rattle.tree_model.specs.Items.{Limits, Answer}
 use Rattle.engine.specs.Speeches.{Speech}
 use Rattle.side_by_side.specs.Works.{AreGiven, no_thing, a_thing}
-use Rattle.item_counts.specs.declared.Count.{Count}
-use Rattle.item_counts.specs.declared.Count.TheVariants.{Refused, NoMemory, Found}
-use Rattle.item_counts.specs.Summaries.{lacks_memory, is_some_lacking}
+use Rattle.self_tests.specs.declared.counts.Count.{Count}
+use Rattle.self_tests.specs.declared.counts.Count.TheVariants.{Refused, NoMemory, Found}
+use Rattle.self_tests.specs.Summaries.{lacks_memory, is_some_lacking}
 use Rattle.self_tests.specs.Items.{count_of, IsItem, AreCounted, IsCountOrGap, a_count, a_gap, AreCountsOrGaps}
 use Rattle.self_tests.specs.SelfTests.{gap_lines}
 use Rattle.self_tests.specs.Inner.Counts.{IsCounted, MayBeCounted}

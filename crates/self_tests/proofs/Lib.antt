@@ -3,3 +3,5 @@ pub mod GivenAt
 pub mod WorkloadFaults
 pub mod Reported
 pub mod OneSummary
+pub mod Joined
+pub mod Text

@@ -1,16 +1,16 @@
 -- A workload has one summary.
-use Rattle.std.proofs.Common.{◌≡◌, ◌∙◌, ℕ, List, [], ◌∷◌, ◌++◌, Option, Some, None, Bool, map, refl, sym, ap, subst}
+use Rattle.std.proofs.Common.{◌≡◌, ◌∙◌, ℕ, List, [], ◌∷◌, ◌++◌, Option, Some, None, Bool, false, map, refl, sym, ap, subst}
 use Rattle.std.specs.List.{AllZip}
 use Rattle.std.specs.Str.{chars}
 use Rattle.fs_model.specs.Claims.{IsOrder}
 use Rattle.lexical_items.specs.Seen.{lattice_seen}
-use Rattle.item_model.specs.Signs.{Signs}
-use Rattle.item_model.specs.Lexical.{Words}
-use Rattle.item_model.specs.Items.{Limits, Answer}
-use Rattle.item_counts.specs.Summaries.{summary_line, is_some_refused}
-use Rattle.parse_items.specs.Answers.{ParseAnswersAreOne}
-use Rattle.rule_model.specs.Said.{SameViews}
-use Rattle.workload.specs.Lines.{lines}
+use Rattle.tree_model.specs.Signs.{Signs}
+use Rattle.tree_model.specs.Lexical.{Words}
+use Rattle.tree_model.specs.Items.{Limits, Answer}
+use Rattle.self_tests.specs.Summaries.{summary_line, is_some_refused}
+use Rattle.tree_model.specs.Answers.{ParseAnswersAreOne}
+use Rattle.tree_model.specs.Said.{SameViews}
+use Rattle.self_tests.specs.Lines.{lines}
 use Rattle.endings.specs.Meanings.{Lawful}
 use Rattle.engine.specs.Speeches.{Speech, HasSpeech, lattice_of_words}
 use Rattle.engine.proofs.GrammarLaws.{OneGrammar, OneFault, NotBoth, speeches-same, has-order}
@@ -54,8 +54,9 @@ self-test-laws one fault both views signs answers number size limits most = reco
       let none = sym r.2.3 in
       let only = ap (λ gaps. gaps ++ summary_line number size counts ∷ []) (no-gap-lines 1 counts none) in
       (is_some_refused counts, (r.0, r.1, (counts, all-counted r.0 limits most (lines number size) counts r.2.1 none, r.2.2 ∙ only, refl))));
-  one_first = λ files f g a b. fault workload_shelf workload_name None f g a b;
-  not_both = λ files f l a. both workload_shelf workload_name None l.0 f l.1 a;
+  one_first = λ files f g a b. fault workload_shelf workload_name None false f g a b;
+  not_both = λ files f l a. both workload_shelf workload_name None false l.0 f l.1 a;
   one_report = λ files lines pieces others refused may p q. one-report one views signs answers workload_shelf workload_name limits most number size pieces others refused may p q;
+  one_notes = λ files lines text other p q. p ∙ sym q;
   calm = λ h f x none. x.0;
 }

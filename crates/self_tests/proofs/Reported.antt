@@ -2,11 +2,11 @@
 use Rattle.std.proofs.Common.{◌≡◌, ◌∙◌, ◌+◌, ◌%◌, ℕ, List, [], ◌∷◌, ◌++◌, length, sym, ap}
 use Rattle.std.proofs.lemmas.List.FromFn.{length-map-range_with_len}
 use Rattle.std.proofs.lemmas.Slice.Zip.{AllZip-long}
-use Rattle.item_model.specs.Items.{Limits}
-use Rattle.item_counts.specs.declared.Count.{Count}
-use Rattle.item_counts.specs.Summaries.{summary_line}
+use Rattle.tree_model.specs.Items.{Limits}
+use Rattle.self_tests.specs.declared.counts.Count.{Count}
+use Rattle.self_tests.specs.Summaries.{summary_line}
 use Rattle.grammar_load.specs.Loaded.{GrammarTree}
-use Rattle.workload.specs.Lines.{line, lines}
+use Rattle.self_tests.specs.Lines.{line, lines}
 use Rattle.endings.specs.declared.commands.ItemsReport.{ItemsReport}
 use Rattle.endings.specs.declared.commands.ItemsReport.TheVariants.{AllAnswered, WithGaps}
 use Rattle.engine.specs.Speeches.{Speech, IsSpeechOf}

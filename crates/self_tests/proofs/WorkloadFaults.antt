@@ -1,5 +1,5 @@
 -- The first fault of the file of a workload.
-use Rattle.std.proofs.Common.{◌≡◌, ℕ, List, Some, None, arith, subst}
+use Rattle.std.proofs.Common.{◌≡◌, ℕ, List, Some, None, false, arith, subst}
 use Rattle.lkb_io.specs.Outside.{HasRisen}
 use Rattle.lkb_io.specs.Shelves.{NamedFile, file_or_empty}
 use Rattle.endings.specs.Meanings.{Shelves, Files}
@@ -9,8 +9,8 @@ use Rattle.endings.specs.declared.commands.ItemsReport.TheVariants.{AllAnswered,
 use Rattle.endings.specs.declared.Fault.{Fault}
 use Rattle.endings.specs.declared.Fault.TheVariants.{Usage, Files as FilesFault, Stopped}
 use Rattle.endings.specs.declared.Stop.TheVariants.{Read, TooLong, TooMany, Write, Gaps, NoMemory}
-use Rattle.command_grammars.specs.Grammars.{never, IsFirstFault, LacksGrammar}
-use Rattle.item_model.specs.Items.{Limits}
+use Rattle.command_files.specs.Grammars.{never, IsFirstFault, LacksGrammar}
+use Rattle.tree_model.specs.Items.{Limits}
 use Rattle.engine.specs.Speeches.{Speech, HasSpeech}
 use Rattle.engine.proofs.GrammarLaws.{Calm}
 use Rattle.self_tests.specs.SelfTests.{workload_files, workload_name, self_test_meaning}
@@ -24,9 +24,9 @@ none-risen : HasRisen 0 0 → ⊥
 none-risen risen = omega (arith, risen)
 
 -- what is told of such a shelf with a workload's files
-pub workload-fault : Calm → (files : List NamedFile) → Some (file_or_empty files) ≡ workload_files → (fault : Fault) → LacksGrammar (still files) workload_name None fault → IsWorkloadFault fault
+pub workload-fault : Calm → (files : List NamedFile) → Some (file_or_empty files) ≡ workload_files → (fault : Fault) → LacksGrammar (still files) workload_name None false fault → IsWorkloadFault fault
 workload-fault calm files e (FilesFault text) x =
-    (x.0, subst (λ (f : Files). IsFirstFault workload_name None f never x.0) e (calm (still files) workload_name None x.0 x.1 x.2 none-risen), λ file failed. none-risen (x.2 file failed).0, x.3)
+    (x.0, subst (λ (f : Files). IsFirstFault workload_name None false f never x.0) e (calm (still files) workload_name None false x.0 x.1 x.2 none-risen), λ file failed. none-risen (x.2 file failed).0, x.3)
 workload-fault calm files e (Stopped NoMemory) x = tt
 workload-fault calm files e (Usage text) x = absurd x
 workload-fault calm files e (Stopped Read) x = absurd x

@@ -2,14 +2,14 @@
 use Rattle.std.specs.Prelude.{ℕ, ◌≡◌, List, length, map}
 use Rattle.std.specs.List.{AllZip}
 use Rattle.std.specs.Str.{chars}
-use Rattle.item_model.specs.Signs.{Signs}
-use Rattle.item_model.specs.Lexical.{Words}
-use Rattle.item_model.specs.Items.{Limits, Answer, Trees}
-use Rattle.parse_items.specs.Answers.{IsParseAnswer}
+use Rattle.tree_model.specs.Signs.{Signs}
+use Rattle.tree_model.specs.Lexical.{Words}
+use Rattle.tree_model.specs.Items.{Limits, Answer, Trees}
+use Rattle.tree_model.specs.Answers.{IsParseAnswer}
 use Rattle.lexical_items.specs.Seen.{lattice_seen}
 use Rattle.engine.specs.Speeches.{lattice_of_words}
-use Rattle.item_counts.specs.declared.Count.{Count}
-use Rattle.item_counts.specs.declared.Count.TheVariants.{Refused, NoMemory, Found}
+use Rattle.self_tests.specs.declared.counts.Count.{Count}
+use Rattle.self_tests.specs.declared.counts.Count.TheVariants.{Refused, NoMemory, Found}
 
 -- what is counted of an answer: that a limit is broken, or the number of packed classes and of trees
 abbrev pub count_of : Answer → Count

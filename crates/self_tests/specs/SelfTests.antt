@@ -1,16 +1,16 @@
 -- What `self-test` is to do: the lines of a workload are parsed with the workload's grammar, and what is counted of the answers is summed up.
 use Rattle.std.specs.Prelude.{ℕ, suc, ◌≡◌, Bool, false, List, [], ◌∷◌, ◌++◌, Option, None, Some, map, codes}
 use Rattle.lkb_io.specs.Shelves.{NamedFile, file_or_empty}
-use Rattle.workload.specs.Made.{File, files}
-use Rattle.workload.specs.Lines.{lines}
+use Rattle.self_tests.specs.Made.{File, files}
+use Rattle.self_tests.specs.Lines.{lines}
 use Rattle.grammar_load.specs.Loaded.{GrammarTree}
-use Rattle.endings.specs.Meanings.{Meaning, Files}
+use Rattle.endings.specs.Meanings.{Meaning, Files, no_notes}
 use Rattle.endings.specs.Reports.{no_memory_line}
-use Rattle.command_grammars.specs.Grammars.{HasGrammar, IsFirstFault, never}
-use Rattle.item_model.specs.Items.{Limits}
-use Rattle.item_counts.specs.declared.Count.{Count}
-use Rattle.item_counts.specs.declared.Count.TheVariants.{NoMemory}
-use Rattle.item_counts.specs.Summaries.{summary_line, is_some_refused, is_some_lacking}
+use Rattle.command_files.specs.Grammars.{HasGrammar, IsFirstFault, never}
+use Rattle.tree_model.specs.Items.{Limits}
+use Rattle.self_tests.specs.declared.counts.Count.{Count}
+use Rattle.self_tests.specs.declared.counts.Count.TheVariants.{NoMemory}
+use Rattle.self_tests.specs.Summaries.{summary_line, is_some_refused, is_some_lacking}
 use Rattle.engine.specs.Speeches.{Speech, HasSpeech}
 use Rattle.self_tests.specs.Items.{AreCounted, AreCountsOrGaps}
 
@@ -59,7 +59,8 @@ self_test_meaning number size limits most = record {
   opens = false;
   reads = false;
   loadable = λ files. (g : GrammarTree) × HasGrammar workload_files workload_name None g;
-  first = λ files fails fault. IsFirstFault workload_name None workload_files never fault;
+  first = λ files fails fault. IsFirstFault workload_name None false workload_files never fault;
   report = λ files lines pieces refused. (speech : Speech) × HasSpeech workload_files workload_name None speech × IsSummed speech limits most number size pieces refused;
   with_gaps = λ files lines pieces wanting. (speech : Speech) × HasSpeech workload_files workload_name None speech × IsSummedWithGaps speech limits most number size pieces wanting;
+  notes = no_notes;
 }

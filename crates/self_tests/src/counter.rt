@@ -10,12 +10,12 @@ ghost use Rattle.engine.specs.Views.{speech_of};
 ghost use Rattle.self_tests.specs.Items.{count_of};
 ghost use Rattle.self_tests.specs.Inner.Counts.{IsCounted};
 
+use crate::Count;
 use chart_core::Limits;
 use endings::lines::Share;
 use engine::desks::{Desk, Desks};
 use engine::{Engine, lattice_of_words};
 use grammar_rules::ItemAnswer;
-use item_counts::Count;
 use side_by_side::{NoMemory, Work};
 use std::alloc::Global;
 use std::sync::Wait;

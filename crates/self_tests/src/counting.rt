@@ -1,20 +1,19 @@
 //! What is counted of the answers to the lines of a workload.
 
 ghost use Rattle.std.specs.Prelude.{◌≡◌, map};
-ghost use Rattle.workload.specs.Lines.{lines as workload_lines};
+ghost use Rattle.self_tests.specs.Lines.{lines as workload_lines};
 
 use crate::counter::Counter;
 use crate::turns::count_all;
-use crate::{NoMemory, SelfTest};
+use crate::workload_laws::lines_are_text;
+use crate::{Count, NoMemory, SelfTest};
 use endings::lines::Share;
 use engine::desks::Desks;
 use engine::{Engine, Use};
-use item_counts::Count;
 use std::alloc::Global;
 use std::sync::Wait;
 use std::thread::Threads;
 use worker_gate::Gate;
-use workload::laws::lines_are_text;
 
 /// What is done with an engine: what comes of the lines of a workload is counted.
 #[derive(Drop)]
@@ -33,15 +32,15 @@ fn share_of(workers: u32, lines: usize) -> Share {
     }
 }
 
-impl Use<(), ()> for Counting<'_> {
+impl<X> Use<(), (), X> for Counting<'_> {
     ghost use Rattle.std.specs.Prelude.{IfOk};
     ghost use Rattle.packed_items.specs.Answers.{limits_in};
-    ghost use Rattle.workload.specs.Lines.{lines as workload_lines};
+    ghost use Rattle.self_tests.specs.Lines.{lines as workload_lines};
     ghost use Rattle.self_tests.specs.Items.{AreCountsOrGaps};
 
     type Out = Result<Vec<Count>, NoMemory>;
 
-    ghost Gives = { λ c g speech a b p q out. let t = c.test.now in
+    ghost Gives = { λ c g speech a b p q x y out. let t = c.test.now in
         IfOk out (λ counts. AreCountsOrGaps speech.signs speech.words (limits_in t.limits) t.limits.lexical (workload_lines t.number t.size) counts.items) };
 
     fn run<Rt: Threads + Wait + Sync>(
@@ -51,6 +50,7 @@ impl Use<(), ()> for Counting<'_> {
         engine: &Engine<'_, '_, '_, '_, '_, '_, '_, '_, '_, '_>,
         _a: &mut (),
         _b: &mut (),
+        _c: &mut X,
         gate: &dyn Gate,
     ) -> Result<Vec<Count>, NoMemory> {
         lines_are_text();

@@ -1,14 +1,13 @@
 //! What holds of `self-test`: its file has one grammar or one first fault, and never both, and its items have one summary.
 
 ghost use Rattle.std.specs.Prelude.{ℕ};
-ghost use Rattle.item_model.specs.Items.{Limits};
+ghost use Rattle.tree_model.specs.Items.{Limits};
 ghost use Rattle.endings.specs.Meanings.{Lawful};
 ghost use Rattle.self_tests.specs.SelfTests.{self_test_meaning};
 
 use book_signs::laws::one_signs;
-use command_grammars::laws::grammar_laws;
-use parse_items::parse_laws;
-use rule_model::said_laws;
+use command_files::grammar_laws::grammar_laws;
+use tree_model::{parse_laws, said_laws};
 
 /// What holds of `self-test`.
 pub fn self_test_lawful()

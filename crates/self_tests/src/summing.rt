@@ -1,15 +1,14 @@
 //! What is counted of the items of a workload, summed up.
 
 ghost use Rattle.std.specs.Prelude.{◌≡◌, ◌<◌, ◌^◌, ◌∷◌, ◌++◌, [], length, map, IfOk, OnOk};
-ghost use Rattle.item_counts.specs.Summaries.{summary_line};
+ghost use Rattle.self_tests.specs.Summaries.{summary_line};
 ghost use Rattle.endings.specs.Reports.{no_memory_line};
 ghost use Rattle.self_tests.specs.SelfTests.{gap_line, gap_lines};
 ghost use Rattle.self_tests.specs.Inner.Counts.{IsToldOf};
 
-use crate::NoMemory;
+use crate::{Count, NoMemory, some_lacking, some_refused, summary};
 use endings::commands::ItemsReport;
 use endings::pieces::Report;
-use item_counts::{Count, some_lacking, some_refused, summary};
 use std::alloc::Global;
 
 // `item N no-memory`

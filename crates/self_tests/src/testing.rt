@@ -6,33 +6,31 @@ ghost use Rattle.packed_items.specs.Answers.{limits_in};
 ghost use Rattle.grammar_load.specs.Conditions.{IsLoaded};
 ghost use Rattle.grammar_load.specs.Views.{grammar_of};
 ghost use Rattle.grammar_names.specs.Fitting.{IsWellNamed};
-ghost use Rattle.command_grammars.specs.Grammars.{HasGrammar};
+ghost use Rattle.command_files.specs.Grammars.{HasGrammar};
 ghost use Rattle.endings.specs.Meanings.{Shelves};
 ghost use Rattle.endings.specs.Endings.{MadeOfItems};
-ghost use Rattle.workload.specs.Made.{file_of, files as workload_files_made};
-ghost use Rattle.workload.specs.Lines.{lines as workload_lines};
+ghost use Rattle.self_tests.specs.Made.{file_of, files as workload_files_made};
+ghost use Rattle.self_tests.specs.Lines.{lines as workload_lines};
 ghost use Rattle.engine.specs.Speeches.{Speech, IsSpeechOf};
 ghost use Rattle.self_tests.specs.SelfTests.{shelved, workload_files, workload_name, self_test_meaning};
 ghost use Rattle.self_tests.specs.Inner.Counts.{AreCountedWith, IsSummedSo, IsWorkloadFault};
 
 use crate::counting::Counting;
 use crate::summing::report_on;
-use crate::{NoMemory, SelfTest};
+use crate::{Count, NoMemory, SelfTest, WorkFile, Workload, make};
 use book_signs::laws::whole_book;
-use command_grammars::laws::grammar_laws;
-use command_grammars::load_grammar;
+use command_files::grammar_laws::grammar_laws;
+use command_files::load_grammar;
 use endings::commands::ItemsReport;
 use endings::{Fault, Stop};
 use engine::with_engine;
 use grammar_load::Grammar;
 use grammar_names::loaded_names;
-use item_counts::Count;
 use lkb_io::{ShelfFile, WholeShelf};
 use std::alloc::Global;
 use std::sync::Wait;
 use std::thread::Threads;
 use worker_gate::Gate;
-use workload::{WorkFile, Workload, make};
 
 // A shelf of the files of a workload.
 fn shelf_of(alloc: Global, files: Vec<WorkFile>) -> Result<WholeShelf, NoMemory>
@@ -57,7 +55,7 @@ fn load_workload(alloc: Global, files: Vec<WorkFile>) -> Result<Grammar, Fault>
     let Ok(mut shelf) = shelf_of(alloc, files) else {
         return Err(Fault::Stopped(Stop::NoMemory));
     };
-    load_grammar(alloc, &mut shelf, "g.tdl", None)
+    load_grammar(alloc, &mut shelf, "g.tdl", None, false)
 }
 
 // What is counted of the answers to the lines of a workload, by a grammar.
@@ -78,7 +76,17 @@ fn count_with<Rt: Threads + Wait + Sync>(
     let job = Counting { test, lines };
     let mut nothing = ();
     let mut no_more = ();
-    with_engine(rt, alloc, grammar, &job, &mut nothing, &mut no_more, gate)?
+    let mut none = ();
+    with_engine(
+        rt,
+        alloc,
+        grammar,
+        &job,
+        &mut nothing,
+        &mut no_more,
+        &mut none,
+        gate,
+    )?
 }
 
 // The report on the lines of a workload, by its grammar.

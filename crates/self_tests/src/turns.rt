@@ -9,11 +9,10 @@ ghost use Rattle.engine.specs.Views.{speech_of};
 ghost use Rattle.side_by_side.specs.Works.{AreGiven};
 ghost use Rattle.self_tests.specs.Inner.Counts.{MayBeCounted};
 
-use crate::NoMemory;
 use crate::counter::Counter;
+use crate::{Count, NoMemory};
 use endings::lines::Share;
 use engine::desks::Desks;
-use item_counts::Count;
 use side_by_side::each_by;
 use std::alloc::Global;
 use std::sync::Wait;

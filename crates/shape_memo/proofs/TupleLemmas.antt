@@ -1,9 +1,9 @@
 -- Tuples whose daughters stand for the same structures, one by one, stand for the same list.
 use Rattle.std.specs.Prelude.{◌≡◌, Option, None, Some, List, [], ◌∷◌, All, IfSome, map, option_map}
 use Rattle.std.proofs.Common.{refl, sym, ap, ◌∙◌, suc, arith}
-use Rattle.cover.specs.declared.Part.{Part}
-use Rattle.cover.specs.declared.Tuple.{Tuple}
-use Rattle.cover.specs.Tuples.{on_list, shapes_of}
+use Rattle.chart_model.specs.declared.covers.Part.{Part}
+use Rattle.chart_model.specs.declared.covers.Tuple.{Tuple}
+use Rattle.chart_model.specs.Tuples.{on_list, shapes_of}
 use Rattle.shape_memo.specs.Known.{meant}
 
 abbrev told : {T C M : Type 0} → (T → M) → List (Part T C) → List M

@@ -1,10 +1,10 @@
 -- What is known of a rule with daughters.
 use Rattle.std.specs.Prelude.{◌≡◌, ℕ, false, List, All, MatchOption, map}
 use Rattle.boxcar.specs.Slot.{Named}
-use Rattle.cover.specs.Calculus.{Calculus, NoneApplies}
-use Rattle.cover.specs.declared.Part.{Part}
-use Rattle.cover.specs.declared.Tuple.{Tuple}
-use Rattle.cover.specs.Tuples.{shapes_of}
+use Rattle.chart_model.specs.Calculus.{Calculus, NoneApplies}
+use Rattle.chart_model.specs.declared.covers.Part.{Part}
+use Rattle.chart_model.specs.declared.covers.Tuple.{Tuple}
+use Rattle.chart_model.specs.Tuples.{shapes_of}
 use Rattle.shape_memo.specs.declared.answer.Outcome.{Outcome}
 use Rattle.shape_memo.specs.declared.answer.Outcome.TheVariants.{Fits, Mother}
 

@@ -1,12 +1,12 @@
 //! What is known of a rule with daughters.
 
 ghost use Rattle.std.specs.Prelude.{◌≡◌, IfSome, IsTrue, map, option_map};
-ghost use Rattle.cover.specs.Tuples.{shapes_of};
+ghost use Rattle.chart_model.specs.Tuples.{shapes_of};
 ghost use Rattle.shape_memo.specs.Known.{IsRightFor, meant};
 
 use crate::marked::Marked;
 use boxcar::slot::Written;
-use cover::{Part, Tuple};
+use chart_model::{Part, Tuple};
 use std::snapshot::Snapshot;
 
 /// What the shapes said: whether daughters fit, or the mother of a whole tuple.

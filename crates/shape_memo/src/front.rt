@@ -1,12 +1,12 @@
 //! The first daughter of a tuple, by itself.
 
 ghost use Rattle.std.specs.Prelude.{◌≡◌, ℕ, All, IfOk};
-ghost use Rattle.cover.specs.Tuples.{shapes_of, IsFor};
+ghost use Rattle.chart_model.specs.Tuples.{shapes_of, IsFor};
 ghost use Rattle.shape_memo.specs.Fronts.{BeginsWith};
 
 use crate::NoMemory;
 use crate::marked::Marked;
-use cover::{Cover, Part, Tuple};
+use chart_model::{Cover, Part, Tuple};
 use std::alloc::Global;
 
 /// The first daughter by itself, as what a tuple begins with.

@@ -8,7 +8,7 @@ use crate::answer::{Answer, Outcome};
 use crate::marked::Marked;
 use boxcar::slot::{OnceSlot, SlotRule, Written};
 use boxcar::tag::{Names, Tag};
-use cover::Tuple;
+use chart_model::Tuple;
 use std::alloc::Global;
 use std::snapshot::Snapshot;
 

@@ -8,7 +8,11 @@ mod levels;
 mod marked;
 mod memo;
 mod remembered;
+mod sieved;
+mod sketched;
 
-pub use cover::NoMemory;
 pub use marked::Marked;
 pub use remembered::RememberedShapes;
+pub use sieved::SievedShapes;
+pub use sketched::{Sketched, Sketches};
+pub use std::alloc::AllocError as NoMemory;

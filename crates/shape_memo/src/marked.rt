@@ -2,7 +2,7 @@
 
 ghost use Rattle.std.specs.Prelude.{◌≡◌, IsTrue};
 
-use cover::Shapes;
+use chart_model::Shapes;
 
 /// Shapes that are told apart without unification.
 pub trait Marked: Shapes + Drop {

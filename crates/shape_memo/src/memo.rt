@@ -9,7 +9,7 @@ use crate::levels::{FIRST_SLOTS, Level, free_level, look, put, slots_at, tag_of}
 use crate::marked::Marked;
 use boxcar::slot::{OnceSlot, SlotRule, Written};
 use boxcar::tag::Tag;
-use cover::Tuple;
+use chart_model::Tuple;
 use std::alloc::Global;
 use std::snapshot::Snapshot;
 use std::sync::atomic::{AtomicU64, Ordering};

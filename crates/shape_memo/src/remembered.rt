@@ -1,7 +1,7 @@
 //! Shapes that remember.
 
 ghost use Rattle.std.specs.Prelude.{◌≡◌, ◌<◌, All, IfOk, IfSome, IsTrue, map, option_map};
-ghost use Rattle.cover.specs.Tuples.{shapes_of, IsFor};
+ghost use Rattle.chart_model.specs.Tuples.{shapes_of, IsFor};
 ghost use Rattle.shape_memo.specs.Known.{IsRightFor, meant};
 
 use crate::NoMemory;
@@ -9,7 +9,7 @@ use crate::answer::{Answer, Outcome, hash_of};
 use crate::front::first_alone;
 use crate::marked::Marked;
 use crate::memo::Memo;
-use cover::{Part, Shapes, Tuple};
+use chart_model::{Part, Shapes, Tuple};
 use std::alloc::Global;
 use std::marker::Model;
 use std::sync::atomic::{AtomicU64, Ordering};
@@ -272,7 +272,7 @@ impl<S: Marked> Shapes for RememberedShapes<'_, S> {
         self.shapes.work(alloc)
     }
 
-    fn bound(&self) -> &<S::Cover as cover::Cover>::Bound {
+    fn bound(&self) -> &<S::Cover as chart_model::Cover>::Bound {
         self.shapes.bound()
     }
 

@@ -1,7 +1,7 @@
 -- What is told of a task before its outcome is found.
 use Rattle.std.specs.Prelude.{◌≡◌, ℕ, ◌+◌, ◌%◌, ◌^◌, ◌<◌, ◌==◌, if◌then◌else◌, Option, Some, None, All}
-use Rattle.cover.specs.Tuples.{covers_of}
-use Rattle.cover.specs.declared.Tuple.{Tuple}
+use Rattle.chart_model.specs.Tuples.{covers_of}
+use Rattle.chart_model.specs.declared.covers.Tuple.{Tuple}
 use Rattle.chart_core.specs.declared.chart.Core.{Core}
 use Rattle.chart_core.specs.declared.TaskInfo.{TaskInfo}
 use Rattle.chart_core.specs.declared.Ready.{Ready}

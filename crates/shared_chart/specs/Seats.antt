@@ -2,11 +2,11 @@
 use Rattle.std.specs.Prelude.{◌≡◌, ℕ, Bool, false, List, []}
 use Rattle.atomic_table.specs.Seated.{TableId}
 use Rattle.chart_core.specs.declared.chart.Core.{Core}
-use Rattle.turn_lock.specs.Seats.{own_calls}
+use Rattle.shared_chart.specs.TurnSeats.{own_calls}
 use Rattle.shared_chart.specs.declared.chart.Call.{Call}
 use Rattle.shared_chart.specs.declared.chart.Chart.{Chart}
-use Rattle.turn_lock.specs.declared.held.LockSeat.{LockSeat}
-use Rattle.turn_lock.specs.Held as held
+use Rattle.shared_chart.specs.declared.held.LockSeat.{LockSeat}
+use Rattle.shared_chart.specs.Held as held
 use Rattle.shared_chart.specs.declared.shared.SharedChart.{SharedChart}
 
 abbrev pub ChartSeat : (X T C W B : Type 0) → Type 0

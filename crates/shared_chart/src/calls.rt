@@ -13,7 +13,7 @@ use crate::seat::ChartSeat;
 use crate::shared::SharedChart;
 use crate::unready::Unready;
 use chart_core::{Core, Peers, Ready, TaskId, TaskInfo};
-use cover::{NoMemory, Shapes};
+use chart_model::{NoMemory, Shapes};
 use std::alloc::Global;
 use std::sync::Wait;
 

@@ -1,7 +1,7 @@
 //! The chart, as its lock sees it.
+use crate::Machine;
 use chart_core::{Caller, Core};
-use cover::Shapes;
-use turn_lock::Machine;
+use chart_model::Shapes;
 
 /// An entry of a chart's history, as its lock sees it: the task, and who entered its outcome.
 #[derive(Drop, Clone, Copy)]

@@ -1,19 +1,19 @@
 //! A shared chart is opened and closed.
 ghost use Rattle.std.specs.Prelude.{◌≡◌};
 
+use crate::TurnLock;
 use crate::chart::Chart;
 use crate::seat::ChartSeat;
 use crate::shared::SharedChart;
 use chart_core::Core;
-use cover::{NoMemory, Shapes};
+use chart_model::{NoMemory, Shapes};
 use std::alloc::Global;
-use turn_lock::TurnLock;
 
 impl<S: Shapes> SharedChart<S> {
     ghost use Rattle.std.specs.Prelude.{◌≡◌, ◌<◌, ℕ, true, [], length, IfOk};
     ghost use mathlib.Core.Option.{some};
     ghost use lib.ListN.{get_elem?};
-    ghost use Rattle.turn_lock.specs.Turns.{calls_by, total};
+    ghost use Rattle.shared_chart.specs.Turns.{calls_by, total};
     ghost use Rattle.chart_core.specs.Grammar.{grammar_of};
     ghost use Rattle.chart_core.specs.CoreView.{history_of};
     ghost use Rattle.chart_core.specs.Kept.{IsCore};

@@ -7,7 +7,7 @@ use crate::informing::inform_new;
 use crate::seat::ChartSeat;
 use crate::shared::SharedChart;
 use chart_core::{Caller, Entered, Outcome, TaskId, TaskInfo, Tested};
-use cover::Shapes;
+use chart_model::Shapes;
 use std::alloc::Global;
 use std::sync::Wait;
 

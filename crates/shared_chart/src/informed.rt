@@ -1,6 +1,6 @@
 //! What entering an outcome did, with what there is to know of its tasks.
 use chart_core::Entered;
-use cover::NoMemory;
+use chart_model::NoMemory;
 
 /// What entering an outcome did, and whether the list that was lent for it tells of all the tasks that it made.
 #[derive(Drop)]

@@ -1,6 +1,6 @@
 //! What is told of a task before its outcome is found.
 use chart_core::{Peers, Ready};
-use cover::Shapes;
+use chart_model::Shapes;
 
 /// Where the mother of a task would stand: its cover and level, and their live hosts.
 #[derive(Drop)]

@@ -1,6 +1,6 @@
 //! All that a worker wants to know of a task before it finds the outcome, in one turn.
 ghost use Rattle.std.specs.Prelude.{◌≡◌, ◌<◌, IfOk, IfErr, IfSome};
-ghost use Rattle.cover.specs.Tuples.{IsFor};
+ghost use Rattle.chart_model.specs.Tuples.{IsFor};
 ghost use Rattle.chart_core.specs.Grammar.{grammar_of};
 ghost use Rattle.chart_core.specs.Kept.{IsCore, tasks_of};
 ghost use Rattle.chart_core.specs.Calls.{Tells};
@@ -13,7 +13,7 @@ use crate::seat::ChartSeat;
 use crate::shared::SharedChart;
 use crate::unready::Unready;
 use chart_core::{Core, Ready, TaskId};
-use cover::{Shapes, Tuple};
+use chart_model::{Shapes, Tuple};
 use std::alloc::Global;
 use std::sync::Wait;
 

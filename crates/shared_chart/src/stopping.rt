@@ -3,7 +3,7 @@ ghost use Rattle.std.specs.Prelude.{◌≡◌};
 
 use crate::seat::ChartSeat;
 use crate::shared::SharedChart;
-use cover::Shapes;
+use chart_model::Shapes;
 use std::sync::Wait;
 
 impl<S: Shapes> SharedChart<S> {

@@ -1,5 +1,5 @@
 //! Why a task isn't ready.
-use cover::NoMemory;
+use chart_model::NoMemory;
 
 /// Why a shared chart tells nothing of a task.
 #[derive(Drop, Clone, Copy)]

@@ -4,10 +4,10 @@ use Rattle.std.specs.List.{Contains}
 use Rattle.std.proofs.lemmas.Bool.{cases_eq, cases_lt}
 use Rattle.std.proofs.lemmas.List.{map-append}
 use Rattle.std.proofs.lemmas.List.Elements.{All-push, All-pop, All-append, Contains-append_left, Contains-append_right}
-use Rattle.place_draws.specs.Draws.{times, once_below}
-use Rattle.place_draws.specs.Plays.{both}
-use Rattle.place_draws.proofs.Sums.{times-append, is_same, is_other}
-use Rattle.place_draws.specs.declared.table.Draws.{Draws}
+use Rattle.side_by_side.specs.Draws.{times, once_below}
+use Rattle.side_by_side.specs.Plays.{both}
+use Rattle.side_by_side.proofs.Sums.{times-append, is_same, is_other}
+use Rattle.side_by_side.specs.declared.draw_table.Draws.{Draws}
 use Rattle.side_by_side.specs.declared.posts.Done.{Done}
 use Rattle.side_by_side.specs.declared.posts.Post.{Post}
 use Rattle.side_by_side.specs.Inner.Posts.{IsDone, HasLeft, HasJoined, places_of}

@@ -1,2 +1,4 @@
 pub mod Works
 pub mod Inner
+pub mod Draws
+pub mod Plays

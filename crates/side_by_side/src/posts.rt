@@ -2,13 +2,12 @@
 ghost use Rattle.std.specs.Prelude.{◌≡◌, ◌+◌, ◌<◌, ◌≤◌, ◌^◌, ◌++◌, ◌∷◌, [], ℕ, All, length, false, IfOk, OnOk};
 ghost use Rattle.std.specs.Thread.{IsSync};
 ghost use Rattle.std.specs.List.{Contains};
-ghost use Rattle.place_draws.specs.Plays.{all_hands};
+ghost use Rattle.side_by_side.specs.Plays.{all_hands};
 ghost use Rattle.side_by_side.specs.Works.{AreReady};
 ghost use Rattle.side_by_side.specs.Inner.Posts.{IsDone, IsThrough, IsFresh, HasLeft, HasJoined, places_of};
 
-use crate::NoMemory;
 use crate::work::Work;
-use place_draws::{Drawer, Draws};
+use crate::{Drawer, Draws, NoMemory};
 use std::alloc::Global;
 use std::sync::Wait;
 use std::thread;

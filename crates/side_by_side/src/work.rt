@@ -3,10 +3,9 @@ ghost use Rattle.std.specs.Prelude.{◌≡◌, ℕ, ◌<◌, ◌≤◌, ◌^◌,
 ghost use Rattle.std.specs.Thread.{IsSync};
 ghost use Rattle.side_by_side.specs.Works.{AreGiven, AreReady};
 
-use crate::NoMemory;
 use crate::gathering::gather;
 use crate::posts::{close_posts, posts_of, run};
-use place_draws::Draws;
+use crate::{Draws, NoMemory};
 use std::alloc::Global;
 use std::sync::Wait;
 use std::thread::Threads;

@@ -5,8 +5,8 @@ use Rattle.std.proofs.Common.{refl, sym, ◌∙◌, ap, subst, zero, suc, arith,
 use Rattle.type_hierarchy.specs.declared.types.Ty.{Ty}
 use Rattle.fs_model.specs.Claims.{Path}
 use Rattle.fs_model.specs.Sources.{Reader}
-use Rattle.fs_paths.specs.Facts.{path_of}
-use Rattle.fs_paths.specs.declared.facts.Feat.{Feat}
+use Rattle.fs_graph.specs.Facts.{path_of}
+use Rattle.fs_graph.specs.declared.facts.Feat.{Feat}
 use Rattle.sieve.specs.Sketches.{paths_of, type_along, sketch_of}
 use Rattle.sieve.specs.Unifying.{HasSketch}
 use Rattle.sieve.specs.Inner.{numbers_of, lines_of}

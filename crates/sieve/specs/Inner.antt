@@ -2,7 +2,7 @@
 use Rattle.std.specs.Prelude.{ℕ, Option, List, [], ◌∷◌, map, option_map}
 use Rattle.type_hierarchy.specs.declared.types.Ty.{Ty}
 use Rattle.fs_model.specs.Claims.{Path}
-use Rattle.fs_paths.specs.Facts.{path_of}
+use Rattle.fs_graph.specs.Facts.{path_of}
 use Rattle.sieve.specs.Sketches.{TypeAt}
 use Rattle.sieve.specs.declared.sketches.SketchLine.{SketchLine}
 

@@ -6,8 +6,8 @@ use Rattle.std.specs.Global.{Global}
 use Rattle.type_hierarchy.specs.Table.{TypeTable, count_of, meet_of}
 use Rattle.fs_model.specs.Claims.{Path}
 use Rattle.fs_model.specs.Sources.{Reader}
-use Rattle.fs_paths.specs.declared.facts.Feat.{Feat}
-use Rattle.fs_paths.specs.Facts.{path_of}
+use Rattle.fs_graph.specs.declared.facts.Feat.{Feat}
+use Rattle.fs_graph.specs.Facts.{path_of}
 
 abbrev pub paths_of : List (Vec Feat Global) → List Path
 paths_of ps = map (λ p. path_of p.items) ps

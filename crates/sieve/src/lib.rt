@@ -4,7 +4,6 @@
 #![tactic(auto)]
 
 mod guards;
-mod no_memory;
 mod paths;
 mod priorities;
 mod quick;
@@ -12,9 +11,9 @@ mod sieves;
 mod sketches;
 
 pub use guards::{Decision, Guard};
-pub use no_memory::NoMemory;
 pub use paths::SketchPaths;
 pub use priorities::{Priority, Ranking};
 pub use quick::{TypesMeet, types_meet};
 pub use sieves::{Filter, Sieve};
 pub use sketches::{Sketch, SketchLine};
+pub use std::alloc::AllocError as NoMemory;

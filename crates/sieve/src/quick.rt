@@ -3,14 +3,14 @@
 ghost use Rattle.std.specs.Prelude.{◌≡◌, ◌<◌, ◌+◌, false, not, ◌||◌, ◌&&◌, drop, length, IfSome, option_map};
 ghost use Rattle.std.specs.Str.{bytes_eq};
 ghost use Rattle.type_hierarchy.specs.Table.{count_of};
-ghost use Rattle.fs_paths.specs.Facts.{path_of};
+ghost use Rattle.fs_graph.specs.Facts.{path_of};
 ghost use Rattle.sieve.specs.Sketches.{AreTypesIn, types_meet, sketches_meet};
 ghost use Rattle.sieve.specs.Unifying.{NoneUnify};
 ghost use Rattle.sieve.specs.Inner.{line_seen};
 
 use crate::sieves::Filter;
 use crate::sketches::{Sketch, SketchLine};
-use fs_paths::Feat;
+use fs_graph::Feat;
 use type_hierarchy::{Ty, Types};
 
 // Whether two types at one path have a common subtype, where both are there.

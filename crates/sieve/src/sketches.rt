@@ -2,14 +2,13 @@
 
 ghost use Rattle.std.specs.Prelude.{◌≡◌, ◌<◌, Some, length, map, option_map, slice_get, IfOk};
 ghost use Rattle.fs_graph.specs.GraphMap.{reader_of};
-ghost use Rattle.fs_paths.specs.Facts.{path_of};
+ghost use Rattle.fs_graph.specs.Facts.{path_of};
 ghost use Rattle.sieve.specs.Sketches.{paths_of, sketch_of};
 ghost use Rattle.sieve.specs.Inner.{lines_of, numbers_of, line_seen};
 
 use crate::NoMemory;
 use crate::paths::SketchPaths;
-use fs_graph::Graph;
-use fs_paths::Feat;
+use fs_graph::{Feat, Graph};
 use std::alloc::Global;
 use std::marker::Model;
 use type_hierarchy::Ty;

@@ -1,6 +1,6 @@
 -- Groups whose variables are all bound.
 use Rattle.std.proofs.Common.{ℕ, ◌≡◌, ◌⊎◌, inl, inr, List, [], ◌∷◌, refl, sym, subst}
-use Rattle.word_lists.specs.Words.{Has, Each}
+use Rattle.lexicon.specs.Words.{Has, Each}
 use Rattle.spelling_rules.specs.Trees.{SignTree, letter, variable, GroupTree, IsBound}
 use Rattle.spelling_rules.specs.Inner.Keeping.{IsFound}
 

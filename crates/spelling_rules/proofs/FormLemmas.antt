@@ -3,7 +3,7 @@ use Rattle.std.proofs.Common.{ℕ, zero, suc, ◌≡◌, ◌<◌, ◌≤◌, ◌
 use Rattle.std.specs.Prelude.{encode_utf8_all}
 use Rattle.std.specs.Option.{is_some, option_map}
 use Rattle.std.proofs.lemmas.Str.{encodes_same}
-use Rattle.word_lists.specs.Words.{Word, Has, Each}
+use Rattle.lexicon.specs.Words.{Word, Has, Each}
 use Rattle.spelling_rules.specs.declared.rules.SpellRule.{SpellRule}
 use Rattle.spelling_rules.specs.Trees.{GroupTree, RuleTree, SpellingTree, IsBound}
 use Rattle.spelling_rules.specs.Forms.{Rewrites, NoneMatches, IsMadeByLast, AreRegular, itself, made, emptied, unmatched, AreFormsBy, irregular, regular, once, rule_at, AreForms}

@@ -1,7 +1,7 @@
 -- Stems under one rule after another.
 use Rattle.std.proofs.Common.{ℕ, zero, suc, ◌≡◌, ◌<◌, ◌+◌, ◌⊎◌, inl, inr, List, [], ◌∷◌, ◌++◌, length, map, refl, sym, ◌∙◌, ap, subst, arith}
 use Rattle.std.specs.declared.cmp.Ordering.TheVariants.{Less}
-use Rattle.word_lists.specs.Words.{Word, Has, Each, Rises, compared}
+use Rattle.lexicon.specs.Words.{Word, Has, Each, Rises, compared}
 use Rattle.spelling_rules.specs.Trees.{SpellingTree}
 use Rattle.spelling_rules.specs.Forms.{StemTree, IsBefore, AreInOrder, AreStems, AreStemsUnder, HasForm}
 use Rattle.spelling_rules.specs.Inner.Keeping.{stem_under}

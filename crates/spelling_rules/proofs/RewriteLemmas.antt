@@ -4,7 +4,7 @@ use Rattle.std.specs.Prelude.{encode_utf8_all}
 use Rattle.std.proofs.lemmas.Str.{encodes_same}
 use Rattle.std.proofs.lemmas.List.{length-map, take-append-drop, take_at, drop_at as drop_seam}
 use Rattle.std.proofs.lemmas.Bool.Decides.{Decides-ltb}
-use Rattle.word_lists.specs.Words.{Word, Has, Each}
+use Rattle.lexicon.specs.Words.{Word, Has, Each}
 use Rattle.spelling_rules.specs.Trees.{SignTree, letter, variable, GroupTree, IsBound}
 use Rattle.spelling_rules.specs.Forms.{stands_for, Suits, joined, Rewrites}
 use Rattle.spelling_rules.specs.Inner.Rewriting.{is_variable, value_at, value_in, is_member, fits_sign, fits_by, part_of, rest_of, made_in, fits_in, rewritten}

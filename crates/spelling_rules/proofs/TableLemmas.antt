@@ -5,8 +5,8 @@ use Rattle.std.specs.List.{list_any}
 use Rattle.std.specs.Str.{bytes_eq}
 use Rattle.std.proofs.lemmas.List.{append-nil, append_assoc, map-append}
 use Rattle.std.proofs.lemmas.List.Folds.{list_any-append}
-use Rattle.word_lists.specs.Words.{Word, Has, Each, Rises, put}
-use Rattle.word_lists.proofs.WordLemmas.{bytes_eq-same, bytes_eq-refl, bytes_eq-swap, put_rises, put_new, put_old, put_only}
+use Rattle.lexicon.specs.Words.{Word, Has, Each, Rises, put}
+use Rattle.lexicon.proofs.WordLemmas.{bytes_eq-same, bytes_eq-refl, bytes_eq-swap, put_rises, put_new, put_old, put_only}
 use Rattle.spelling_rules.specs.Trees.{LineTree, RuleTree, SpellingTree, IsBound}
 use Rattle.spelling_rules.specs.Forms.{listed_forms, once, rule_at, AreRegular, AreFormsBy, irregular, regular, AreForms, HasForm}
 use Rattle.spelling_rules.specs.Inner.Keeping.{IsStem, IsKept}

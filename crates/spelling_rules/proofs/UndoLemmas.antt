@@ -4,7 +4,7 @@ use Rattle.std.specs.Prelude.{encode_utf8_all}
 use Rattle.std.specs.List.{flat_map}
 use Rattle.std.proofs.lemmas.Str.{encodes_same}
 use Rattle.std.proofs.lemmas.List.{append-nil, length-map}
-use Rattle.word_lists.specs.Words.{Word, Has, Each}
+use Rattle.lexicon.specs.Words.{Word, Has, Each}
 use Rattle.spelling_rules.specs.Trees.{SignTree, letter, variable, GroupTree, RuleTree, IsBound}
 use Rattle.spelling_rules.specs.Forms.{stands_for, Suits, joined, Rewrites, AreRegular, itself, made, emptied, unmatched}
 use Rattle.spelling_rules.specs.Inner.Keeping.{group_at}

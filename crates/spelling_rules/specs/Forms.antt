@@ -2,7 +2,7 @@
 use Rattle.std.specs.Prelude.{ℕ, zero, suc, ◌≡◌, ◌<◌, ◌⊎◌, ◌&&◌, ◌==◌, not, Bool, true, false, List, [], ◌∷◌, ◌++◌, map, filter, length, encode_utf8_all}
 use Rattle.std.specs.Str.{bytes_eq}
 use Rattle.std.specs.declared.cmp.Ordering.TheVariants.{Less}
-use Rattle.word_lists.specs.Words.{Word, Has, Each, Rises, compared}
+use Rattle.lexicon.specs.Words.{Word, Has, Each, Rises, compared}
 use Rattle.spelling_rules.specs.Trees.{SignTree, letter, variable, GroupTree, RuleTree, LineTree, SpellingTree}
 
 -- what a sign stands for, where each variable has a value

@@ -1,6 +1,6 @@
 -- Spelling rules and the irregular table, as plain data (DELPH-IN TDL). Everything is folded.
 use Rattle.std.specs.Prelude.{ℕ, ◌≡◌, Bool, List, [], ◌∷◌}
-use Rattle.word_lists.specs.Words.{Word, Has, Each}
+use Rattle.lexicon.specs.Words.{Word, Has, Each}
 
 -- a sign of a pattern: a letter that stands for itself, or a variable by its name, with the members of its letter set
 pub data SignTree : Type 0 where

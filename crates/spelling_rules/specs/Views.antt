@@ -1,7 +1,7 @@
 -- What contracts see of spelling rules.
 use Rattle.std.specs.Prelude.{ℕ, List, Vec, String, map, string_bytes}
 use Rattle.std.specs.Global.{Global}
-pub use Rattle.word_lists.specs.Words.{words_in}
+pub use Rattle.lexicon.specs.Words.{words_in}
 use Rattle.spelling_rules.specs.declared.rules.SpellSign.{SpellSign}
 use Rattle.spelling_rules.specs.declared.rules.SpellSign.TheVariants.{Char, Set}
 use Rattle.spelling_rules.specs.declared.rules.SpellGroup.{SpellGroup}

@@ -1,7 +1,7 @@
 //! Whether rules are fit for a spelling: each variable that a group writes is one of its pattern.
 
 ghost use Rattle.std.specs.Prelude.{◌≡◌, ◌↔◌, ℕ, List, map, IsTrue};
-ghost use Rattle.word_lists.specs.Words.{Has, Each};
+ghost use Rattle.lexicon.specs.Words.{Has, Each};
 ghost use Rattle.spelling_rules.specs.Trees.{variable, IsBound, AreBound};
 ghost use Rattle.spelling_rules.specs.Views.{sign_of, group_of, rule_of};
 ghost use Rattle.spelling_rules.specs.Inner.Keeping.{IsFound};

@@ -7,8 +7,8 @@ ghost use Rattle.spelling_rules.specs.Views.{sign_of, group_of, letters_in};
 
 use crate::letters::{joined, part_of, rest_of};
 use crate::rules::{SpellGroup, SpellSign};
+use lexicon::NoMemory;
 use std::alloc::Global;
-use word_lists::NoMemory;
 
 /// Whether a sign is the variable of this name.
 pub(crate) fn is_variable(name: char, sign: &SpellSign) -> bool

@@ -1,7 +1,7 @@
 //! Laws of the forms of stems.
 
 ghost use Rattle.std.specs.Prelude.{◌≡◌, ◌<◌, ℕ, List, length, encode_utf8_all};
-ghost use Rattle.word_lists.specs.Words.{Word};
+ghost use Rattle.lexicon.specs.Words.{Word};
 ghost use Rattle.spelling_rules.specs.Trees.{SpellingTree, AreBound};
 ghost use Rattle.spelling_rules.specs.Forms.{AreForms};
 

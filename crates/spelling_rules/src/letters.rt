@@ -4,8 +4,8 @@ ghost use Rattle.std.specs.Prelude.{◌≡◌, ◌≤◌, ◌<◌, length, IfOk,
 ghost use Rattle.spelling_rules.specs.Forms.{joined};
 ghost use Rattle.spelling_rules.specs.Inner.Rewriting.{part_of, rest_of};
 
+use lexicon::NoMemory;
 use std::alloc::Global;
-use word_lists::NoMemory;
 
 /// The letters of a word.
 pub(crate) fn letters_of(alloc: Global, word: &str) -> Result<Vec<char>, NoMemory>

@@ -16,4 +16,4 @@ mod undo;
 pub use bound::are_bound;
 pub use rules::{Irregular, SpellGroup, SpellRule, SpellSign, Stem};
 pub use spelling::Spelling;
-pub use word_lists::NoMemory;
+pub use std::alloc::AllocError as NoMemory;

@@ -1,7 +1,7 @@
 //! What a rule makes of stems by its groups, and what they leave of a form.
 
 ghost use Rattle.std.specs.Prelude.{◌≡◌, ℕ, List, map, option_map, IfOk, OnOk, IsTrue, ◌↔◌, encode_utf8_all};
-ghost use Rattle.word_lists.specs.Words.{Word, Has, Each};
+ghost use Rattle.lexicon.specs.Words.{Word, Has, Each};
 ghost use Rattle.spelling_rules.specs.Forms.{AreRegular};
 ghost use Rattle.spelling_rules.specs.Inner.Rewriting.{unless_empty, words_made, forms_with, regular_forms};
 ghost use Rattle.spelling_rules.specs.Trees.{IsBound};
@@ -11,8 +11,8 @@ use crate::groups::by_groups;
 use crate::letters::{letters_of, word_of};
 use crate::rules::SpellRule;
 use crate::undo::undo;
+use lexicon::NoMemory;
 use std::alloc::Global;
-use word_lists::NoMemory;
 
 // The word of letters, unless there are none.
 fn unless_empty(alloc: Global, letters: &[char]) -> Result<Vec<String>, NoMemory>

@@ -15,9 +15,9 @@ use crate::rules::{Irregular, SpellRule, Stem};
 use crate::table::{Line, has_word, is_among, table_of, words_of_rule};
 use crate::under::add_under;
 use indexmap::IndexMap;
+use lexicon::{NoMemory, noted, put};
 use std::alloc::Global;
 use std::marker::Model;
-use word_lists::{NoMemory, noted, put};
 
 /// The spelling of a grammar: its lexical rules by number, and its irregular forms.
 #[derive(Drop)]

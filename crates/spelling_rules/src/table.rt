@@ -4,12 +4,12 @@ ghost use Rattle.std.specs.Prelude.{◌≡◌, ◌==◌, ◌↔◌, IsTrue, List
 ghost use Rattle.spelling_rules.specs.Forms.{once};
 ghost use Rattle.spelling_rules.specs.Inner.Tables.{pair_of, words_of_rule, is_among, with_each, IsTable};
 ghost use Rattle.spelling_rules.specs.Views.{line_of, words_in};
-ghost use Rattle.word_lists.specs.Words.{Has};
+ghost use Rattle.lexicon.specs.Words.{Has};
 
 use crate::rules::Irregular;
 use indexmap::IndexMap;
+use lexicon::{NoMemory, note};
 use std::alloc::Global;
-use word_lists::{NoMemory, note};
 
 /// A line of the irregular table, as it is noted for its stem or its form: the rule, and the other word.
 #[derive(Drop)]

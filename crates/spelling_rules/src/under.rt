@@ -5,7 +5,7 @@ ghost use Rattle.spelling_rules.specs.Inner.Keeping.{stem_under};
 ghost use Rattle.spelling_rules.specs.Views.{stems_in};
 
 use crate::rules::Stem;
-use word_lists::NoMemory;
+use lexicon::NoMemory;
 
 /// Adds stems, each with the number of the rule that has them.
 pub(crate) fn add_under(out: &mut Vec<Stem>, rule: u32, stems: &[String]) -> Result<(), NoMemory>

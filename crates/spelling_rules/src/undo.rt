@@ -6,13 +6,13 @@ ghost use Rattle.spelling_rules.specs.Trees.{IsBound};
 ghost use Rattle.spelling_rules.specs.Inner.Undoing.{occurs, options, longer, fillings};
 ghost use Rattle.spelling_rules.specs.Views.{sign_of, group_of, letters_in, words_in};
 ghost use Rattle.std.specs.List.{flat_map};
-ghost use Rattle.word_lists.specs.Words.{Word, Has};
+ghost use Rattle.lexicon.specs.Words.{Word, Has};
 
 use crate::groups::{fits, is_variable, value_in};
 use crate::letters::{joined, part_of, rest_of, word_of};
 use crate::rules::{SpellGroup, SpellSign};
+use lexicon::NoMemory;
 use std::alloc::Global;
-use word_lists::NoMemory;
 
 // Whether a variable occurs among signs.
 fn occurs(name: char, signs: &[SpellSign]) -> bool

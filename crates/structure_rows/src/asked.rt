@@ -7,7 +7,7 @@ use crate::names::{name_of, path};
 use crate::steps::{front, number};
 use crate::texts::{push_type, shown};
 use fs_graph::{Graph, Node};
-use fs_subsume::subsumes;
+use fs_trim::subsumes;
 use fs_unify::Scratch;
 use std::alloc::{AllocError, Global};
 use type_hierarchy::Types;

@@ -2,12 +2,12 @@
 
 ghost use Rattle.std.specs.Prelude.{◌<◌, All, IsTrue};
 ghost use Rattle.fs_model.specs.Claims.{Claim, Has};
-ghost use Rattle.fs_paths.specs.Facts.{path_of, claim_of, claims_of};
+ghost use Rattle.fs_graph.specs.Facts.{path_of, claim_of, claims_of};
 ghost use Rattle.fs_unify.specs.Rules.{IsClaimIn};
 
 use crate::names::{path, type_of};
 use crate::steps::front;
-use fs_paths::{Fact, Feat};
+use fs_graph::{Fact, Feat};
 use std::alloc::{AllocError, Global};
 use type_hierarchy::Types;
 

@@ -2,7 +2,7 @@
 
 ghost use Rattle.std.specs.Prelude.{◌≤◌};
 
-use fs_paths::Feat;
+use fs_graph::Feat;
 use std::alloc::{AllocError, Global};
 use type_hierarchy::{Ty, Types};
 

@@ -3,14 +3,14 @@
 ghost use Rattle.std.specs.Prelude.{◌≡◌, ◌<◌, false, length, All, IfSome, IfOk, IsTrue};
 ghost use Rattle.type_hierarchy.specs.Table.{count_of, is_below};
 ghost use Rattle.fs_model.specs.Claims.{Claim, IsBare, Has};
-ghost use Rattle.fs_paths.specs.Facts.{claims_of};
+ghost use Rattle.fs_graph.specs.Facts.{claims_of};
 ghost use Rattle.fs_unify.specs.Rules.{system_of, IsClaimIn};
 
 use crate::facts::{facts, facts_in};
 use crate::names::{FEATS, type_of};
 use crate::steps::front;
 use fs_unify::{TypeFacts, TypeSystem};
-use glb_completion::complete;
+use grammar_types::complete;
 use std::alloc::{AllocError, Global};
 use type_hierarchy::{Decl, Hierarchy, Ty, Types};
 

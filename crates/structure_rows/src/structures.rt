@@ -9,8 +9,7 @@ use crate::facts::{facts, facts_in, path_in};
 use crate::names::{FEATS, path};
 use crate::steps::{front, number};
 use crate::texts::shown;
-use fs_graph::Graph;
-use fs_paths::Feat;
+use fs_graph::{Feat, Graph};
 use fs_unify::{NoMemory, Parts, Scratch, TypeSystem, structure_of, unifies, unify};
 use std::alloc::{AllocError, Global};
 

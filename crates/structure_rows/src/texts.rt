@@ -1,8 +1,7 @@
 //! Structures as texts: the lines of their paths, with strokes between.
 
 use crate::names::name_of;
-use fs_graph::Graph;
-use fs_paths::{Feat, PathLine};
+use fs_graph::{Feat, Graph, PathLine};
 use std::alloc::{AllocError, Global};
 use type_hierarchy::{Ty, Types};
 

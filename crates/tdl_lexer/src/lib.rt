@@ -16,6 +16,7 @@ ghost use Rattle.tdl_lexer.specs.declared.LexFault.{LexFault};
 use crate::pieces::{fault, piece};
 use crate::scan::first;
 pub use scan::is_name;
+pub use std::alloc::AllocError as NoMemory;
 use std::alloc::{AllocError, AllocFailed, Global};
 use std::str;
 pub use values::{spelled, value};
@@ -115,26 +116,6 @@ impl<T: Drop> From<AllocFailed<T>> for LexFault {
     ghost from_gives = { λ _ e. e ≡ NoMemory };
 
     fn from(_: AllocFailed<T>) -> LexFault {
-        LexFault::NoMemory
-    }
-}
-
-/// Want of memory.
-#[derive(Clone, Copy, Debug, PartialEq, Eq)]
-pub struct NoMemory;
-
-impl From<AllocError> for NoMemory {
-    ghost from_gives = { λ _ _. Unit {0} };
-
-    fn from(_: AllocError) -> NoMemory {
-        NoMemory
-    }
-}
-
-impl From<NoMemory> for LexFault {
-    ghost from_gives = { λ _ e. e ≡ NoMemory };
-
-    fn from(_: NoMemory) -> LexFault {
         LexFault::NoMemory
     }
 }

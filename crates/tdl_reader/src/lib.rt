@@ -202,16 +202,6 @@ impl<T: Drop> From<AllocFailed<T>> for ReadFault {
     }
 }
 
-impl From<tdl_lexer::NoMemory> for ReadFault {
-    ghost use Rattle.tdl_reader.specs.declared.ReadFault.TheVariants.{NoMemory};
-
-    ghost from_gives = { λ _ e. e ≡ NoMemory };
-
-    fn from(_: tdl_lexer::NoMemory) -> ReadFault {
-        ReadFault::NoMemory
-    }
-}
-
 /// The statements of a text's tokens in order of writing, or the first fault from the left.
 ///
 /// The tokens are those that the lexer gives for the text. Names are in ASCII lower case, strings without quotes and

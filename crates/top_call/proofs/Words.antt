@@ -7,7 +7,7 @@ use Rattle.endings.specs.declared.Fault.{Fault}
 use Rattle.endings.specs.declared.Fault.TheVariants.{Usage as UsageFault, Files, Stopped}
 use Rattle.endings.specs.declared.Stop.TheVariants.{Read, TooLong, TooMany, Write, Gaps, NoMemory as NoMemoryStop}
 use Rattle.endings.specs.Endings.{status_of, fault_text, usage_line, Tells}
-use Rattle.word_faults.specs.Faults.{IsText}
+use Rattle.command_line.specs.Faults.{IsText}
 use Rattle.top_call.specs.Runs.{IsFormless, TellsWords, IsOfWords}
 
 -- what is told of words of no form

@@ -32,17 +32,17 @@ abbrev pub meaning_of : Form → Meaning
 meaning_of help = plain_meaning help_page
 meaning_of (help_on command) = plain_meaning (page_on command)
 meaning_of version = plain_meaning version_line
-meaning_of (run (parse grammar) options) = parse_meaning grammar options.settings (asked_of options)
-meaning_of (run (chart grammar) options) = chart_meaning grammar options.settings (asked_of options).limits options.lexical options.lattice
-meaning_of (run (explain grammar) options) = explain_meaning grammar options.settings options.mrs
-meaning_of (run (generate grammar) options) = generate_meaning grammar options.settings (bounds_of options)
-meaning_of (run (types grammar) options) = types_meaning grammar options.settings
-meaning_of (run (expand grammar entry) options) = expand_meaning grammar entry options.settings
-meaning_of (run (check grammar) options) = check_meaning grammar options.settings
+meaning_of (run (parse grammar) options) = parse_meaning grammar options.settings options.verbose (asked_of options)
+meaning_of (run (chart grammar) options) = chart_meaning grammar options.settings options.verbose (asked_of options).limits options.lexical options.lattice
+meaning_of (run (explain grammar) options) = explain_meaning grammar options.settings options.verbose options.mrs
+meaning_of (run (generate grammar) options) = generate_meaning grammar options.settings options.verbose (bounds_of options)
+meaning_of (run (types grammar) options) = types_meaning grammar options.settings options.verbose
+meaning_of (run (expand grammar entry) options) = expand_meaning grammar entry options.settings options.verbose
+meaning_of (run (check grammar) options) = check_meaning grammar options.settings options.verbose
 meaning_of (run (self_test number size) options) = self_test_meaning number size (asked_of options).limits options.lexical
 meaning_of (run scope options) = scope_meaning options.readings
-meaning_of (run (batch grammar profile) options) = batch_meaning grammar options.settings profile (asked_of options).limits options.lexical
-meaning_of (run (transfer rules) options) = transfer_meaning rules options.settings
+meaning_of (run (batch grammar profile) options) = batch_meaning grammar options.settings options.verbose profile (asked_of options).limits options.lexical
+meaning_of (run (transfer rules) options) = transfer_meaning rules options.settings options.verbose
 
 -- the size of a workload is in its range
 abbrev pub IsSized : Task → Type 0

@@ -1,7 +1,7 @@
 -- What `--help` prints, and help on a command.
 use Rattle.std.specs.Prelude.{ℕ, List, [], ◌∷◌, ◌++◌, codes, map}
 use Rattle.std.specs.List.{flat_map}
-use Rattle.command_line.specs.Words.{OptionName, Workers, Edges, Readings, Lexical, Unary, Empty, Settings, Mrs, Lattice}
+use Rattle.command_line.specs.Words.{OptionName, Workers, Edges, Readings, Lexical, Unary, Empty, Settings, Mrs, Lattice, Verbose}
 use Rattle.command_line.specs.declared.tasks.CommandName.{CommandName}
 use Rattle.command_line.specs.declared.tasks.CommandName.TheVariants as named
 
@@ -30,6 +30,7 @@ option_line_of Empty = codes "  --empty N        the most words without a predic
 option_line_of Workers = codes "  --workers N      how many workers fill a chart, or answer lines, 1 to 64 (1); no answer depends on it"
 option_line_of Lattice = codes "  --lattice        each line writes a lattice, FROM:TO:WORD for each step (a line is its words)"
 option_line_of Mrs = codes "  --mrs            each tree that is listed or licensed is followed by its MRS (no MRSs)"
+option_line_of Verbose = codes "  --verbose        tells where and why files have a fault, and the unknown words of a line without a tree (neither)"
 
 -- what each command and option does, and the default of each option
 abbrev pub help_lines : List (List ℕ)
@@ -63,6 +64,7 @@ help_lines =
     ∷ option_line_of Workers
     ∷ option_line_of Lattice
     ∷ option_line_of Mrs
+    ∷ option_line_of Verbose
     ∷ []
     ∷ codes "Every command takes every option and heeds those that concern it."
     ∷ []
@@ -91,17 +93,17 @@ usage_of named.Transfer = codes "usage: lkb transfer RULES, with options"
 
 -- the options that a command heeds
 abbrev pub heeded_by : CommandName → List OptionName
-heeded_by named.Parse = Settings ∷ Edges ∷ Readings ∷ Lexical ∷ Unary ∷ Workers ∷ Lattice ∷ Mrs ∷ []
-heeded_by named.Chart = Settings ∷ Edges ∷ Lexical ∷ Unary ∷ Workers ∷ Lattice ∷ []
-heeded_by named.Explain = Settings ∷ Workers ∷ Mrs ∷ []
-heeded_by named.Generate = Settings ∷ Edges ∷ Readings ∷ Lexical ∷ Unary ∷ Empty ∷ Workers ∷ []
-heeded_by named.Types = Settings ∷ []
-heeded_by named.Check = Settings ∷ []
-heeded_by named.Expand = Settings ∷ []
+heeded_by named.Parse = Settings ∷ Edges ∷ Readings ∷ Lexical ∷ Unary ∷ Workers ∷ Lattice ∷ Mrs ∷ Verbose ∷ []
+heeded_by named.Chart = Settings ∷ Edges ∷ Lexical ∷ Unary ∷ Workers ∷ Lattice ∷ Verbose ∷ []
+heeded_by named.Explain = Settings ∷ Workers ∷ Mrs ∷ Verbose ∷ []
+heeded_by named.Generate = Settings ∷ Edges ∷ Readings ∷ Lexical ∷ Unary ∷ Empty ∷ Workers ∷ Verbose ∷ []
+heeded_by named.Types = Settings ∷ Verbose ∷ []
+heeded_by named.Check = Settings ∷ Verbose ∷ []
+heeded_by named.Expand = Settings ∷ Verbose ∷ []
 heeded_by named.SelfTest = Edges ∷ Readings ∷ Lexical ∷ Unary ∷ Workers ∷ []
-heeded_by named.Batch = Settings ∷ Edges ∷ Readings ∷ Lexical ∷ Unary ∷ Workers ∷ []
+heeded_by named.Batch = Settings ∷ Edges ∷ Readings ∷ Lexical ∷ Unary ∷ Workers ∷ Verbose ∷ []
 heeded_by named.Scope = Readings ∷ Workers ∷ []
-heeded_by named.Transfer = Settings ∷ Workers ∷ []
+heeded_by named.Transfer = Settings ∷ Workers ∷ Verbose ∷ []
 
 -- help on a command: how it is used, its line, and those of the options that it heeds
 abbrev pub page_on : CommandName → List ℕ

@@ -4,11 +4,12 @@ use Rattle.command_line.specs.Words.{Form, IsForm}
 use Rattle.endings.specs.Meanings.{Shelves}
 use Rattle.endings.specs.Reports.{Streams}
 use Rattle.endings.specs.Endings.{Ended}
+use Rattle.endings.specs.Notes.{AreNoted}
 use Rattle.endings.specs.declared.Fault.{Fault}
 use Rattle.endings.specs.declared.Fault.TheVariants.{Usage, Stopped}
 use Rattle.endings.specs.declared.Stop.TheVariants.{NoMemory}
-use Rattle.word_faults.specs.declared.faults.WordFault.{WordFault}
-use Rattle.word_faults.specs.Faults.{IsFault, fault_line}
+use Rattle.command_line.specs.declared.faults.WordFault.{WordFault}
+use Rattle.command_line.specs.Faults.{IsFault, fault_line}
 use Rattle.top_call.specs.Commands.{meaning_of}
 
 -- the words are of no form
@@ -29,9 +30,10 @@ abbrev pub EndedByWords : List (List ℕ) → Result Bool Fault → Type 0
 EndedByWords words (Ok refused) = ⊥
 EndedByWords words (Err fault) = IsOfWords words fault
 
--- The words are of a form, and the run ended by what that form asks for; or they asked for nothing, and nothing was read or written.
--- `unopened` says that the shelf is as it was.
-abbrev pub RunEnded : List (List ℕ) → Shelves → Streams → (unopened idle untouched : Type 0) → Result Bool Fault → Type 0
-RunEnded words h o unopened idle untouched end =
-    ((form : Form) × IsForm words form × Ended (meaning_of form) h o idle untouched end × ((meaning_of form).opens ≡ false → unopened))
-    ⊎ (EndedByWords words end × unopened × untouched)
+-- The words are of a form, and the run ended by what that form asks for, with its notes; or they asked for nothing, nothing was read or written,
+-- and nothing is noted. `unopened` says that the shelf is as it was.
+abbrev pub RunEnded : List (List ℕ) → Shelves → Streams → (unopened idle untouched : Type 0) → (notes : List ℕ) → Result Bool Fault → Type 0
+RunEnded words h o unopened idle untouched notes end =
+    ((form : Form) × IsForm words form × Ended (meaning_of form) h o idle untouched end × ((meaning_of form).opens ≡ false → unopened)
+    × AreNoted (meaning_of form) h.files o.left_old o.left_new notes end)
+    ⊎ (EndedByWords words end × unopened × untouched × (notes ≡ []))

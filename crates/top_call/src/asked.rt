@@ -7,19 +7,20 @@ ghost use Rattle.command_line.specs.Words.{IsForm, AreWithin, IsWithin, in_range
 ghost use Rattle.command_line.specs.declared.reading.WordsFault.{WordsFault};
 ghost use Rattle.command_line.specs.declared.tasks.Command.{Command};
 ghost use Rattle.endings.specs.Meanings.{shelves};
-ghost use Rattle.endings.specs.Reports.{streams};
+ghost use Rattle.endings.specs.Reports.{output, streams};
 ghost use Rattle.endings.specs.Endings.{Ended};
+ghost use Rattle.endings.specs.Notes.{IsNoted};
 ghost use Rattle.generate_commands.specs.Views.{bounds_with};
 ghost use Rattle.line_commands.specs.Views.{asked_with};
 ghost use Rattle.top_call.specs.Commands.{IsInRange, IsSized, meaning_of, asked_of, bounds_of, version_line};
 ghost use Rattle.top_call.specs.Runs.{IsFormless, IsOfWords};
-ghost use Rattle.word_faults.specs.Faults.{IsText};
+ghost use Rattle.command_line.specs.Faults.{IsText};
 
 use crate::help::{help_text, text_on};
 use crate::laws::built_lawful;
 use chart_core::Limits;
 use command_line::laws::{numbers_are_within, one_form};
-use command_line::{Command, Options, Task, WordsFault, command_of};
+use command_line::{Command, Options, Task, WordsFault, command_of, word_fault};
 use endings::commands::{write_items, write_whole};
 use endings::plain::Plain;
 use endings::{Fault, Stop};
@@ -34,7 +35,6 @@ use std::alloc::Global;
 use std::sync::Wait;
 use std::thread::Threads;
 use transfer_commands::{Transfer, transfer_lines};
-use word_faults::word_fault;
 use worker_gate::Gate;
 
 /// The version and its line end.
@@ -61,30 +61,31 @@ impl endings::Command for Asked<'_> {
         built_lawful();
     }
 
-    fn perform<S: Shelf, I: Source, O: Sink, Rt: Threads + Wait + Sync>(
+    fn perform<S: Shelf, I: Source, O: Sink, X: Sink, Rt: Threads + Wait + Sync>(
         &self,
         rt: &Rt,
         alloc: Global,
         shelf: &mut S,
         input: &mut I,
         out: &mut O,
+        err: &mut X,
         gate: &dyn Gate,
     ) -> Result<bool, Fault> {
         match self.command {
             Command::Help => {
                 let text = help_text();
-                (Plain { text }).perform(rt, alloc, shelf, input, out, gate)
+                (Plain { text }).perform(rt, alloc, shelf, input, out, err, gate)
             }
             Command::HelpOn(command) => {
                 let text = text_on(command);
-                (Plain { text }).perform(rt, alloc, shelf, input, out, gate)
+                (Plain { text }).perform(rt, alloc, shelf, input, out, err, gate)
             }
             Command::Version => {
                 let text = version_text();
-                (Plain { text }).perform(rt, alloc, shelf, input, out, gate)
+                (Plain { text }).perform(rt, alloc, shelf, input, out, err, gate)
             }
             Command::Run(task, options) => {
-                do_task(rt, alloc, task, options, shelf, input, out, gate)
+                do_task(rt, alloc, task, options, shelf, input, out, err, gate)
             }
         }
     }
@@ -131,7 +132,7 @@ fn size_of(size: u64) -> u32
 }
 
 // Does a task under these options. A command is one arm.
-fn do_task<S: Shelf, I: Source, O: Sink, Rt: Threads + Wait + Sync>(
+fn do_task<S: Shelf, I: Source, O: Sink, X: Sink, Rt: Threads + Wait + Sync>(
     rt: &Rt,
     alloc: Global,
     task: Task,
@@ -139,16 +140,19 @@ fn do_task<S: Shelf, I: Source, O: Sink, Rt: Threads + Wait + Sync>(
     shelf: &mut S,
     input: &mut I,
     out: &mut O,
+    err: &mut X,
     gate: &dyn Gate,
 ) -> Result<bool, Fault>
     requires within { AreWithin (options_in options) }
     requires sized { IsSized (task_in task) }
     ensures ended { Ended (meaning_of (form (Command.Run task.entry options.entry))) (shelves S.files S.faults S.asked shelf.old shelf.new) (streams I.left I.faults O.written O.flushed O.faults input.old input.new out.old out.new)
         (input.new ≡ input.old) ((input.new ≡ input.old) × (out.new ≡ out.old)) result }
+    ensures noted { IsNoted (meaning_of (form (Command.Run task.entry options.entry))) (S.files shelf.old) (I.left input.old) (I.left input.new) (output X.written X.flushed X.faults err.old err.new) result }
     ensures unopened { (meaning_of (form (Command.Run task.entry options.entry))).opens ≡ false → shelf.new ≡ shelf.old }
 {
     let settings = options.settings;
     let mrs = options.mrs;
+    let verbose = options.verbose;
     match task {
         Task::Parse(grammar) => {
             let command = Parse {
@@ -158,8 +162,9 @@ fn do_task<S: Shelf, I: Source, O: Sink, Rt: Threads + Wait + Sync>(
                 workers: workers_of(&options),
                 lattice: options.lattice,
                 mrs,
+                verbose,
             };
-            parse_lines(rt, alloc, &command, shelf, input, out, gate)
+            parse_lines(rt, alloc, &command, shelf, input, out, err, gate)
         }
         Task::Chart(grammar) => {
             let command = Chart {
@@ -168,6 +173,7 @@ fn do_task<S: Shelf, I: Source, O: Sink, Rt: Threads + Wait + Sync>(
                 limits: limits_of(&options),
                 workers: workers_of(&options),
                 lattice: options.lattice,
+                verbose,
             };
             chart_lines(rt, alloc, &command, shelf, input, out, gate)
         }
@@ -177,6 +183,7 @@ fn do_task<S: Shelf, I: Source, O: Sink, Rt: Threads + Wait + Sync>(
                 settings,
                 workers: workers_of(&options),
                 mrs,
+                verbose,
             };
             explain_lines(rt, alloc, &command, shelf, input, out, gate)
         }
@@ -186,11 +193,16 @@ fn do_task<S: Shelf, I: Source, O: Sink, Rt: Threads + Wait + Sync>(
                 settings,
                 limits: limits_of(&options),
                 workers: workers_of(&options),
+                verbose,
             };
             generate_lines(rt, alloc, &command, shelf, input, out, gate)
         }
         Task::Types(grammar) => {
-            let command = Types { grammar, settings };
+            let command = Types {
+                grammar,
+                settings,
+                verbose,
+            };
             write_whole(alloc, &command, shelf, input, out)
         }
         Task::Expand(grammar, entry) => {
@@ -198,11 +210,16 @@ fn do_task<S: Shelf, I: Source, O: Sink, Rt: Threads + Wait + Sync>(
                 grammar,
                 entry,
                 settings,
+                verbose,
             };
             write_whole(alloc, &command, shelf, input, out)
         }
         Task::Check(grammar) => {
-            let command = Check { grammar, settings };
+            let command = Check {
+                grammar,
+                settings,
+                verbose,
+            };
             write_whole(alloc, &command, shelf, input, out)
         }
         Task::SelfTest(number, size) => {
@@ -228,6 +245,7 @@ fn do_task<S: Shelf, I: Source, O: Sink, Rt: Threads + Wait + Sync>(
                 profile,
                 limits: limits_of(&options),
                 workers: workers_of(&options),
+                verbose,
             };
             write_items(rt, alloc, &command, shelf, input, out, gate)
         }
@@ -236,6 +254,7 @@ fn do_task<S: Shelf, I: Source, O: Sink, Rt: Threads + Wait + Sync>(
                 rules,
                 settings,
                 workers: workers_of(&options),
+                verbose,
             };
             transfer_lines(rt, alloc, &command, shelf, input, out, gate)
         }

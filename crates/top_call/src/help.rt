@@ -36,6 +36,7 @@ const HELP: &[u8] = b"\
     \x20 --workers N      how many workers fill a chart, or answer lines, 1 to 64 (1); no answer depends on it\n\
     \x20 --lattice        each line writes a lattice, FROM:TO:WORD for each step (a line is its words)\n\
     \x20 --mrs            each tree that is listed or licensed is followed by its MRS (no MRSs)\n\
+    \x20 --verbose        tells where and why files have a fault, and the unknown words of a line without a tree (neither)\n\
     \n\
     Every command takes every option and heeds those that concern it.\n\
     \n\
@@ -63,6 +64,7 @@ const PARSE: &[u8] = b"\
     \x20 --workers N      how many workers fill a chart, or answer lines, 1 to 64 (1); no answer depends on it\n\
     \x20 --lattice        each line writes a lattice, FROM:TO:WORD for each step (a line is its words)\n\
     \x20 --mrs            each tree that is listed or licensed is followed by its MRS (no MRSs)\n\
+    \x20 --verbose        tells where and why files have a fault, and the unknown words of a line without a tree (neither)\n\
 ";
 
 const CHART: &[u8] = b"\
@@ -74,6 +76,7 @@ const CHART: &[u8] = b"\
     \x20 --unary N        the most unary rules one over another, 0 to 32 (8)\n\
     \x20 --workers N      how many workers fill a chart, or answer lines, 1 to 64 (1); no answer depends on it\n\
     \x20 --lattice        each line writes a lattice, FROM:TO:WORD for each step (a line is its words)\n\
+    \x20 --verbose        tells where and why files have a fault, and the unknown words of a line without a tree (neither)\n\
 ";
 
 const EXPLAIN: &[u8] = b"\
@@ -82,6 +85,7 @@ const EXPLAIN: &[u8] = b"\
     \x20 --settings NAME  a file of settings (each setting's default)\n\
     \x20 --workers N      how many workers fill a chart, or answer lines, 1 to 64 (1); no answer depends on it\n\
     \x20 --mrs            each tree that is listed or licensed is followed by its MRS (no MRSs)\n\
+    \x20 --verbose        tells where and why files have a fault, and the unknown words of a line without a tree (neither)\n\
 ";
 
 const GENERATE: &[u8] = b"\
@@ -94,24 +98,28 @@ const GENERATE: &[u8] = b"\
     \x20 --unary N        the most unary rules one over another, 0 to 32 (8)\n\
     \x20 --empty N        the most words without a predicate in a generated sentence, 0 to 16 (4)\n\
     \x20 --workers N      how many workers fill a chart, or answer lines, 1 to 64 (1); no answer depends on it\n\
+    \x20 --verbose        tells where and why files have a fault, and the unknown words of a line without a tree (neither)\n\
 ";
 
 const TYPES: &[u8] = b"\
     usage: lkb types GRAMMAR, with options\n\
     \x20 types GRAMMAR          the completed types, each with its immediate supertypes\n\
     \x20 --settings NAME  a file of settings (each setting's default)\n\
+    \x20 --verbose        tells where and why files have a fault, and the unknown words of a line without a tree (neither)\n\
 ";
 
 const CHECK: &[u8] = b"\
     usage: lkb check GRAMMAR, with options\n\
     \x20 check GRAMMAR          one line that counts types, features, entries, rules and roots\n\
     \x20 --settings NAME  a file of settings (each setting's default)\n\
+    \x20 --verbose        tells where and why files have a fault, and the unknown words of a line without a tree (neither)\n\
 ";
 
 const EXPAND: &[u8] = b"\
     usage: lkb expand GRAMMAR NAME, with options\n\
     \x20 expand GRAMMAR NAME    the structure of a type, entry, rule or root: a line for each path\n\
     \x20 --settings NAME  a file of settings (each setting's default)\n\
+    \x20 --verbose        tells where and why files have a fault, and the unknown words of a line without a tree (neither)\n\
 ";
 
 const SELF_TEST: &[u8] = b"\
@@ -133,6 +141,7 @@ const BATCH: &[u8] = b"\
     \x20 --lexical N      the most lexical rules over an entry, 0 to 15 (7)\n\
     \x20 --unary N        the most unary rules one over another, 0 to 32 (8)\n\
     \x20 --workers N      how many workers fill a chart, or answer lines, 1 to 64 (1); no answer depends on it\n\
+    \x20 --verbose        tells where and why files have a fault, and the unknown words of a line without a tree (neither)\n\
 ";
 
 const SCOPE: &[u8] = b"\
@@ -147,6 +156,7 @@ const TRANSFER: &[u8] = b"\
     \x20 transfer RULES         for each MRS of the input what the rules of RULES make of it, and in how many steps\n\
     \x20 --settings NAME  a file of settings (each setting's default)\n\
     \x20 --workers N      how many workers fill a chart, or answer lines, 1 to 64 (1); no answer depends on it\n\
+    \x20 --verbose        tells where and why files have a fault, and the unknown words of a line without a tree (neither)\n\
 ";
 
 // Help on `parse`.

@@ -1,6 +1,7 @@
 //! What holds of every command: told files have one report, or one first fault, and never both.
-ghost use Rattle.command_line.specs.Words.{Form};
-ghost use Rattle.endings.specs.Meanings.{Lawful};
+ghost use Rattle.std.specs.Prelude.{◌≡◌, ℕ, List, [], Bool, false};
+ghost use Rattle.command_line.specs.Words.{Form, Task, Options, run};
+ghost use Rattle.endings.specs.Meanings.{Files, Lawful};
 ghost use Rattle.top_call.specs.Commands.{meaning_of};
 
 use generate_commands::laws::generate_lawful;
@@ -27,3 +28,9 @@ pub fn built_lawful()
     batch_lawful();
     transfer_lawful();
 }
+
+/// Where more isn't to be told, nothing is noted.
+pub fn nothing_noted()
+    ensures { (task : Task) (options : Options) → options.verbose ≡ false → (files : Files) (gaps : Bool) (lines : List (List ℕ)) (text : List ℕ)
+        → (meaning_of (run task options)).notes files gaps lines text → text ≡ [] }
+{}

@@ -1,5 +1,5 @@
 -- What holds of `transfer`.
-use Rattle.std.proofs.Common.{◌≡◌, ℕ, List, Bool, Option, Some, All, sym, ◌∙◌, ap, subst}
+use Rattle.std.proofs.Common.{◌≡◌, ℕ, List, [], Bool, Option, Some, All, sym, ◌∙◌, ap, subst}
 use Rattle.endings.specs.Meanings.{Lawful, FileFault, Files, has_failed}
 use Rattle.endings.specs.Reports.{AreAnswers}
 use Rattle.endings.proofs.ToldLines.{no-gap}
@@ -26,7 +26,7 @@ pub record RuleLaws : Type 0 where
   pub one_outside : (ss : List StatementTree) (a b : ℕ) → IsFirstOutside ss a → IsFirstOutside ss b → a ≡ b
   pub all_rules : (ss : List StatementTree) (rs : List Rule) → AreRules ss rs → All IsRule rs
 
-module _ (reading : OneReading) (rules : RuleLaws) (name : Name) (settings : Option Name) where
+module _ (reading : OneReading) (rules : RuleLaws) (name : Name) (settings : Option Name) (verbose : Bool) where
   -- told files have one rewriter
   one-rewriter : (f : Name → Option (List ℕ)) (w v : Rewriter) → HasRewriter (Some f) name settings w → HasRewriter (Some f) name settings v → w ≡ v
   one-rewriter f w v a b =
@@ -37,37 +37,38 @@ module _ (reading : OneReading) (rules : RuleLaws) (name : Name) (settings : Opt
       λ i. record { rules = rs i; skipped = skipped i }
 
   -- one first fault
-  one-fault : (f : Name → Option (List ℕ)) (g h : FileFault) → IsFirstFault name settings (Some f) never g → IsFirstFault name settings (Some f) never h → g.text ≡ h.text
-  one-fault f _ _ (unread g p) (unread h q) = ap (λ (x : FoundFault). (told_of x).text) (unread-one reading f name settings g h p q)
-  one-fault f _ _ (unread g p) (out_of_form t ss at i s o) = absurd (unread-or-read reading f name settings g t ss p i s)
-  one-fault f _ _ (out_of_form t ss at i s o) (unread h q) = absurd (unread-or-read reading f name settings h t ss q i s)
-  one-fault f _ _ (out_of_form t ss a i s o) (out_of_form u us b j r k) =
+  one-fault : (f : Name → Option (List ℕ)) (g h : FileFault) → IsFirstFault name settings verbose (Some f) never g → IsFirstFault name settings verbose (Some f) never h → g.text ≡ h.text
+  one-fault f _ _ (unread g d p x) (unread h e q y) = ap (λ (x : FoundFault). (told_of x []).text) (unread-one reading f name settings g h p q)
+  one-fault f _ _ (unread g d p x) (out_of_form t ss at e i s o y) = absurd (unread-or-read reading f name settings g t ss p i s)
+  one-fault f _ _ (out_of_form t ss at d i s o x) (unread h e q y) = absurd (unread-or-read reading f name settings h t ss q i s)
+  one-fault f _ _ (out_of_form t ss a d i s o x) (out_of_form u us b e j r k y) =
       let same : ss ≡ us = said-one reading f name ss us s r in
       ap (form_text name) (rules.one_outside us a b (subst (λ x. IsFirstOutside x a) same o) k)
 
   -- and never both
-  not-both : (f : Name → Option (List ℕ)) (w : Rewriter) (g : FileFault) → HasRewriter (Some f) name settings w → IsFirstFault name settings (Some f) never g → ⊥
-  not-both f w _ a (unread g p) = unread-or-read reading f name settings g a.settled a.statements p a.settings_are a.says
-  not-both f w _ a (out_of_form t ss at i s o) =
+  not-both : (f : Name → Option (List ℕ)) (w : Rewriter) (g : FileFault) → HasRewriter (Some f) name settings w → IsFirstFault name settings verbose (Some f) never g → ⊥
+  not-both f w _ a (unread g d p x) = unread-or-read reading f name settings g a.settled a.statements p a.settings_are a.says
+  not-both f w _ a (out_of_form t ss at d i s o x) =
       let same : a.statements ≡ ss = said-one reading f name a.statements ss a.says s in
       rules.rules_or_fault ss w.rules at (subst (λ x. AreRules x w.rules) same a.rules_are) o
 
   -- where the shelf counts no fault, the fault is the first
-  calm : (files : Files) (fails : Name → Bool) (g : FileFault) → IsFirstFault name settings files fails g → ((file : Name) → g.failed ≡ Some file → ⊥) → IsFirstFault name settings files never g
-  calm files fails _ (unread g p) none = unread g (unread-moves files fails never name settings g (λ e. none g.file (shelf_told g.why g.file e)) p)
-  calm files fails _ (out_of_form t ss at i s o) none = out_of_form t ss at (settled-moves files fails never settings t i) (said-moves files fails never name ss s) o
+  calm : (files : Files) (fails : Name → Bool) (g : FileFault) → IsFirstFault name settings verbose files fails g → ((file : Name) → g.failed ≡ Some file → ⊥) → IsFirstFault name settings verbose files never g
+  calm files fails _ (unread g d p x) none = unread g d (unread-moves files fails never name settings g (λ e. none g.file (shelf_told g.why g.file e)) p) x
+  calm files fails _ (out_of_form t ss at d i s o x) none = out_of_form t ss at d (settled-moves files fails never settings t i) (said-moves files fails never name ss s) o x
 
-pub transfer-laws : OneReading → RuleLaws → TextLaws → ResultLaws → (name : List ℕ) (settings : Option (List ℕ)) → Lawful (transfer_meaning name settings)
-transfer-laws reading rules texts results name settings = record {
+pub transfer-laws : OneReading → RuleLaws → TextLaws → ResultLaws → (name : List ℕ) (settings : Option (List ℕ)) (verbose : Bool) → Lawful (transfer_meaning name settings verbose)
+transfer-laws reading rules texts results name settings verbose = record {
   loads = λ files lines pieces refused r. (r.0, r.1);
   gaps_load = λ files lines pieces wanting r. (r.0, r.1);
   no_gap = λ files lines pieces r. (let a = no-gap (IsAnswer r.0) 1 lines pieces r.2 in (a.0, (r.0, r.1, a.1)));
-  one_first = λ files f g a b. one-fault reading rules name settings files f g a b;
-  not_both = λ files f l a. not-both reading rules name settings files l.0 f l.1 a;
+  one_first = λ files f g a b. one-fault reading rules name settings verbose files f g a b;
+  not_both = λ files f l a. not-both reading rules name settings verbose files l.0 f l.1 a;
   one_report = λ files lines pieces others refused may p q. (
-      let same : p.0 ≡ q.0 = one-rewriter reading rules name settings files p.0 q.0 p.1 q.1 in
+      let same : p.0 ≡ q.0 = one-rewriter reading rules name settings verbose files p.0 q.0 p.1 q.1 in
       let is : All IsRule q.0.rules = rules.all_rules q.1.statements q.0.rules q.1.rules_are in
       one-answers (IsAnswer q.0) (one-answer texts results q.0 is) 1 lines pieces others refused may
       (subst (λ w. AreAnswers (IsAnswer w) 1 lines pieces refused) same p.2) q.2);
-  calm = λ h f x none. calm reading rules name settings h.files (has_failed h) f x.0 (λ file e. none (x.1 file e).0);
+  one_notes = λ files lines text other p q. p ∙ sym q;
+  calm = λ h f x none. calm reading rules name settings verbose h.files (has_failed h) f x.0 (λ file e. none (x.1 file e).0);
 }

@@ -4,7 +4,7 @@ ghost use Rattle.std.specs.Prelude.{◌<◌};
 
 use crate::reports::{report_of_budget, report_of_no_mrs, report_of_result};
 use crate::skipping::Unskipped;
-use endings::lines::{Answers, Share};
+use endings::lines::{Answer, Answers, Share};
 use endings::pieces::Report;
 use item_reports::NoMemory;
 use mrs_model::Mrs;
@@ -81,9 +81,12 @@ impl Answers for Transferrer {
         line: &[u8],
         _share: Share,
         _gate: &dyn Gate,
-    ) -> Result<Report, endings::lines::NoMemory> {
+    ) -> Result<Answer, endings::lines::NoMemory> {
         match self.report(alloc, number, line) {
-            Ok(report) => Ok(report),
+            Ok(report) => Ok(Answer {
+                report,
+                note: Vec::new(alloc),
+            }),
             Err(_) => Err(endings::lines::NoMemory),
         }
     }

@@ -23,6 +23,8 @@ pub struct Transfer<'a> {
     pub settings: Option<&'a str>,
     /// How many workers answer lines, at least one. It changes no answer.
     pub workers: u32,
+    /// Whether more is told of a fault of its files.
+    pub verbose: bool,
 }
 
 /// `transfer`: reads the settings and the rules, and answers all lines of the source, line by line: read, answer, write. Lines that are held already
@@ -37,7 +39,7 @@ pub fn transfer_lines<S: Shelf, I: Source, O: Sink, Rt: Threads + Wait + Sync>(
     gate: &dyn Gate,
 ) -> Result<bool, Fault>
     requires { 0 < command.now.workers }
-    ensures { Ended (transfer_meaning command.now.rules.now (option_map (λ s. s.now) command.now.settings)) (shelves S.files S.faults S.asked shelf.old shelf.new)
+    ensures { Ended (transfer_meaning command.now.rules.now (option_map (λ s. s.now) command.now.settings) command.now.verbose) (shelves S.files S.faults S.asked shelf.old shelf.new)
         (streams I.left I.faults O.written O.flushed O.faults input.old input.new out.old out.new) (input.new ≡ input.old) ((input.new ≡ input.old) × (out.new ≡ out.old)) result }
 {
     let transferrer = load(alloc, shelf, command)?;

@@ -3,12 +3,16 @@
 //! Rules of transfer with CONTEXT, INPUT, FILTER and OUTPUT: Oepen et al. 2004; MRSs: Copestake, Flickinger, Pollard and Sag 2005.
 #![tactic(auto)]
 
+mod renumbered;
 mod rules;
 mod sites;
+mod unique;
 
 use mrs_model::{Ep, Role};
+pub use renumbered::{renumbered_back, renumbered_result, renumbered_text, valid_result};
 pub use rules::TransferRules;
 pub use sites::Site;
+pub use unique::{one_application, one_result, one_site};
 
 /// An element of INPUT, CONTEXT or FILTER: what an elementary predication must have to be the one that it names. What its roles are filled with are
 /// coreferences, by their numbers, and texts.

@@ -113,13 +113,3 @@ impl<T: Drop> From<AllocFailed<T>> for Refusal {
         Refusal::NoMemory
     }
 }
-
-impl From<mrs_model::NoMemory> for Refusal {
-    ghost use Rattle.transfer_rules.specs.declared.fault.Refusal.TheVariants.{NoMemory};
-
-    ghost from_gives = { λ _ e. e ≡ NoMemory };
-
-    fn from(_: mrs_model::NoMemory) -> Refusal {
-        Refusal::NoMemory
-    }
-}

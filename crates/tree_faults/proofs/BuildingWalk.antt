@@ -14,9 +14,9 @@ use Rattle.derivation.specs.declared.Tree.TheVariants.{Phrase}
 use Rattle.derivation.specs.Views.{derivation_of, in_order}
 use Rattle.derivation.proofs.Weights.{weight, weights}
 use Rattle.derivation.proofs.Rows.{derivation_of-Phrase}
-use Rattle.rule_model.specs.Structures.{Structure}
-use Rattle.item_model.specs.Signs.{Signs}
-use Rattle.item_model.specs.Trees.{Full, Fulls, no_fulls, more_fulls}
+use Rattle.tree_model.specs.Structures.{Structure}
+use Rattle.tree_model.specs.Signs.{Signs}
+use Rattle.tree_model.specs.Trees.{Full, Fulls, no_fulls, more_fulls}
 use Rattle.forest_unpack.specs.Parts.{AreParts, parts_of}
 use Rattle.book_signs.specs.Trees.{SignTree, signs_of, HaveArities}
 use Rattle.rule_trees.specs.Fulls.{FullTree}

@@ -9,10 +9,10 @@ use Rattle.std.proofs.lemmas.List.Elements.{All-nil, All-cons}
 use Rattle.morph_analysis.proofs.Lists.{take_next, drop_nat}
 use Rattle.fs_model.specs.Claims.{IsOrder}
 use Rattle.derivation.specs.Trees.{lexical}
-use Rattle.rule_model.specs.Structures.{Structure}
-use Rattle.item_model.specs.Signs.{Signs}
-use Rattle.item_model.specs.Lexical.{Word, IsEntry, IsUnderRule, FullUnder, under_none, under_next, FullLexical}
-use Rattle.item_model.specs.Trees.{full_lexical}
+use Rattle.tree_model.specs.Structures.{Structure}
+use Rattle.tree_model.specs.Signs.{Signs}
+use Rattle.tree_model.specs.Lexical.{Word, IsEntry, IsUnderRule, FullUnder, under_none, under_next, FullLexical}
+use Rattle.tree_model.specs.Trees.{full_lexical}
 use Rattle.forest_unpack.specs.declared.fulls.FullParts.{FullParts}
 use Rattle.forest_unpack.specs.Parts.{AreParts, parts_of}
 use Rattle.book_signs.specs.Trees.{SignTree, signs_of, HaveArities}

@@ -2,13 +2,13 @@
 use Rattle.std.specs.Prelude.{ℕ, ◌≡◌, ◌<◌, ◌+◌, ◌-◌, ◌↔◌, Bool, true, false, IsTrue, List, [], ◌∷◌, ◌++◌, length, map, take, drop, get_or, replicate}
 use Rattle.std.proofs.Common.{inl, inr, refl, sym, ◌∙◌, ap, subst, arith, length-append}
 use Rattle.std.proofs.lemmas.List.{take-append-drop, length-map, length-take, get_or_default}
-use Rattle.word_lists.specs.Words.{Has}
+use Rattle.lexicon.specs.Words.{Has}
 use Rattle.derivation.specs.Order.{outermost}
 use Rattle.morph_analysis.proofs.Lists.{take_next, drop_nat}
-use Rattle.item_model.specs.Lexical.{Word, Words, IsForm, Become, become_none, become_next, Spells}
+use Rattle.tree_model.specs.Lexical.{Word, Words, IsForm, Become, become_none, become_next, Spells}
 use Rattle.lexical_items.proofs.Lists.{snoc_same}
-use Rattle.inflected_trees.specs.Forms.{AreFormsOf}
-use Rattle.inflected_trees.proofs.Chains.{last_word}
+use Rattle.lexical_items.specs.Forms.{AreFormsOf}
+use Rattle.lexical_items.proofs.Chains.{last_word}
 use Rattle.tree_faults.specs.Spelled.{HasForms, FailsWithin, no_form, other_words}
 use Rattle.tree_faults.specs.Inner.Ends.{AreEnds, front_of}
 

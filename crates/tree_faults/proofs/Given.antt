@@ -3,13 +3,13 @@ use Rattle.std.specs.Prelude.{ℕ, ◌≡◌, ◌↔◌, ◌⊎◌, true, Some, 
 use Rattle.std.proofs.Common.{inl, inr, refl, sym, subst, eq-eqb}
 use Rattle.fs_model.specs.Claims.{Path, Claim, exists_at, below, at, System, Has, here, there}
 use Rattle.fs_model.specs.Sources.{Reader, Part, Tells, tells_exists, tells_same, tells_below, Told, told_claim, told_part}
-use Rattle.rule_model.specs.Structures.{Structure, pairs_of, Beside, beside_here, beside_there, Says, says_type, says_equal}
-use Rattle.rule_model.specs.Views.{view_type, same_node, view, IsInside, source_of, parts_at, AllInside, inside_none, inside_more}
-use Rattle.rule_model.specs.Said.{rule_alone, rule_said}
-use Rattle.rule_model.specs.Mothers.{Parts, of_rule, of_daughter}
-use Rattle.rule_model.proofs.Closures.{has_pair}
-use Rattle.rule_model.proofs.SaidLemmas.{said_is_says}
-use Rattle.rule_model.proofs.ViewLemmas.{says_tells, at_root}
+use Rattle.tree_model.specs.Structures.{Structure, pairs_of, Beside, beside_here, beside_there, Says, says_type, says_equal}
+use Rattle.tree_model.specs.Views.{view_type, same_node, view, IsInside, source_of, parts_at, AllInside, inside_none, inside_more}
+use Rattle.tree_model.specs.Said.{rule_alone, rule_said}
+use Rattle.tree_model.specs.Mothers.{Parts, of_rule, of_daughter}
+use Rattle.tree_model.proofs.Closures.{has_pair}
+use Rattle.tree_model.proofs.SaidLemmas.{said_is_says}
+use Rattle.tree_model.proofs.ViewLemmas.{says_tells, at_root}
 use Rattle.forced_types.specs.Forced.{Forced, given_claim, given_front, same_exists, below_exists, prefix, same_refl, same_sym, same_trans, same_extend, same_type, introduced, met, raised, topped, constrained, constrained_front, IsPathIn, IsWithin}
 use Rattle.forced_types.specs.Verdicts.{Verdict, Fits, Clash, TooLong, IsVerdict, Clashes, IsTooLong}
 

@@ -9,8 +9,8 @@ use Rattle.derivation.specs.Views.{derivation_of, in_order}
 use Rattle.derivation.specs.declared.Tree.{Tree}
 use Rattle.derivation.specs.declared.Tree.TheVariants.{Lexical, Phrase}
 use Rattle.derivation.proofs.Rows.{derivation_of-Lexical, derivation_of-Phrase}
-use Rattle.item_model.specs.Lexical.{Word, Words, Spells}
-use Rattle.item_model.specs.Trees.{LeavesAre, leaf_is}
+use Rattle.tree_model.specs.Lexical.{Word, Words, Spells}
+use Rattle.tree_model.specs.Trees.{LeavesAre, leaf_is}
 use Rattle.tree_faults.specs.Spelled.{IsSpelled, AreSpelled, FailsWithin, leaf_here, IsFirstMisspelled}
 use Rattle.tree_faults.specs.Nodes.{Place}
 use Rattle.tree_faults.specs.declared.opened.Opened.{Opened}

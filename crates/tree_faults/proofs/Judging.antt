@@ -3,11 +3,11 @@ use Rattle.std.specs.Prelude.{ℕ, ◌<◌, length}
 use Rattle.std.proofs.Common.{subst}
 use Rattle.fs_model.specs.Claims.{IsOrder}
 use Rattle.derivation.specs.Trees.{Derivation}
-use Rattle.rule_model.specs.Structures.{Structure}
-use Rattle.item_model.specs.Signs.{Signs}
-use Rattle.item_model.specs.Lexical.{Words}
-use Rattle.item_model.specs.Trees.{Full, IsRooted}
-use Rattle.item_model.proofs.Once.{one}
+use Rattle.tree_model.specs.Structures.{Structure}
+use Rattle.tree_model.specs.Signs.{Signs}
+use Rattle.tree_model.specs.Lexical.{Words}
+use Rattle.tree_model.specs.Trees.{Full, IsRooted}
+use Rattle.tree_model.proofs.Once.{one}
 use Rattle.tree_structures.proofs.Forming.{formed}
 use Rattle.tree_faults.specs.Nodes.{Place}
 use Rattle.tree_faults.specs.Spelled.{AreSpelled, IsFirstMisspelled}

@@ -6,11 +6,11 @@ use Rattle.fs_model.specs.Claims.{IsOrder}
 use Rattle.derivation.specs.Trees.{Derivation, Daughters, lexical, phrase, first}
 use Rattle.derivation.specs.Views.{in_order}
 use Rattle.derivation.specs.Order.{outermost}
-use Rattle.rule_model.specs.Structures.{Structure}
-use Rattle.item_model.specs.Signs.{Signs, Instance}
-use Rattle.item_model.specs.Lexical.{Word, IsUnderRule, FullUnder, under_none, under_next, FullLexical}
-use Rattle.item_model.specs.Trees.{Full, full_lexical, Fulls, no_fulls, more_fulls}
-use Rattle.item_model.proofs.Once.{one}
+use Rattle.tree_model.specs.Structures.{Structure}
+use Rattle.tree_model.specs.Signs.{Signs, Instance}
+use Rattle.tree_model.specs.Lexical.{Word, IsUnderRule, FullUnder, under_none, under_next, FullLexical}
+use Rattle.tree_model.specs.Trees.{Full, full_lexical, Fulls, no_fulls, more_fulls}
+use Rattle.tree_model.proofs.Once.{one}
 use Rattle.book_signs.specs.Trees.{SignTree, signs_of}
 use Rattle.rule_trees.specs.Mothers.{IsMother}
 use Rattle.forced_types.specs.Verdicts.{Verdict}

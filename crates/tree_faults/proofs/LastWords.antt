@@ -5,12 +5,12 @@ use Rattle.std.specs.List.{list_any}
 use Rattle.std.specs.Str.{bytes_eq}
 use Rattle.std.proofs.Common.{inl, inr, refl, sym, ◌∙◌, ap, subst, zero, suc, arith}
 use Rattle.std.proofs.lemmas.List.{map-append}
-use Rattle.word_lists.specs.Words.{Word, Has}
-use Rattle.word_lists.proofs.WordLemmas.{true_not_false, bytes_eq-same, bytes_eq-refl}
+use Rattle.lexicon.specs.Words.{Word, Has}
+use Rattle.lexicon.proofs.WordLemmas.{true_not_false, bytes_eq-same, bytes_eq-refl}
 use Rattle.lexicon.specs.Entries.{same_words}
 use Rattle.lexicon.proofs.GroupLemmas.{same_words-same, same_words-refl}
 use Rattle.lexical_items.proofs.Lists.{snoc_same}
-use Rattle.inflected_trees.proofs.Chains.{last_word, last_at}
+use Rattle.lexical_items.proofs.Chains.{last_word, last_at}
 
 take_map : {A B : Type 0} (f : A → B) (k : ℕ) (xs : List A) → map f (take k xs) ≡ take k (map f xs)
 take_map f zero xs = refl

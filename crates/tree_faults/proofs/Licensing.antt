@@ -2,13 +2,13 @@
 use Rattle.std.specs.Prelude.{ℕ, ◌≡◌, List, Option, Some, None}
 use Rattle.std.proofs.Common.{refl, sym, ◌∙◌, subst}
 use Rattle.derivation.specs.Trees.{Derivation, Daughters, lexical}
-use Rattle.rule_model.specs.Structures.{Structure}
-use Rattle.rule_model.specs.Mothers.{Rule}
-use Rattle.item_model.specs.Signs.{Signs}
-use Rattle.item_model.specs.Lexical.{Word, Words}
-use Rattle.item_model.specs.Trees.{Full, full_lexical, full_phrase, Fulls, no_fulls, more_fulls, LeavesAre, leaf_is, leaves_are, AllLeavesAre, no_leaves, more_leaves}
-use Rattle.parse_items.specs.Lattices.{Lattice}
-use Rattle.parse_items.specs.Licensed.{IsLeaf}
+use Rattle.tree_model.specs.Structures.{Structure}
+use Rattle.tree_model.specs.Mothers.{Rule}
+use Rattle.tree_model.specs.Signs.{Signs}
+use Rattle.tree_model.specs.Lexical.{Word, Words}
+use Rattle.tree_model.specs.Trees.{Full, full_lexical, full_phrase, Fulls, no_fulls, more_fulls, LeavesAre, leaf_is, leaves_are, AllLeavesAre, no_leaves, more_leaves}
+use Rattle.tree_model.specs.Lattices.{Lattice}
+use Rattle.tree_model.specs.Licensed.{IsLeaf}
 use Rattle.forced_types.specs.Verdicts.{Verdict}
 use Rattle.tree_faults.specs.Nodes.{Place, IsDaughterAt, daughter_here, daughter_later, within_rule, below_phrase, StandsAt, at_root, at_daughter, instance_of, IsMadeOf, made_of_entry, made_of_lexical, made_of_phrase}
 use Rattle.tree_faults.specs.Spelled.{IsSpelled, AreSpelled, IsLeafAt, leaf_here, leaf_below, IsFirstMisspelled}

@@ -12,8 +12,8 @@ use Rattle.derivation.specs.declared.Tree.{Tree}
 use Rattle.derivation.specs.declared.Tree.TheVariants.{Lexical}
 use Rattle.derivation.specs.Views.{derivation_of, in_order}
 use Rattle.derivation.proofs.Rows.{derivation_of-Lexical}
-use Rattle.item_model.specs.Signs.{Signs}
-use Rattle.item_model.specs.Lexical.{Word}
+use Rattle.tree_model.specs.Signs.{Signs}
+use Rattle.tree_model.specs.Lexical.{Word}
 use Rattle.forest_unpack.specs.Parts.{parts_of}
 use Rattle.book_signs.specs.Trees.{SignTree, signs_of}
 use Rattle.rule_trees.specs.Fulls.{FullTree}

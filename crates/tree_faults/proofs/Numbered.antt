@@ -8,7 +8,7 @@ use Rattle.std.proofs.Common.{inl, inr, refl, sym, ◌∙◌, ap, subst, zero, s
 use Rattle.std.proofs.lemmas.Bool.{cases_lt}
 use Rattle.std.proofs.lemmas.List.Sorted.{searched}
 use Rattle.chart_model.specs.At.{At, here, there, at_found, at_below}
-use Rattle.word_lists.specs.Words.{Word, Has}
+use Rattle.lexicon.specs.Words.{Word, Has}
 use Rattle.lexicon.specs.Entries.{EntryTree, HasNumber}
 use Rattle.morph_analysis.proofs.Lists.{bools, same_eq, eq_same}
 use Rattle.lexical_items.specs.Places.{place_in}

@@ -2,7 +2,7 @@
 use Rattle.std.specs.Prelude.{ℕ}
 use Rattle.std.proofs.Common.{refl}
 use Rattle.derivation.specs.Trees.{Derivation}
-use Rattle.item_model.specs.Signs.{Signs}
+use Rattle.tree_model.specs.Signs.{Signs}
 use Rattle.forced_types.specs.Verdicts.{Verdict}
 use Rattle.tree_faults.specs.Nodes.{Place}
 use Rattle.tree_faults.specs.Explained.{Licensed, Clashes, GoesTooFar, Misspelled, Unrooted, HasStructure, IsFirstWithout}

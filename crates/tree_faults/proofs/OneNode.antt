@@ -4,12 +4,12 @@ use Rattle.std.proofs.Common.{inl, inr, refl, sym, ◌∙◌, ap, subst, arith}
 use Rattle.std.proofs.lemmas.Bool.{cases_lt}
 use Rattle.fs_model.specs.Claims.{IsOrder}
 use Rattle.derivation.specs.Trees.{Derivation, Daughters, lexical}
-use Rattle.rule_model.specs.Structures.{Structure}
-use Rattle.rule_model.specs.Mothers.{Rule, Parts}
-use Rattle.item_model.specs.Signs.{Signs, Instance}
-use Rattle.item_model.specs.Lexical.{FullUnder, under_none, under_next}
-use Rattle.item_model.specs.Trees.{Full, full_lexical, full_phrase, Fulls, no_fulls, more_fulls}
-use Rattle.item_model.proofs.Once.{one}
+use Rattle.tree_model.specs.Structures.{Structure}
+use Rattle.tree_model.specs.Mothers.{Rule, Parts}
+use Rattle.tree_model.specs.Signs.{Signs, Instance}
+use Rattle.tree_model.specs.Lexical.{FullUnder, under_none, under_next}
+use Rattle.tree_model.specs.Trees.{Full, full_lexical, full_phrase, Fulls, no_fulls, more_fulls}
+use Rattle.tree_model.proofs.Once.{one}
 use Rattle.forced_types.specs.Verdicts.{Verdict, IsVerdict}
 use Rattle.forced_types.proofs.VerdictLemmas.{one_verdict}
 use Rattle.tree_faults.specs.Nodes.{Place, IsDaughterAt, daughter_here, daughter_later, IsDaughter, within_rule, below_phrase, StandsAt, at_root, at_daughter, instance_of, ComesBefore, before_mother, before_right, before_within, IsMadeOf, made_of_entry, made_of_lexical, made_of_phrase}

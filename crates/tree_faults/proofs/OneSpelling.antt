@@ -3,8 +3,8 @@ use Rattle.std.specs.Prelude.{ℕ, ◌≡◌, ◌⊎◌, List, [], ◌∷◌, �
 use Rattle.std.proofs.Common.{inl, inr, refl, sym, ◌∙◌, ap, subst}
 use Rattle.derivation.specs.Trees.{Derivation, Daughters, lexical}
 use Rattle.derivation.specs.Order.{outermost}
-use Rattle.item_model.specs.Lexical.{Word, Words, Become, become_none, become_next, Spells}
-use Rattle.item_model.specs.Trees.{leaf_is, leaves_are, AllLeavesAre, no_leaves, more_leaves}
+use Rattle.tree_model.specs.Lexical.{Word, Words, Become, become_none, become_next, Spells}
+use Rattle.tree_model.specs.Trees.{leaf_is, leaves_are, AllLeavesAre, no_leaves, more_leaves}
 use Rattle.tree_faults.specs.Nodes.{Place, IsDaughterAt, daughter_here, daughter_later, ComesBefore}
 use Rattle.tree_faults.specs.Spelled.{IsSpelled, AreSpelled, HasForms, FailsWithin, no_form, other_words, IsLeafAt, leaf_here, leaf_below, IsFirstMisspelled}
 use Rattle.tree_faults.proofs.OneNode.{compare_places, one_daughter}

@@ -11,11 +11,11 @@ use Rattle.fs_model.specs.Sources.{Part, Told, told_claim, told_part, Tells, tel
 use Rattle.fs_graph.specs.GraphMap.{GraphMap, reader_of}
 use Rattle.fs_closing.specs.Rules.{Grammar, system_of, IsClaimIn, IsGrammar}
 use Rattle.fs_trim.specs.Cutting.{IsShort}
-use Rattle.rule_model.specs.Structures.{Structure}
-use Rattle.rule_model.specs.Mothers.{Rule, Parts, AppliesAt}
-use Rattle.rule_model.specs.Views.{AllInside, parts_at, source_of as source_at}
-use Rattle.rule_model.specs.Said.{rule_alone}
-use Rattle.item_model.specs.Signs.{rule_system}
+use Rattle.tree_model.specs.Structures.{Structure}
+use Rattle.tree_model.specs.Mothers.{Rule, Parts, AppliesAt}
+use Rattle.tree_model.specs.Views.{AllInside, parts_at, source_of as source_at}
+use Rattle.tree_model.specs.Said.{rule_alone}
+use Rattle.tree_model.specs.Signs.{rule_system}
 use Rattle.book_signs.specs.Signed.{facts_of}
 use Rattle.book_signs.specs.Trees.{SignTree, signs_of, rule_at, facts_at, places_at, ArePathsIn}
 use Rattle.rule_trees.specs.Mothers.{view_in, IsShortIn, AppliesTo}

@@ -11,11 +11,11 @@ use Rattle.derivation.specs.Views.{derivation_of}
 use Rattle.derivation.specs.declared.Tree.{Tree}
 use Rattle.derivation.specs.declared.Tree.TheVariants.{Lexical}
 use Rattle.derivation.proofs.Rows.{derivation_of-Lexical}
-use Rattle.rule_model.specs.Structures.{Structure}
-use Rattle.rule_model.specs.Mothers.{Rule}
-use Rattle.item_model.specs.Signs.{Signs, Instance}
-use Rattle.item_model.specs.Lexical.{Word, Words}
-use Rattle.item_model.specs.Trees.{Full}
+use Rattle.tree_model.specs.Structures.{Structure}
+use Rattle.tree_model.specs.Mothers.{Rule}
+use Rattle.tree_model.specs.Signs.{Signs, Instance}
+use Rattle.tree_model.specs.Lexical.{Word, Words}
+use Rattle.tree_model.specs.Trees.{Full}
 use Rattle.book_signs.specs.Trees.{SignTree, signs_of}
 use Rattle.rule_trees.specs.Fulls.{FullTree}
 use Rattle.forced_types.specs.Verdicts.{Verdict, Fits, Clash, TooLong}

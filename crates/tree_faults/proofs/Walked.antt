@@ -6,8 +6,8 @@ use Rattle.std.proofs.lemmas.List.Elements.{All-head, All-tail, All-nil, All-con
 use Rattle.derivation.specs.Trees.{Derivation, Daughters, lexical, phrase}
 use Rattle.derivation.specs.Views.{derivation_of, in_order}
 use Rattle.derivation.specs.declared.Tree.{Tree}
-use Rattle.item_model.specs.Lexical.{Word, Words}
-use Rattle.item_model.specs.Trees.{LeavesAre, leaf_is, leaves_are, AllLeavesAre, no_leaves, more_leaves}
+use Rattle.tree_model.specs.Lexical.{Word, Words}
+use Rattle.tree_model.specs.Trees.{LeavesAre, leaf_is, leaves_are, AllLeavesAre, no_leaves, more_leaves}
 use Rattle.tree_faults.specs.Nodes.{Place, IsDaughterAt, daughter_here, daughter_later, ComesBefore}
 use Rattle.tree_faults.specs.Spelled.{IsSpelled, AreSpelled, FailsWithin, IsLeafAt, leaf_here, leaf_below, IsFirstMisspelled}
 use Rattle.tree_faults.specs.declared.opened.Opened.{Opened}

@@ -2,11 +2,11 @@
 use Rattle.std.specs.Prelude.{ℕ, ◌≡◌, List}
 use Rattle.fs_model.specs.Claims.{Path}
 use Rattle.derivation.specs.Trees.{Derivation}
-use Rattle.rule_model.specs.Structures.{Structure}
-use Rattle.rule_model.specs.Mothers.{Rule, Parts}
-use Rattle.item_model.specs.Signs.{Signs}
-use Rattle.item_model.specs.Lexical.{Words}
-use Rattle.item_model.specs.Trees.{Full, IsRooted}
+use Rattle.tree_model.specs.Structures.{Structure}
+use Rattle.tree_model.specs.Mothers.{Rule, Parts}
+use Rattle.tree_model.specs.Signs.{Signs}
+use Rattle.tree_model.specs.Lexical.{Words}
+use Rattle.tree_model.specs.Trees.{Full, IsRooted}
 use Rattle.forced_types.specs.Verdicts.{Verdict, Clash, TooLong, IsVerdict}
 use Rattle.tree_faults.specs.Nodes.{Place, StandsAt, instance_of, ComesBefore, IsMadeOf}
 use Rattle.tree_faults.specs.Spelled.{AreSpelled, IsFirstMisspelled}

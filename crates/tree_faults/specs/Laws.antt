@@ -2,11 +2,11 @@
 use Rattle.std.specs.Prelude.{ℕ, ◌≡◌, ◌≤◌, ◌↔◌, List, length, Option, Some, None}
 use Rattle.fs_model.specs.Claims.{IsOrder}
 use Rattle.derivation.specs.Trees.{Derivation, Daughters, lexical, phrase, no_more, first}
-use Rattle.item_model.specs.Signs.{Signs}
-use Rattle.item_model.specs.Lexical.{Word, Words}
-use Rattle.item_model.specs.Trees.{LeavesAre}
-use Rattle.parse_items.specs.Lattices.{Lattice, Carries, Spans}
-use Rattle.parse_items.specs.Licensed.{IsLicensed}
+use Rattle.tree_model.specs.Signs.{Signs}
+use Rattle.tree_model.specs.Lexical.{Word, Words}
+use Rattle.tree_model.specs.Trees.{LeavesAre}
+use Rattle.tree_model.specs.Lattices.{Lattice, Carries, Spans}
+use Rattle.tree_model.specs.Licensed.{IsLicensed}
 use Rattle.tree_faults.specs.Explained.{Explained, Licensed, IsExplained}
 
 -- two trees that differ in the nodes of a lattice alone

@@ -3,8 +3,8 @@ use Rattle.std.specs.Prelude.{ℕ, Bool, true, List, take}
 use Rattle.std.specs.Str.{IsUtf8, IsValidUpTo}
 use Rattle.type_hierarchy.specs.Table.{TypeTable}
 use Rattle.derivation.specs.Trees.{Derivation}
-use Rattle.item_model.specs.Signs.{Signs}
-use Rattle.item_model.specs.Lexical.{Words}
+use Rattle.tree_model.specs.Signs.{Signs}
+use Rattle.tree_model.specs.Lexical.{Words}
 use Rattle.tree_reading.specs.Grammars.{TreeGrammar}
 use Rattle.tree_reading.specs.Texts.{Writes, IsTreeOf, IsFirstFault}
 use Rattle.tree_faults.specs.Explained.{Explained, IsExplained}

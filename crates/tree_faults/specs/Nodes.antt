@@ -2,10 +2,10 @@
 use Rattle.std.specs.Prelude.{ℕ, suc, ◌≡◌, ◌<◌, List, [], ◌∷◌, ◌++◌, Option, Some, slice_get}
 use Rattle.derivation.specs.Trees.{Derivation, Daughters, lexical, phrase, first}
 use Rattle.derivation.specs.Order.{outermost}
-use Rattle.rule_model.specs.Structures.{Structure}
-use Rattle.rule_model.specs.Mothers.{Rule}
-use Rattle.item_model.specs.Signs.{Signs, Instance}
-use Rattle.item_model.specs.Trees.{Full, Fulls}
+use Rattle.tree_model.specs.Structures.{Structure}
+use Rattle.tree_model.specs.Mothers.{Rule}
+use Rattle.tree_model.specs.Signs.{Signs, Instance}
+use Rattle.tree_model.specs.Trees.{Full, Fulls}
 
 -- the way from the root to a node: a daughter's number, from 1, for each step
 abbrev pub Place : Type 0

@@ -2,8 +2,8 @@
 use Rattle.std.specs.Prelude.{ℕ, suc, ◌≡◌, List, [], ◌∷◌, ◌++◌, length, replicate, Option}
 use Rattle.derivation.specs.Trees.{Derivation, Daughters, lexical, phrase}
 use Rattle.derivation.specs.Order.{outermost}
-use Rattle.item_model.specs.Lexical.{Word, Words, Become, Spells}
-use Rattle.item_model.specs.Trees.{LeavesAre}
+use Rattle.tree_model.specs.Lexical.{Word, Words, Become, Spells}
+use Rattle.tree_model.specs.Trees.{LeavesAre}
 use Rattle.tree_faults.specs.Nodes.{Place, IsDaughterAt, ComesBefore}
 
 abbrev pub IsSpelled : Words → Derivation → Type 0

@@ -3,7 +3,7 @@ use Rattle.std.specs.Prelude.{ℕ, Bool, true, false, List, [], ◌∷◌, ◌++
 use Rattle.std.specs.Fmt.{decimal}
 use Rattle.std.specs.List.{flat_map}
 use Rattle.type_hierarchy.specs.Table.{TypeTable}
-use Rattle.fs_paths.specs.Text.{path_text, type_text}
+use Rattle.fs_graph.specs.Text.{path_text, type_text}
 use Rattle.derivation.specs.Text.{name_of}
 use Rattle.item_reports.specs.Reports.{item_line}
 use Rattle.tree_faults.specs.Nodes.{Place}

@@ -1,7 +1,7 @@
 -- What contracts see of explanations.
 use Rattle.std.specs.Prelude.{ℕ, ◌<◌, All}
 use Rattle.type_hierarchy.specs.Table.{TypeTable, count_of}
-use Rattle.fs_paths.specs.Facts.{path_of}
+use Rattle.fs_graph.specs.Facts.{path_of}
 use Rattle.tree_faults.specs.declared.explaining.Explanation.{Explanation}
 use Rattle.tree_faults.specs.declared.explaining.Explanation.TheVariants as explanations
 use Rattle.tree_faults.specs.Explained.{Explained, Licensed, Clashes, GoesTooFar, Misspelled, Unrooted}

@@ -3,7 +3,7 @@ use Rattle.std.specs.Prelude.{ℕ, ◌<◌, All, List}
 use Rattle.chart_model.specs.At.{At}
 use Rattle.derivation.specs.Trees.{Derivation, lexical, phrase}
 use Rattle.spelling_rules.specs.Trees.{AreBound}
-use Rattle.item_model.specs.Lexical.{Words}
+use Rattle.tree_model.specs.Lexical.{Words}
 use Rattle.lexical_items.specs.Said.{AreNumbered, words_said}
 use Rattle.tree_faults.specs.declared.word_book.WordBook.{WordBook}
 

@@ -3,7 +3,7 @@
 ghost use Rattle.std.specs.Prelude.{◌≡◌, ◌<◌, [], ℕ, All, length, map, IfOk, MatchOption, replicate, string_bytes};
 ghost use Rattle.chart_model.specs.At.{At};
 ghost use Rattle.derivation.specs.Order.{outermost};
-ghost use Rattle.item_model.specs.Lexical.{Spells};
+ghost use Rattle.tree_model.specs.Lexical.{Spells};
 ghost use Rattle.tree_faults.specs.Spelled.{FailsWithin};
 ghost use Rattle.tree_faults.specs.WordBooks.{IsWordBook, said_by};
 ghost use Rattle.tree_faults.specs.Inner.Ends.{AreEnds, IsLed, front_of};

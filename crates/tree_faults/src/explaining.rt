@@ -2,7 +2,7 @@
 
 ghost use Rattle.std.specs.Prelude.{◌↔◌, IfOk, IsTrue, length};
 ghost use Rattle.derivation.specs.Views.{derivation_of};
-ghost use Rattle.item_model.specs.Trees.{LeavesAre, Full, IsRooted};
+ghost use Rattle.tree_model.specs.Trees.{LeavesAre, Full, IsRooted};
 ghost use Rattle.book_signs.specs.Trees.{signs_of};
 ghost use Rattle.rule_trees.specs.Mothers.{IsMade, view_in};
 ghost use Rattle.tree_structures.specs.Formed.{IsFormed};
@@ -16,7 +16,7 @@ use crate::structures::{Found, structure_of};
 use crate::word_book::WordBook;
 use book_signs::SignBook;
 use derivation::Tree;
-use fs_paths::Feat;
+use fs_graph::Feat;
 use fs_unify::Scratch;
 use rule_trees::{FullStructure, rooted};
 use std::alloc::Global;

@@ -21,49 +21,9 @@ mod word_book;
 
 pub use explaining::{Explanation, explained};
 pub use misspelled::{Misspelled, first_misspelled};
-use std::alloc::{AllocError, AllocFailed};
+pub use std::alloc::AllocError as NoMemory;
 pub use texts::{explained_line, is_refused, no_tree_line};
 pub use word_book::WordBook;
-
-/// Memory was wanting.
-#[derive(Clone, Copy, Debug, PartialEq, Eq)]
-pub struct NoMemory;
-
-impl From<AllocError> for NoMemory {
-    fn from(_: AllocError) -> NoMemory {
-        NoMemory
-    }
-}
-
-impl<T: Drop> From<AllocFailed<T>> for NoMemory {
-    fn from(_: AllocFailed<T>) -> NoMemory {
-        NoMemory
-    }
-}
-
-impl From<inflected_trees::NoMemory> for NoMemory {
-    fn from(_: inflected_trees::NoMemory) -> NoMemory {
-        NoMemory
-    }
-}
-
-impl From<fs_unify::NoMemory> for NoMemory {
-    fn from(_: fs_unify::NoMemory) -> NoMemory {
-        NoMemory
-    }
-}
-
-impl From<lexical_items::NoMemory> for NoMemory {
-    fn from(_: lexical_items::NoMemory) -> NoMemory {
-        NoMemory
-    }
-}
-
-impl From<rule_trees::NoMemory> for NoMemory {
-    fn from(_: rule_trees::NoMemory) -> NoMemory {
-        NoMemory
-    }
-}
 
 /// A law: a tree whose words stand in a lattice is licensed here exactly where it is licensed for the lattice (`licensed`); the nodes that it is
 /// written with make no difference to what is told of it (`free`); and a tree has one explanation (`one`). It does nothing.

@@ -2,7 +2,7 @@
 
 ghost use Rattle.std.specs.Prelude.{◌≡◌, All, List, Option, ℕ, IfOk};
 ghost use Rattle.derivation.specs.Trees.{lexical};
-ghost use Rattle.item_model.specs.Lexical.{IsEntry, Word};
+ghost use Rattle.tree_model.specs.Lexical.{IsEntry, Word};
 ghost use Rattle.forest_unpack.specs.Parts.{AreParts, parts_of};
 ghost use Rattle.book_signs.specs.Trees.{signs_of};
 ghost use Rattle.rule_trees.specs.Mothers.{IsMade, HasDaughters, view_in};

@@ -3,8 +3,8 @@
 ghost use Rattle.std.specs.Prelude.{◌≡◌, ◌<◌, ◌++◌, All, length, map, replicate, IfOk, MatchOption};
 ghost use Rattle.derivation.specs.Trees.{Derivation, phrase};
 ghost use Rattle.derivation.specs.Views.{derivation_of, in_order};
-ghost use Rattle.item_model.specs.Lexical.{Words};
-ghost use Rattle.item_model.specs.Trees.{LeavesAre};
+ghost use Rattle.tree_model.specs.Lexical.{Words};
+ghost use Rattle.tree_model.specs.Trees.{LeavesAre};
 ghost use Rattle.tree_faults.specs.Spelled.{AreSpelled, IsFirstMisspelled};
 ghost use Rattle.tree_faults.specs.WordBooks.{IsWordBook, IsNumbered, said_by};
 ghost use Rattle.tree_faults.specs.Inner.Chains.{tree_of, next_place, left_of};

@@ -2,8 +2,8 @@
 
 ghost use Rattle.std.specs.Prelude.{◌≡◌, ◌<◌, ◌↔◌, ◌++◌, ◌∷◌, ◌-◌, [], IsTrue, length, map, take, string_bytes};
 ghost use Rattle.lexicon.specs.Entries.{same_words};
-ghost use Rattle.item_model.specs.Lexical.{Word};
-ghost use Rattle.word_lists.specs.Words.{Has};
+ghost use Rattle.tree_model.specs.Lexical.{Word};
+ghost use Rattle.lexicon.specs.Words.{Has};
 
 // Whether these are the same words.
 fn are_same(a: &[String], b: &[String]) -> bool

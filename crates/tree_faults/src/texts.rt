@@ -6,13 +6,13 @@ ghost use Rattle.std.specs.List.{flat_map};
 ghost use Rattle.std.specs.Char.{to_ascii_uppercase};
 ghost use Rattle.type_hierarchy.specs.Table.{count_of};
 ghost use Rattle.derivation.specs.Text.{name_of};
-ghost use Rattle.fs_paths.specs.Facts.{path_of};
-ghost use Rattle.fs_paths.specs.Text.{feature_text, path_text, escaped, type_text};
+ghost use Rattle.fs_graph.specs.Facts.{path_of};
+ghost use Rattle.fs_graph.specs.Text.{feature_text, path_text, escaped, type_text};
 ghost use Rattle.tree_faults.specs.Texts.{place_text, node_text, explained_text, explained_line, no_tree_line, is_refused};
 ghost use Rattle.tree_faults.specs.Views.{explanation_of, IsExplainedNamed};
 
 use crate::{Explanation, NoMemory};
-use fs_paths::Feat;
+use fs_graph::Feat;
 use itoa::Buffer;
 use std::alloc::Global;
 use type_hierarchy::{Ty, Types};

@@ -3,11 +3,11 @@
 ghost use Rattle.std.specs.Prelude.{◌≡◌, ◌<◌, ℕ, length, map, IfOk, string_bytes};
 ghost use Rattle.chart_model.specs.At.{At};
 ghost use Rattle.lexical_items.specs.Said.{number_in};
-ghost use Rattle.inflected_trees.specs.Forms.{AreFormsOf};
+ghost use Rattle.lexical_items.specs.Forms.{AreFormsOf};
 ghost use Rattle.tree_faults.specs.WordBooks.{Rise, IsWordBook, said_by};
 
 use crate::NoMemory;
-use inflected_trees::forms_of;
+use lexical_items::forms_of;
 use lexicon::Lexicon;
 use spelling_rules::Spelling;
 use std::alloc::Global;

@@ -8,7 +8,7 @@ use Rattle.derivation.specs.Text.{name_of}
 use Rattle.constraint_expand.specs.declared.books.Book.{Book}
 use Rattle.constraint_expand.specs.Books.{InstanceMap}
 use Rattle.book_shapes.specs.Shapes.{instances_of}
-use Rattle.item_model.specs.Signs.{Instance, Signs}
+use Rattle.tree_model.specs.Signs.{Instance, Signs}
 use Rattle.book_signs.specs.Signed.{kind_of, IsSignOf, IsSignsOf}
 use Rattle.book_signs.proofs.SignLemmas.{zip_lengths}
 use Rattle.grammar_load.specs.Conditions.{IsLoaded}

@@ -7,8 +7,8 @@ use Rattle.fs_model.specs.Claims.{Path}
 use Rattle.constraint_expand.specs.declared.books.Book.{Book}
 use Rattle.constraint_expand.specs.Books.{InstanceMap, instance_of}
 use Rattle.book_shapes.specs.Shapes.{instances_of}
-use Rattle.rule_model.specs.Mothers.{Rule}
-use Rattle.item_model.specs.Signs.{Kind, an_entry, a_lexical_rule, a_phrase_rule, a_root, another, Instance, Signs}
+use Rattle.tree_model.specs.Mothers.{Rule}
+use Rattle.tree_model.specs.Signs.{Kind, an_entry, a_lexical_rule, a_phrase_rule, a_root, another, Instance, Signs}
 use Rattle.book_signs.specs.Signed.{kind_of, IsSignOf, IsSignsOf}
 use Rattle.book_signs.specs.Trees.{places_at, HasArity, HaveArities}
 use Rattle.book_signs.proofs.SignLemmas.{zip_at, zip_lengths}

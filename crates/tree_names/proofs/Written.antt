@@ -6,8 +6,8 @@ use Rattle.std.proofs.lemmas.Option.{slice_get_within}
 use Rattle.chart_model.specs.At.{At}
 use Rattle.derivation.specs.Trees.{Derivation, Daughters, lexical, phrase, no_more, first}
 use Rattle.derivation.specs.Text.{IsNamed, AreNamed}
-use Rattle.item_model.specs.Signs.{Signs}
-use Rattle.item_model.specs.Trees.{LeavesAre, AllLeavesAre, leaf_is, leaves_are, no_leaves, more_leaves}
+use Rattle.tree_model.specs.Signs.{Signs}
+use Rattle.tree_model.specs.Trees.{LeavesAre, AllLeavesAre, leaf_is, leaves_are, no_leaves, more_leaves}
 use Rattle.book_signs.specs.Trees.{entries_of, lexical_rules_of}
 use Rattle.rule_trees.proofs.PlaceLemmas.{entry_places, lexical_places}
 use Rattle.tree_structures.specs.Formed.{IsEntryAt, IsLexicalRuleAt, IsPhraseRuleOf, count_of, IsFormed, AreFormed}

@@ -2,8 +2,8 @@
 use Rattle.std.specs.Prelude.{ℕ, ◌≡◌, List, length}
 use Rattle.derivation.specs.Trees.{Derivation}
 use Rattle.derivation.specs.Text.{IsNamed}
-use Rattle.item_model.specs.Signs.{Signs}
-use Rattle.item_model.specs.Trees.{LeavesAre}
+use Rattle.tree_model.specs.Signs.{Signs}
+use Rattle.tree_model.specs.Trees.{LeavesAre}
 use Rattle.book_signs.specs.Trees.{entries_of, lexical_rules_of}
 use Rattle.tree_structures.specs.Formed.{IsFormed}
 use Rattle.tree_reading.specs.Grammars.{IsOver}

@@ -1,6 +1,6 @@
 -- A grammar as the texts of its trees see it.
 use Rattle.std.specs.Prelude.{ℕ, List, map, length}
-use Rattle.item_model.specs.Signs.{Kind, an_entry, a_lexical_rule, a_phrase_rule, Instance, Signs}
+use Rattle.tree_model.specs.Signs.{Kind, an_entry, a_lexical_rule, a_phrase_rule, Instance, Signs}
 use Rattle.tree_reading.specs.declared.Part.{Part}
 use Rattle.tree_reading.specs.declared.Part.TheVariants.{Entry, LexicalRule, PhraseRule, Other}
 use Rattle.tree_reading.specs.Grammars.{TreeGrammar}

@@ -10,5 +10,5 @@ mod words;
 
 pub use laws::written_trees;
 pub use names::tree_names;
-pub use tree_reading::NoMemory;
+pub use std::alloc::AllocError as NoMemory;
 pub use words::word_book;

@@ -16,10 +16,10 @@ mod stops;
 mod uses;
 mod words;
 
-pub use derivation::NoMemory;
 pub use laws::tree_laws;
 pub use names::TreeNames;
 pub use reading::read_tree;
+pub use std::alloc::AllocError as NoMemory;
 
 /// What an instance of a grammar is to a tree.
 #[derive(Clone, Copy, Debug, PartialEq, Eq)]

@@ -33,13 +33,3 @@ impl From<AllocError> for Stop {
         Stop::NoMemory
     }
 }
-
-impl From<NoMemory> for Stop {
-    ghost use Rattle.tree_reading.specs.declared.stops.Stop.{Stop};
-
-    ghost from_gives = { λ _ e. e ≡ Stop.NoMemory };
-
-    fn from(_error: NoMemory) -> Stop {
-        Stop::NoMemory
-    }
-}

@@ -7,8 +7,8 @@ use Rattle.std.specs.declared.sync.Arc.{Arc}
 use Rattle.std.proofs.lemmas.Option.{slice_get-get_or}
 use Rattle.std.proofs.lemmas.List.{length-take}
 use Rattle.fs_model.specs.Claims.{IsOrder}
-use Rattle.rule_model.specs.Structures.{Structure}
-use Rattle.item_model.specs.Lexical.{IsEntry, FullLexical}
+use Rattle.tree_model.specs.Structures.{Structure}
+use Rattle.tree_model.specs.Lexical.{IsEntry, FullLexical}
 use Rattle.book_signs.specs.Trees.{SignTree, signs_of, HaveArities}
 use Rattle.rule_trees.specs.Mothers.{view_in, IsMother}
 use Rattle.rule_trees.specs.Fulls.{FullTree}

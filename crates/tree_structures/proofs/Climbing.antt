@@ -4,13 +4,13 @@ use Rattle.std.specs.Prelude.{Option, Some, None, Result, Ok, Err, IfOk, MatchOp
 use Rattle.fs_model.specs.Claims.{IsOrder}
 use Rattle.fs_model.specs.Sources.{Told}
 use Rattle.fs_model.specs.Closure.{Closure}
-use Rattle.rule_model.specs.Structures.{Structure, IsStructureOf}
-use Rattle.rule_model.specs.Mothers.{IsFull}
-use Rattle.rule_model.proofs.Closures.{closure_ends, kept_ends}
-use Rattle.item_model.specs.Signs.{Signs, Instance, rule_system}
-use Rattle.item_model.specs.Lexical.{IsEntry, IsUnderRule, FullUnder, under_none, under_next, FullLexical}
-use Rattle.item_model.proofs.Once.{one_structure}
-use Rattle.tree_structures.specs.declared.NoMemory.{NoMemory}
+use Rattle.tree_model.specs.Structures.{Structure, IsStructureOf}
+use Rattle.tree_model.specs.Mothers.{IsFull}
+use Rattle.tree_model.proofs.Closures.{closure_ends, kept_ends}
+use Rattle.tree_model.specs.Signs.{Signs, Instance, rule_system}
+use Rattle.tree_model.specs.Lexical.{IsEntry, IsUnderRule, FullUnder, under_none, under_next, FullLexical}
+use Rattle.tree_model.proofs.Once.{one_structure}
+use Rattle.std.specs.declared.alloc.AllocError.{AllocError as NoMemory}
 
 -- the structures of an entry under all of some rules are those to which the rest of them leads from here
 abbrev pub Leads : Signs → ℕ → List ℕ → Structure → List ℕ → Type 0

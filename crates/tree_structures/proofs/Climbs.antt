@@ -1,10 +1,10 @@
 -- What lexical rules make of a structure, as mothers over one daughter.
 use Rattle.std.proofs.Common.{ℕ, ◌≡◌, [], ◌∷◌, length, sym, ap, subst}
 use Rattle.std.specs.Prelude.{option_map}
-use Rattle.rule_model.specs.Structures.{Structure}
-use Rattle.rule_model.specs.Mothers.{IsFullAt}
-use Rattle.item_model.specs.Signs.{Signs, Instance, rule_system}
-use Rattle.item_model.specs.Lexical.{IsUnderRule}
+use Rattle.tree_model.specs.Structures.{Structure}
+use Rattle.tree_model.specs.Mothers.{IsFullAt}
+use Rattle.tree_model.specs.Signs.{Signs, Instance, rule_system}
+use Rattle.tree_model.specs.Lexical.{IsUnderRule}
 use Rattle.book_signs.specs.Trees.{HaveArities, HasArity}
 use Rattle.rule_trees.specs.Mothers.{IsMother, HasDaughters}
 use Rattle.tree_structures.specs.Formed.{IsLexicalRuleAt}

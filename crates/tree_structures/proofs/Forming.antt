@@ -3,10 +3,10 @@ use Rattle.std.proofs.Common.{ℕ, ◌≡◌, List, [], ◌∷◌, length, refl,
 use Rattle.std.specs.Prelude.{All}
 use Rattle.std.proofs.lemmas.List.Elements.{All-nil, All-cons}
 use Rattle.derivation.specs.Trees.{Derivation, Daughters, lexical, phrase, no_more, first}
-use Rattle.rule_model.specs.Structures.{Structure}
-use Rattle.item_model.specs.Signs.{Signs}
-use Rattle.item_model.specs.Lexical.{FullUnder, under_next}
-use Rattle.item_model.specs.Trees.{Full, Fulls, full_lexical, full_phrase, no_fulls, more_fulls}
+use Rattle.tree_model.specs.Structures.{Structure}
+use Rattle.tree_model.specs.Signs.{Signs}
+use Rattle.tree_model.specs.Lexical.{FullUnder, under_next}
+use Rattle.tree_model.specs.Trees.{Full, Fulls, full_lexical, full_phrase, no_fulls, more_fulls}
 use Rattle.tree_structures.specs.Formed.{IsLexicalRuleAt, count_of, IsFormed, AreFormed}
 
 module _ (g : Signs) where

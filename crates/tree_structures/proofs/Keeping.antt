@@ -7,9 +7,9 @@ use Rattle.std.specs.declared.sync.Arc.{Arc}
 use Rattle.std.proofs.lemmas.List.{length-map, map-append, take_more}
 use Rattle.std.proofs.lemmas.List.Elements.{All-head, All-tail, All-nil, All-cons, All-push, All-weaker}
 use Rattle.std.proofs.lemmas.Option.{slice_get-map, slice_get_within, get_or_from_slice_get}
-use Rattle.rule_model.specs.Structures.{Structure}
-use Rattle.rule_model.specs.Mothers.{Rule, IsFullAt}
-use Rattle.item_model.specs.Signs.{Signs, rule_system}
+use Rattle.tree_model.specs.Structures.{Structure}
+use Rattle.tree_model.specs.Mothers.{Rule, IsFullAt}
+use Rattle.tree_model.specs.Signs.{Signs, rule_system}
 use Rattle.book_signs.specs.Trees.{SignTree, signs_of, rule_at}
 use Rattle.rule_trees.specs.Mothers.{IsMade, made_entry, made_mother, IsMother}
 use Rattle.rule_trees.specs.Fulls.{FullTree}

@@ -3,9 +3,9 @@ use Rattle.std.proofs.Common.{List, [], ◌∷◌, map}
 use Rattle.std.specs.Prelude.{All}
 use Rattle.std.proofs.lemmas.List.Elements.{All-nil, All-cons, All-head, All-tail}
 use Rattle.derivation.specs.Trees.{Derivation, Daughters, lexical, phrase, no_more, first}
-use Rattle.rule_model.specs.Structures.{Structure}
-use Rattle.item_model.specs.Signs.{Signs}
-use Rattle.item_model.specs.Trees.{Full, Fulls, full_lexical, full_phrase, no_fulls, more_fulls}
+use Rattle.tree_model.specs.Structures.{Structure}
+use Rattle.tree_model.specs.Signs.{Signs}
+use Rattle.tree_model.specs.Trees.{Full, Fulls, full_lexical, full_phrase, no_fulls, more_fulls}
 use Rattle.rule_trees.specs.Mothers.{IsMade, made_mother}
 use Rattle.rule_trees.proofs.OweLemmas.{lexical_made}
 

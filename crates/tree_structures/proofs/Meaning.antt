@@ -6,11 +6,11 @@ use Rattle.fs_model.specs.Sources.{Reader, Told, IsGraphOf}
 use Rattle.fs_graph.specs.GraphMap.{GraphMap, reader_of}
 use Rattle.fs_unify.specs.Owing.{OwedFacts, OwedRules, ListsOwed, owes_rules}
 use Rattle.fs_unify.specs.Placing.{PlacedGraph, IsPlacedIn, source_of}
-use Rattle.rule_model.specs.Structures.{Says}
-use Rattle.rule_model.specs.Mothers.{Meant}
-use Rattle.rule_model.proofs.Closures.{grows, falls}
-use Rattle.rule_model.proofs.ViewLemmas.{says_tells, tells_says, alone_to, alone_back}
-use Rattle.item_model.specs.Signs.{rule_system}
+use Rattle.tree_model.specs.Structures.{Says}
+use Rattle.tree_model.specs.Mothers.{Meant}
+use Rattle.tree_model.proofs.Closures.{grows, falls}
+use Rattle.tree_model.proofs.ViewLemmas.{says_tells, tells_says, alone_to, alone_back}
+use Rattle.tree_model.specs.Signs.{rule_system}
 use Rattle.book_signs.specs.Trees.{SignTree, signs_of}
 use Rattle.rule_trees.specs.Mothers.{view_in, IsShortIn}
 use Rattle.rule_trees.proofs.MakingLemmas.{Owes, inside, cut_part}

@@ -5,8 +5,8 @@ use Rattle.fs_model.specs.Claims.{IsOrder}
 use Rattle.fs_model.proofs.AnswerLemmas.{one_structure}
 use Rattle.fs_graph.specs.GraphMap.{GraphMap, IsGraph, IsSameNode, reader_of}
 use Rattle.fs_graph.proofs.SameLemmas.{one_graph}
-use Rattle.rule_model.specs.Structures.{Structure, Says}
-use Rattle.item_model.specs.Signs.{Signs}
+use Rattle.tree_model.specs.Structures.{Structure, Says}
+use Rattle.tree_model.specs.Signs.{Signs}
 use Rattle.tree_structures.specs.Meant.{IsMeantBy}
 
 same_nodes : (g h : GraphMap) → IsGraph g → IsGraph h → length g.types ≡ length h.types → ((n : ℕ) → n < length g.types → IsSameNode g h n) → g ≡ h

@@ -10,12 +10,12 @@ use Rattle.derivation.specs.declared.Tree.{Tree}
 use Rattle.derivation.specs.declared.Tree.TheVariants.{Lexical, Phrase}
 use Rattle.derivation.proofs.Rows.{derivation_of-Lexical, derivation_of-Phrase}
 use Rattle.std.specs.String.{string_bytes}
-use Rattle.rule_model.specs.Structures.{Structure}
-use Rattle.rule_model.specs.Mothers.{IsFullAt}
-use Rattle.item_model.specs.Signs.{Signs, Instance, rule_system}
-use Rattle.item_model.specs.Lexical.{FullLexical}
-use Rattle.item_model.specs.Trees.{Full, Fulls, no_fulls, more_fulls, full_lexical, full_phrase, IsPhrase}
-use Rattle.item_model.proofs.Once.{one}
+use Rattle.tree_model.specs.Structures.{Structure}
+use Rattle.tree_model.specs.Mothers.{IsFullAt}
+use Rattle.tree_model.specs.Signs.{Signs, Instance, rule_system}
+use Rattle.tree_model.specs.Lexical.{FullLexical}
+use Rattle.tree_model.specs.Trees.{Full, Fulls, no_fulls, more_fulls, full_lexical, full_phrase, IsPhrase}
+use Rattle.tree_model.proofs.Once.{one}
 use Rattle.book_signs.specs.Trees.{rule_at, HaveArities, HasArity}
 use Rattle.rule_trees.specs.Mothers.{IsMother, HasDaughters}
 use Rattle.tree_structures.specs.Formed.{IsFormed, AreFormed, IsPhraseRuleOf, IsEntryAt, IsLexicalRuleAt, count_of}

@@ -2,13 +2,13 @@
 use Rattle.std.specs.Prelude.{ℕ, List}
 use Rattle.fs_model.specs.Closure.{AreConsistent}
 use Rattle.derivation.specs.Trees.{Derivation}
-use Rattle.rule_model.specs.Structures.{Structure}
-use Rattle.rule_model.specs.Mothers.{Rule, Meant, IsFull}
-use Rattle.rule_model.proofs.Closures.{grows, falls}
-use Rattle.rule_model.proofs.MotherLaws.{meant_part, meant_full, mother_consistent}
-use Rattle.item_model.specs.Signs.{Signs, rule_system}
-use Rattle.item_model.specs.Lexical.{FullUnder, under_none, under_next, IsEntry}
-use Rattle.item_model.specs.Trees.{Full, full_lexical, full_phrase}
+use Rattle.tree_model.specs.Structures.{Structure}
+use Rattle.tree_model.specs.Mothers.{Rule, Meant, IsFull}
+use Rattle.tree_model.proofs.Closures.{grows, falls}
+use Rattle.tree_model.proofs.MotherLaws.{meant_part, meant_full, mother_consistent}
+use Rattle.tree_model.specs.Signs.{Signs, rule_system}
+use Rattle.tree_model.specs.Lexical.{FullUnder, under_none, under_next, IsEntry}
+use Rattle.tree_model.specs.Trees.{Full, full_lexical, full_phrase}
 
 module _ (g : Signs) where
   entry_sound : {p : ℕ} {d : Structure} → IsEntry g p d → AreConsistent g.system (Meant (rule_system g) d)

@@ -12,13 +12,13 @@ use Rattle.derivation.specs.declared.Tree.{Tree}
 use Rattle.derivation.specs.declared.Tree.TheVariants.{Lexical, Phrase}
 use Rattle.derivation.proofs.Rows.{derivation_of-Phrase}
 use Rattle.derivation.specs.Views.{derivation_of, in_order}
-use Rattle.rule_model.specs.Structures.{Structure}
-use Rattle.item_model.specs.Signs.{Signs}
-use Rattle.item_model.specs.Lexical.{FullLexical}
-use Rattle.item_model.specs.Trees.{Full}
+use Rattle.tree_model.specs.Structures.{Structure}
+use Rattle.tree_model.specs.Signs.{Signs}
+use Rattle.tree_model.specs.Lexical.{FullLexical}
+use Rattle.tree_model.specs.Trees.{Full}
 use Rattle.book_signs.specs.Trees.{SignTree, signs_of, HaveArities}
 use Rattle.rule_trees.specs.Mothers.{IsMother, HasDaughters}
-use Rattle.tree_structures.specs.declared.NoMemory.{NoMemory}
+use Rattle.std.specs.declared.alloc.AllocError.{AllocError as NoMemory}
 use Rattle.tree_structures.specs.declared.memo.FullMemo.{FullMemo}
 use Rattle.tree_structures.specs.declared.opened.Opened.{Opened}
 use Rattle.tree_structures.specs.declared.opened.Next.TheVariants.{Down, Leaf, Made, Never}

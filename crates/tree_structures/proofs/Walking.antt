@@ -7,9 +7,9 @@ use Rattle.std.proofs.lemmas.Option.{slice_get_within, get_or_from_slice_get}
 use Rattle.derivation.specs.Trees.{Derivation, lexical, phrase}
 use Rattle.derivation.specs.Views.{derivation_of, in_order}
 use Rattle.derivation.proofs.Weights.{weight, weights}
-use Rattle.rule_model.specs.Structures.{Structure}
-use Rattle.item_model.specs.Signs.{Signs}
-use Rattle.item_model.specs.Trees.{Full, Fulls, no_fulls, more_fulls, full_phrase}
+use Rattle.tree_model.specs.Structures.{Structure}
+use Rattle.tree_model.specs.Signs.{Signs}
+use Rattle.tree_model.specs.Trees.{Full, Fulls, no_fulls, more_fulls, full_phrase}
 use Rattle.tree_structures.specs.declared.opened.Opened.{Opened}
 use Rattle.tree_structures.specs.Formed.{IsFormed, AreFormed}
 use Rattle.tree_structures.specs.Known.{AreAt, none_at, numbers_of}

@@ -1,7 +1,7 @@
 -- Trees whose places are those of entries and of rules.
 use Rattle.std.specs.Prelude.{ℕ, ◌≡◌, ◌+◌, Some, All, length, slice_get}
 use Rattle.derivation.specs.Trees.{Derivation, Daughters, lexical, phrase, no_more, first}
-use Rattle.item_model.specs.Signs.{Kind, an_entry, a_lexical_rule, a_phrase_rule, Instance, Signs}
+use Rattle.tree_model.specs.Signs.{Kind, an_entry, a_lexical_rule, a_phrase_rule, Instance, Signs}
 
 -- at a place stands an instance of this kind
 pub record IsOfKind (kind : Kind) (g : Signs) (place : ℕ) : Type 0 where

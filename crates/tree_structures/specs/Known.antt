@@ -3,9 +3,9 @@ use Rattle.std.specs.Prelude.{ℕ, ◌≡◌, All, List, [], ◌∷◌, Some, ma
 use Rattle.std.specs.Global.{Global}
 use Rattle.std.specs.Arc.{arc_value}
 use Rattle.std.specs.declared.sync.Arc.{Arc}
-use Rattle.rule_model.specs.Structures.{Structure}
-use Rattle.item_model.specs.Lexical.{IsEntry}
-use Rattle.item_model.specs.Signs.{Signs}
+use Rattle.tree_model.specs.Structures.{Structure}
+use Rattle.tree_model.specs.Lexical.{IsEntry}
+use Rattle.tree_model.specs.Signs.{Signs}
 use Rattle.book_signs.specs.Trees.{SignTree, signs_of}
 use Rattle.rule_trees.specs.Mothers.{view_in, IsMother}
 use Rattle.rule_trees.specs.Fulls.{FullTree}

@@ -4,10 +4,10 @@ use Rattle.fs_model.specs.Claims.{IsOrder}
 use Rattle.fs_model.specs.Closure.{AreConsistent}
 use Rattle.fs_graph.specs.GraphMap.{GraphMap}
 use Rattle.derivation.specs.Trees.{Derivation}
-use Rattle.rule_model.specs.Structures.{Structure}
-use Rattle.rule_model.specs.Mothers.{Meant}
-use Rattle.item_model.specs.Signs.{Signs, rule_system}
-use Rattle.item_model.specs.Trees.{Full}
+use Rattle.tree_model.specs.Structures.{Structure}
+use Rattle.tree_model.specs.Mothers.{Meant}
+use Rattle.tree_model.specs.Signs.{Signs, rule_system}
+use Rattle.tree_model.specs.Trees.{Full}
 use Rattle.rule_trees.specs.Mothers.{IsMade}
 use Rattle.tree_structures.specs.Formed.{IsFormed}
 use Rattle.tree_structures.specs.Meant.{IsMeantBy}

@@ -3,8 +3,8 @@
 ghost use Rattle.std.specs.Prelude.{IfOk};
 ghost use Rattle.fs_model.specs.Closure.{AreConsistent};
 ghost use Rattle.fs_unify.specs.Placing.{IsAnswerIn};
-ghost use Rattle.rule_model.specs.Mothers.{Meant};
-ghost use Rattle.item_model.specs.Signs.{rule_system};
+ghost use Rattle.tree_model.specs.Mothers.{Meant};
+ghost use Rattle.tree_model.specs.Signs.{rule_system};
 ghost use Rattle.book_signs.specs.Trees.{signs_of};
 ghost use Rattle.rule_trees.specs.Mothers.{view_in, IsMade};
 ghost use Rattle.tree_structures.specs.Meant.{IsMeantBy};

@@ -1,7 +1,7 @@
 //! The full structures of entries under lexical rules.
 
 ghost use Rattle.std.specs.Prelude.{All, IfOk};
-ghost use Rattle.item_model.specs.Lexical.{FullLexical};
+ghost use Rattle.tree_model.specs.Lexical.{FullLexical};
 ghost use Rattle.book_signs.specs.Trees.{signs_of};
 ghost use Rattle.tree_structures.specs.Formed.{IsEntryAt, IsLexicalRuleAt};
 ghost use Rattle.tree_structures.specs.Known.{IsRight};

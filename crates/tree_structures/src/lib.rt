@@ -16,41 +16,7 @@ mod question;
 pub use closing::closed_of;
 pub use fulls::full_of;
 pub use memo::FullMemo;
-use std::alloc::{AllocError, AllocFailed};
-
-/// Memory was wanting.
-#[derive(Clone, Copy, Debug, PartialEq, Eq)]
-pub struct NoMemory;
-
-impl From<AllocError> for NoMemory {
-    fn from(_: AllocError) -> NoMemory {
-        NoMemory
-    }
-}
-
-impl<T: Drop> From<AllocFailed<T>> for NoMemory {
-    fn from(_: AllocFailed<T>) -> NoMemory {
-        NoMemory
-    }
-}
-
-impl From<fs_unify::NoMemory> for NoMemory {
-    fn from(_: fs_unify::NoMemory) -> NoMemory {
-        NoMemory
-    }
-}
-
-impl From<lexical_items::NoMemory> for NoMemory {
-    fn from(_: lexical_items::NoMemory) -> NoMemory {
-        NoMemory
-    }
-}
-
-impl From<rule_trees::NoMemory> for NoMemory {
-    fn from(_: rule_trees::NoMemory) -> NoMemory {
-        NoMemory
-    }
-}
+pub use std::alloc::AllocError as NoMemory;
 
 /// A law: a tree that has a full structure is formed of entries and rules (`formed`), its structure is an entry's or made by a rule
 /// (`made`), what that means is consistent (`sound`), and what a structure means is one graph (`one`). It does nothing.

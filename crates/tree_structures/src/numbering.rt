@@ -1,8 +1,8 @@
 //! Structures that are made once: those of entries, and of rules over known structures.
 
 ghost use Rattle.std.specs.Prelude.{◌≡◌, ◌<◌, ◌≤◌, List, length, map, IfOk, Some, None};
-ghost use Rattle.rule_model.specs.Structures.{Structure};
-ghost use Rattle.item_model.specs.Lexical.{IsEntry};
+ghost use Rattle.tree_model.specs.Structures.{Structure};
+ghost use Rattle.tree_model.specs.Lexical.{IsEntry};
 ghost use Rattle.book_signs.specs.Trees.{signs_of};
 ghost use Rattle.rule_trees.specs.Mothers.{IsMother, HasDaughters};
 ghost use Rattle.tree_structures.specs.Formed.{IsEntryAt};

@@ -19,4 +19,5 @@ mod types;
 pub use decl::{Decl, TypeFault};
 pub use faults::is_glb_name;
 pub use hierarchy::{Hierarchy, MOST_TYPES};
-pub use types::{NoMemory, Ty, TypeCounts, Types};
+pub use std::alloc::AllocError as NoMemory;
+pub use types::{Ty, TypeCounts, Types};

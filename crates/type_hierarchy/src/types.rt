@@ -20,7 +20,8 @@ use crate::marks::{are_disjoint_in, is_subset_in, marks_of};
 use crate::places::{place_of, places_of};
 use crate::rows::row_of;
 use indexmap::{IndexMap, IndexSet};
-use std::alloc::{AllocError, AllocFailed, Global};
+pub use std::alloc::AllocError as NoMemory;
+use std::alloc::{AllocError, Global};
 use std::marker::Model;
 
 /// A type by number.
@@ -33,22 +34,6 @@ pub struct TypeCounts {
     pub written: u32,
     pub completed: u32,
     pub all: u32,
-}
-
-/// Memory ran out.
-#[derive(Clone, Copy, Debug)]
-pub struct NoMemory;
-
-impl From<AllocError> for NoMemory {
-    fn from(_: AllocError) -> Self {
-        NoMemory
-    }
-}
-
-impl<T: Drop> From<AllocFailed<T>> for NoMemory {
-    fn from(_: AllocFailed<T>) -> Self {
-        NoMemory
-    }
 }
 
 /// A completed hierarchy with strings as atoms. Types are numbered from 0: the top type, the string type where it

@@ -2,6 +2,10 @@
 //! them or look on.
 #![tactic(auto)]
 
+mod held;
+
+pub use held::HoldingGate;
+
 /// What workers call before each task. It answers nothing, so it can't change a result.
 pub trait Gate: Sync {
     /// The worker of this number, from 0, is about to begin the task of this number. The call may

@@ -4,8 +4,8 @@ use Rattle.std.specs.List.{AllZip}
 use Rattle.fs_model.specs.Claims.{Path}
 use Rattle.fs_unify.specs.Owing.{OwedRules, ListsOwed}
 use Rattle.fs_trim.specs.Cutting.{owed_of}
-use Rattle.rule_model.specs.Cuts.{Cut}
-use Rattle.item_model.specs.Signs.{Kind}
+use Rattle.tree_model.specs.Cuts.{Cut}
+use Rattle.tree_model.specs.Signs.{Kind}
 use Rattle.constraint_expand.specs.declared.books.Book.{Book}
 use Rattle.constraint_expand.specs.declared.books.Instance.{Instance}
 use Rattle.constraint_expand.specs.Books.{numbered_of}

@@ -1,6 +1,6 @@
 -- The places of instances by their kinds; only private clauses cite it.
 use Rattle.std.specs.Prelude.{ℕ, ◌≡◌, ◌++◌, List, [], ◌∷◌}
-use Rattle.item_model.specs.Signs.{Kind, is_phrase_rule}
+use Rattle.tree_model.specs.Signs.{Kind, is_phrase_rule}
 use Rattle.book_signs.specs.Trees.{is_entry, is_lexical_rule, is_root, places_where}
 use Rattle.book_signs.specs.declared.kinds.Kinds.{Kinds}
 

@@ -3,7 +3,7 @@ use Rattle.std.specs.Prelude.{ℕ, List, map, Option, None, Some, Vec, String, s
 use Rattle.std.specs.Global.{Global}
 use Rattle.type_hierarchy.specs.Table.{TypeTable}
 use Rattle.fs_graph.specs.GraphMap.{GraphMap}
-use Rattle.word_lists.specs.Words.{Word}
+use Rattle.lexicon.specs.Words.{Word}
 use Rattle.closed_lists.specs.Strings.{AreSpoken}
 
 -- the words of nodes, where each has a string

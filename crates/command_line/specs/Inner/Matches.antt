@@ -7,7 +7,7 @@ use Rattle.clap.specs.declared.builder.action.ArgAction.TheVariants.{SetTrue}
 use Rattle.clap.specs.declared.builder.value_parser.Reading.TheVariants.{AsWritten}
 use Rattle.clap.specs.declared.builder.value_parser.ValueParser.TheVariants as vp
 use Rattle.clap.specs.declared.parser.matches.ValueSource.TheVariants.{CommandLine}
-use Rattle.command_line.specs.Words.{Mrs, Lattice, Value, nothing, option_id, value_of, Item, positional, option as an_option, words_of, AreItems, AreOnce, positionals, FillPlaces}
+use Rattle.command_line.specs.Words.{Mrs, Lattice, Verbose, Value, nothing, option_id, value_of, Item, positional, option as an_option, words_of, AreItems, AreOnce, positionals, FillPlaces}
 use Rattle.command_line.specs.Inner.Rules.{place_id}
 
 abbrev pub flag_rule : Text → Rule
@@ -39,7 +39,7 @@ with_flag id rows = with_default rows (flag_rule id)
 
 -- what is found in the end
 abbrev pub final : List Row → List Row
-final rows = with_flag (option_id Lattice) (with_flag (option_id Mrs) rows)
+final rows = with_flag (option_id Verbose) (with_flag (option_id Lattice) (with_flag (option_id Mrs) rows))
 
 -- The words are those of items that fill the places, and these are the matches.
 pub record Finds (places : List Value) (words : List (List ℕ)) (m : ArgMatches) : Type 0 where

@@ -5,7 +5,7 @@ use Rattle.command_line.specs.declared.reading.Places.{Places}
 use Rattle.command_line.specs.declared.reading.Places.TheVariants.{NoPlace, OneName, TwoNames, TwoNumbers}
 use Rattle.command_line.specs.declared.tasks.CommandName.{CommandName}
 use Rattle.command_line.specs.declared.tasks.CommandName.TheVariants as named
-use Rattle.command_line.specs.Words.{OptionName, Workers, Edges, Readings, Lexical, Unary, Empty, Settings, Mrs, Lattice, Value, in_range, name, Task, parse, chart, explain, generate, types, expand, check, self_test, scope, batch, transfer, Form, help, help_on, version, is_name, word_of, number_of}
+use Rattle.command_line.specs.Words.{OptionName, Workers, Edges, Readings, Lexical, Unary, Empty, Settings, Mrs, Lattice, Verbose, Value, in_range, name, Task, parse, chart, explain, generate, types, expand, check, self_test, scope, batch, transfer, Form, help, help_on, version, is_name, word_of, number_of}
 
 -- a word of a command line after the command's: that of an option, or a name
 pub data IsWord : List ℕ → Type 0 where
@@ -32,7 +32,8 @@ names_in places first second = first ∷ second ∷ []
 -- a word of an option
 abbrev pub is_option_word : List ℕ → Bool
 is_option_word w = bytes_eq w (word_of Workers) || (bytes_eq w (word_of Edges) || (bytes_eq w (word_of Readings) || (bytes_eq w (word_of Lexical)
-    || (bytes_eq w (word_of Unary) || (bytes_eq w (word_of Empty) || (bytes_eq w (word_of Settings) || (bytes_eq w (word_of Mrs) || bytes_eq w (word_of Lattice))))))))
+    || (bytes_eq w (word_of Unary) || (bytes_eq w (word_of Empty) || (bytes_eq w (word_of Settings) || (bytes_eq w (word_of Mrs)
+    || (bytes_eq w (word_of Lattice) || bytes_eq w (word_of Verbose)))))))))
 
 abbrev pub is_word : List ℕ → Bool
 is_word w = is_name w || is_option_word w

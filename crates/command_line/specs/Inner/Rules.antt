@@ -5,7 +5,7 @@ use Rattle.clap.specs.declared.builder.action.ArgAction.{ArgAction}
 use Rattle.clap.specs.declared.builder.action.ArgAction.TheVariants.{SetTrue}
 use Rattle.clap.specs.declared.builder.value_parser.ValueParser.{ValueParser}
 use Rattle.clap.specs.declared.builder.value_parser.ValueParser.TheVariants as vp
-use Rattle.command_line.specs.Words.{OptionName, Workers, Edges, Readings, Lexical, Unary, Empty, Settings, Mrs, Lattice, Value, in_range, nothing, option_id, value_of}
+use Rattle.command_line.specs.Words.{OptionName, Workers, Edges, Readings, Lexical, Unary, Empty, Settings, Mrs, Lattice, Verbose, Value, in_range, nothing, option_id, value_of}
 
 -- what reads such a value, where `clap` isn't to take any text
 abbrev pub parser_by : Value → Option ValueParser
@@ -37,9 +37,9 @@ abbrev pub bare : App
 bare = record (new_app (codes "lkb")) { top = record (new_app (codes "lkb")).top { no_binary_name = true; disable_help_flag = true } }
 
 abbrev pub options_app : App
-options_app = with_rule (with_rule (with_rule (with_rule (with_rule (with_rule (with_rule (with_rule (with_rule bare
+options_app = with_rule (with_rule (with_rule (with_rule (with_rule (with_rule (with_rule (with_rule (with_rule (with_rule bare
     (option_rule Workers)) (option_rule Edges)) (option_rule Readings)) (option_rule Lexical)) (option_rule Unary)) (option_rule Empty))
-    (option_rule Settings)) (option_rule Mrs)) (option_rule Lattice)
+    (option_rule Settings)) (option_rule Mrs)) (option_rule Lattice)) (option_rule Verbose)
 
 -- with these places from this one on
 abbrev pub with_places : ℕ → List Value → App → App

@@ -1,14 +1,14 @@
 -- Batches of lines: how they are gathered, and their answers.
-use Rattle.std.specs.Prelude.{◌≡◌, ℕ, suc, List, [], ◌∷◌, ◌++◌, map, Option, None, Some, is_none, Result, Ok, Err, Bool, true, false, ◌||◌}
+use Rattle.std.specs.Prelude.{◌≡◌, ℕ, ◌≤◌, ◌^◌, ◌-◌, length, suc, List, [], ◌∷◌, ◌++◌, map, Option, None, Some, is_none, Result, Ok, Err, Bool, true, false, ◌||◌}
 use Rattle.std.specs.List.{concat, list_any}
 use Rattle.lkb_io.specs.declared.lines.LineFault.{LineFault}
 use Rattle.lkb_io.specs.declared.lines.LineFault.TheVariants.{Failed, TooLong, NoMemory}
 use Rattle.lkb_io.specs.Outside.{HasRisen, Adds, AddsFront}
 use Rattle.lkb_io.specs.Lines.{HasNoEnd, IsTooLong, Kept}
-use Rattle.endings.specs.declared.pieces.Report.{Report}
+use Rattle.endings.specs.declared.lines.Answer.{Answer}
 use Rattle.endings.specs.declared.Stop.{Stop}
 use Rattle.endings.specs.declared.Stop.TheVariants.{Read, TooLong as StopTooLong, TooMany, Write, Gaps, NoMemory as StopNoMemory}
-use Rattle.endings.specs.Readings.{ReadsPart, Reads, ReadsSoFar}
+use Rattle.endings.specs.Readings.{ReadsAll, ReadsPart, Reads, ReadsSoFar}
 use Rattle.endings.specs.Reports.{no_memory_line, Streams, IsServed, IsServedTo, IsServedToLast, IsServedInPart}
 
 -- These lines were read since the source told `old`; after a fault, what is held is what was read of the next line.
@@ -32,30 +32,59 @@ pub data AreTold (answers : ℕ → List ℕ → List (List ℕ) → Bool → Ty
       → AreTold answers (suc n) lines rest later wanting → AreTold answers n (line ∷ lines) (no_memory_line n ∷ rest) later true
 
 -- what is told of the line of a number
-abbrev pub told_lines : ℕ → Option Report → List (List ℕ)
-told_lines n (Some r) = map (λ l. l.items) r.lines.items
+abbrev pub told_lines : ℕ → Option Answer → List (List ℕ)
+told_lines n (Some a) = map (λ l. l.items) a.report.lines.items
 told_lines n None = no_memory_line n ∷ []
 
 -- what is told of lines that are numbered from here on, one after the other
-abbrev pub lines_of_all : ℕ → List (Option Report) → List (List ℕ)
+abbrev pub lines_of_all : ℕ → List (Option Answer) → List (List ℕ)
 lines_of_all n [] = []
 lines_of_all n (a ∷ rest) = told_lines n a ++ lines_of_all (suc n) rest
 
 -- whether one of several answers tells that something is refused, and whether one is lacking
-abbrev pub is_refusal : Option Report → Bool
-is_refusal (Some r) = r.refused
+abbrev pub is_refusal : Option Answer → Bool
+is_refusal (Some a) = a.report.refused
 is_refusal None = false
 
-abbrev pub is_one_refused : List (Option Report) → Bool
+abbrev pub is_one_refused : List (Option Answer) → Bool
 is_one_refused answers = list_any is_refusal answers
 
-abbrev pub is_one_wanting : List (Option Report) → Bool
+abbrev pub is_one_wanting : List (Option Answer) → Bool
 is_one_wanting answers = list_any is_none answers
 
--- What came of the line at a place among lines that are numbered from here on: its answer, or nothing.
-abbrev pub IsTold : (answers : ℕ → List ℕ → List (List ℕ) → Bool → Type 0) → ℕ → List ℕ → Option Report → Type 0
-IsTold answers number line (Some r) = answers number line (map (λ l. l.items) r.lines.items) r.refused
-IsTold answers number line None = Unit {0}
+-- What came of the line at a place among lines that are numbered from here on: its answer with its note, or nothing.
+abbrev pub IsTold : (answers : ℕ → List ℕ → List (List ℕ) → Bool → Type 0) (notes : ℕ → List ℕ → List ℕ → Type 0) → ℕ → List ℕ → Option Answer → Type 0
+IsTold answers notes number line (Some a) = answers number line (map (λ l. l.items) a.report.lines.items) a.report.refused × notes number line a.note.items
+IsTold answers notes number line None = Unit {0}
+
+-- the note of an answer
+abbrev pub note_of : Option Answer → List ℕ
+note_of (Some a) = a.note.items
+note_of None = []
+
+-- the notes of several answers, one after the other
+abbrev pub notes_of_all : List (Option Answer) → List ℕ
+notes_of_all answers = concat (map note_of answers)
+
+-- What was told so far on the error stream, since it had told `old`: this text, or a front of it, where the stream failed. The flag says whether
+-- it did; then nothing more is told.
+abbrev pub IsNotedSoFar : Bool → Option (List ℕ) → Option (List ℕ) → ℕ → ℕ → List ℕ → Type 0
+IsNotedSoFar false old new faults_old faults_new text = Adds old new text × (faults_old ≤ faults_new)
+IsNotedSoFar true old new faults_old faults_new text = AddsFront old new text × (faults_old ≤ faults_new) × HasRisen faults_old faults_new
+
+-- This was told after what was told before, whatever that was.
+abbrev pub TellsMore : (failed fails : Bool) → Option (List ℕ) → Option (List ℕ) → ℕ → ℕ → List ℕ → Type 0
+TellsMore failed fails old new faults_old faults_new text = (start : Option (List ℕ)) (faults : ℕ) (before : List ℕ)
+    → IsNotedSoFar failed start old faults faults_old before → IsNotedSoFar fails start new faults faults_new (before ++ text)
+
+-- The notes of a run over lines that ended so, before it is said whether memory was wanting for an item.
+abbrev pub EndNotes : (notes : List (List ℕ) → List ℕ → Type 0) → Option (List ℕ) → Option (List ℕ) → List ℕ → Result Bool Stop → Type 0
+EndNotes notes old new text (Ok refused) = (lines : List (List ℕ)) × ReadsAll old new lines × notes lines text
+EndNotes notes old new text (Err Read) = (lines : List (List ℕ)) × (part : List ℕ) × ReadsPart old new lines part × HasNoEnd part × notes lines text
+EndNotes notes old new text (Err StopTooLong) = (lines : List (List ℕ)) × (part : List ℕ) × ReadsPart old new lines part × IsTooLong part × notes lines text
+EndNotes notes old new text (Err TooMany) = (lines : List (List ℕ)) × (part : List ℕ) × Reads old new lines part × (length lines ≡ 2 ^ 64 - 1) × notes lines text
+EndNotes notes old new text (Err Gaps) = ⊥
+EndNotes notes old new text (Err stop) = (lines : List (List ℕ)) × (part : List ℕ) × Reads old new lines part × notes lines text
 
 -- What was told of some lines was put: all of it, or after a stop a front of it. A fault of the sink was counted.
 abbrev pub IsToldPut : {X : Type 0} → List ℕ → Option (List ℕ) → Option (List ℕ) → ℕ → ℕ → Result X Stop → Type 0

@@ -1,6 +1,6 @@
 -- Phrase rules by place.
 use Rattle.std.specs.Prelude.{ℕ, ◌≡◌, Some, slice_get}
-use Rattle.item_model.specs.Signs.{Signs, Instance, a_phrase_rule}
+use Rattle.tree_model.specs.Signs.{Signs, Instance, a_phrase_rule}
 
 -- at a place stands a phrase rule
 abbrev pub IsPhraseRuleAt : Signs → ℕ → Type 0

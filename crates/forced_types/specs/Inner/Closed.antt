@@ -5,7 +5,7 @@ use Rattle.fs_model.specs.Claims.{Path, Claim, exists_at, same, below, at, Has}
 use Rattle.fs_model.specs.Table.{Table, walk}
 use Rattle.fs_model.specs.Sources.{Tells}
 use Rattle.fs_graph.specs.GraphMap.{arc_to, reader_of}
-use Rattle.fs_paths.specs.Facts.{path_of}
+use Rattle.fs_graph.specs.Facts.{path_of, claims_of}
 use Rattle.fs_closing.specs.Rules.{facts_in}
 use Rattle.forced_types.specs.declared.given.Given.{Given}
 use Rattle.forced_types.specs.declared.nodes.Nodes.{Nodes}
@@ -64,6 +64,7 @@ pub record IsClosed (g : Given) (t : Nodes) : Type 0 where
   pub nodes : (n : ℕ) → n < size_of t → (entry_in t n).up ≡ n → IsNodeClosed g t n
   pub short : (n : ℕ) → n < size_of t → length (path_in t n) ≤ most_of g
   pub told : (p : PlacedGraph) → Has p g.parts.now → IsPartTold g t p
+  pub facts : (c : Claim) → Has c (claims_of g.facts.now) → HoldsAt g.system.now.types t 0 (most_of g) c
 
 -- what the nodes say of paths of so many features at most
 abbrev pub Says : TypeTable → Nodes → ℕ → Claim → Type 0

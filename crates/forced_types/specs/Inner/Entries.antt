@@ -1,7 +1,7 @@
 -- Nodes in plain terms.
 use Rattle.std.specs.Prelude.{ℕ, ◌≡◌, ◌≢◌, ◌⊎◌, Option, None, List, [], ◌∷◌, ◌++◌, map, length, slice_index_or}
 use Rattle.fs_model.specs.Claims.{Path, Has}
-use Rattle.fs_paths.specs.Facts.{path_of}
+use Rattle.fs_graph.specs.Facts.{path_of}
 use Rattle.fs_graph.specs.declared.graph.GraphArc.{GraphArc}
 use Rattle.forced_types.specs.declared.nodes.Image.{Image}
 use Rattle.forced_types.specs.declared.nodes.Node.{Node}

@@ -2,8 +2,8 @@
 use Rattle.std.specs.Prelude.{ℕ, ◌≡◌, ◌<◌, ◌≤◌, ◌+◌, ◌^◌, Some, List, [], ◌∷◌, ◌++◌, map, length, slice_index_or, true}
 use Rattle.type_hierarchy.specs.Table.{TypeTable, count_of, is_below, meet_of}
 use Rattle.fs_model.specs.Claims.{Path, Claim, exists_at, same, below, at, Has}
-use Rattle.fs_model.specs.Sources.{Told}
-use Rattle.fs_paths.specs.Facts.{path_of}
+use Rattle.fs_model.specs.Sources.{Source, Told}
+use Rattle.fs_graph.specs.Facts.{path_of, claims_of}
 use Rattle.fs_graph.specs.declared.graph.GraphArc.{GraphArc}
 use Rattle.fs_graph.specs.GraphMap.{GraphMap, node_at}
 use Rattle.fs_closing.specs.Rules.{system_of, IsClaimIn}
@@ -13,15 +13,19 @@ use Rattle.forced_types.specs.declared.nodes.Nodes.{Nodes}
 use Rattle.forced_types.specs.declared.nodes.Pair.{Pair}
 use Rattle.forced_types.specs.declared.placed.PlacedGraph.{PlacedGraph}
 use Rattle.forced_types.specs.Forced.{Forced, IsWithin, IsPathIn}
-use Rattle.forced_types.specs.Views.{source_of, ArePartsIn}
+use Rattle.forced_types.specs.Views.{part_of, ArePartsIn, AreFactsIn}
 use Rattle.forced_types.specs.Inner.Entries.{Entry, entry_at, entries_of}
 
 -- the greatest number of features of a path in what is forced
 abbrev pub most_of : Given → ℕ
 most_of g = g.system.now.path_limit + 1
 
+-- all that is given
+abbrev pub source_in : Given → Source
+source_in g = record { claims = claims_of g.facts.now; parts = map part_of g.parts.now }
+
 abbrev pub Forces : Given → Claim → Type 0
-Forces g = Forced (system_of g.system.now) (most_of g) (Told (source_of g.parts.now))
+Forces g = Forced (system_of g.system.now) (most_of g) (Told (source_in g))
 
 abbrev pub place_at : List PlacedGraph → ℕ → Path
 place_at parts i = slice_index_or (map (λ p. path_of p.at.now) parts) i []
@@ -67,6 +71,7 @@ pub record IsPairSound (g : Given) (es : List Entry) (x : Pair) : Type 0 where
 
 pub record AreSound (g : Given) (t : Nodes) : Type 0 where
   pub within : ArePartsIn g.system.now g.parts.now
+  pub facts_in : AreFactsIn g.system.now g.facts.now
   pub entries : AreEntriesSound g (entries_of t.list.items)
   pub pairs : (x : Pair) → Has x t.pairs.items → IsPairSound g (entries_of t.list.items) x
 

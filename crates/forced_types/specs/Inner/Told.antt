@@ -1,7 +1,7 @@
 -- Nodes say what a graph tells; `spots` has for each node of the graph the node that was made for it, if there is one.
 use Rattle.std.specs.Prelude.{ℕ, ◌≡◌, ◌<◌, ◌≤◌, ◌+◌, Some, List, length, slice_index_or}
 use Rattle.fs_model.specs.Claims.{Has}
-use Rattle.fs_paths.specs.Facts.{path_of}
+use Rattle.fs_graph.specs.Facts.{path_of}
 use Rattle.fs_graph.specs.declared.graph.GraphArc.{GraphArc}
 use Rattle.fs_graph.specs.GraphMap.{GraphMap, type_at, arcs_at, arc_to}
 use Rattle.forced_types.specs.declared.given.Given.{Given}

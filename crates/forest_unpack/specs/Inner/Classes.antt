@@ -4,10 +4,10 @@ use Rattle.std.proofs.Common.{Vec, Global}
 use Rattle.std.specs.Arc.{arc_value}
 use Rattle.chart_core.specs.declared.Row.{Row}
 use Rattle.chart_model.specs.Chart as chart
-use Rattle.forest_counts.specs.Counts as counts
-use Rattle.forest_counts.proofs.Tallies.{Tallied}
-use Rattle.forest_model.specs.Readings.{Wholes}
-use Rattle.forest_model.specs.Lists as model
+use Rattle.tree_model.specs.Counts as counts
+use Rattle.tree_model.proofs.Tallies.{Tallied}
+use Rattle.tree_model.specs.Readings.{Wholes}
+use Rattle.tree_model.specs.Lists as model
 use Rattle.forest_unpack.specs.declared.tallies.Class.{Class}
 use Rattle.forest_unpack.specs.Groups.{IsTold}
 use Rattle.forest_unpack.specs.Inner.Memos.{IsNumbered, IsReachedItem}

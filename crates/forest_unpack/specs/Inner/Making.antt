@@ -2,8 +2,8 @@
 use Rattle.std.specs.Prelude.{◌≡◌, ℕ, ◌<◌, ◌≤◌, ◌+◌, ◌-◌, ◌*◌, Bool, true, Option, Some, None, All, List, [], ◌∷◌, length, map}
 use Rattle.std.proofs.Common.{Vec, Global, take}
 use Rattle.chart_core.specs.declared.Row.{Row}
-use Rattle.forest_model.specs.Readings.{Wholes}
-use Rattle.forest_model.specs.Lists as model
+use Rattle.tree_model.specs.Readings.{Wholes}
+use Rattle.tree_model.specs.Lists as model
 use Rattle.forest_unpack.specs.declared.item.Item.{Item}
 use Rattle.forest_unpack.specs.declared.listing.Making.{Making}
 use Rattle.forest_unpack.specs.declared.memo.Memo.{Memo}

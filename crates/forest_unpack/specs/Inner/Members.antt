@@ -4,7 +4,7 @@ use Rattle.std.specs.List.{insert}
 use Rattle.chart_model.specs.Grown.{LeadsTo}
 use Rattle.chart_core.specs.declared.Row.{Row}
 use Rattle.chart_core.specs.View.{into_of}
-use Rattle.forest_model.specs.Lists as model
+use Rattle.tree_model.specs.Lists as model
 use Rattle.forest_unpack.specs.Groups.{TellsAt}
 
 abbrev pub last_in : Option (Option ℕ) → Option ℕ

@@ -2,8 +2,8 @@
 use Rattle.std.specs.Prelude.{◌≡◌, ℕ, ◌+◌, ◌↔◌, IsTrue, Bool, Option, Some, None, All, List, [], ◌∷◌, map, slice_get}
 use Rattle.std.proofs.Common.{Vec, Global}
 use Rattle.std.specs.Arc.{arc_value}
-use Rattle.cover.specs.Tuples.{on_list}
-use Rattle.forest_model.specs.Readings.{Wholes}
+use Rattle.chart_model.specs.Tuples.{on_list}
+use Rattle.tree_model.specs.Readings.{Wholes}
 use Rattle.forest_unpack.specs.declared.item.Item.{Item}
 use Rattle.forest_unpack.specs.declared.memo.Answer.{Answer}
 use Rattle.forest_unpack.specs.declared.memo.Memo.{Memo}

@@ -1,6 +1,6 @@
 use Rattle.std.proofs.Common.{subst}
 use Rattle.std.specs.Prelude.{IfOk}
-use Rattle.fs_paths.specs.Facts.{path_of}
+use Rattle.fs_graph.specs.Facts.{path_of}
 use Rattle.fs_unify.specs.Owing.{ListsOwed, owed_by}
 use Rattle.fs_trim.proofs.owed.Goals as goal
 

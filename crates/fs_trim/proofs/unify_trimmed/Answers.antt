@@ -5,7 +5,7 @@ use Rattle.fs_graph.specs.GraphMap.{reader_of}
 use Rattle.fs_closing.specs.Rules.{system_of}
 use Rattle.fs_unify.specs.Owing.{owes_all}
 use Rattle.fs_unify.specs.Placing.{source_of}
-use Rattle.rule_model.specs.Views.{IsTrimmed}
+use Rattle.tree_model.specs.Views.{IsTrimmed}
 use Rattle.fs_trim.specs.Cutting.{cut_of, IsShort}
 use Rattle.fs_trim.proofs.TrimLemmas.{again_answer, again_known, without_owes, alone_in}
 use Rattle.fs_trim.proofs.unify_trimmed.Goals as goal

@@ -5,7 +5,7 @@ use Rattle.fs_graph.specs.GraphMap.{reader_of}
 use Rattle.fs_closing.specs.Rules.{system_of}
 use Rattle.fs_unify.specs.Owing.{IsWellFormedBut, owes_rules}
 use Rattle.fs_unify.specs.Placing.{source_of}
-use Rattle.rule_model.specs.Views.{IsTrimmed}
+use Rattle.tree_model.specs.Views.{IsTrimmed}
 use Rattle.fs_trim.specs.Cutting.{cut_of, owed_of, IsShort}
 use Rattle.fs_trim.proofs.TrimLemmas.{again_answer, again_known, without_owes, cut_in}
 use Rattle.fs_trim.proofs.unify_trimmed_owing.Goals as goal

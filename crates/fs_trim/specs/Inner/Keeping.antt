@@ -6,8 +6,8 @@ use Rattle.fs_graph.specs.GraphMap.{GraphMap, IsGraph, reader_of}
 use Rattle.fs_closing.specs.Rules.{Grammar, system_of}
 use Rattle.fs_unify.specs.Entering.{IsGraphIn}
 use Rattle.fs_unify.specs.Owing.{IsWellFormedBut}
-use Rattle.rule_model.specs.Cuts.{Cut}
-use Rattle.rule_model.specs.Views.{IsKeptOf}
+use Rattle.tree_model.specs.Cuts.{Cut}
+use Rattle.tree_model.specs.Views.{IsKeptOf}
 use Rattle.fs_trim.specs.Cutting.{owed_of}
 
 -- what the cut keeps, of which unification

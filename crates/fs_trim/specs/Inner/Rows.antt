@@ -7,7 +7,7 @@ use Rattle.fs_graph.specs.GraphMap.{GraphMap, arcs_at}
 use Rattle.fs_graph.specs.Inside.{row}
 use Rattle.fs_graph.specs.Orders.{ArePlan}
 use Rattle.fs_graph.specs.Inner.Renumbering.{starts_of}
-use Rattle.rule_model.specs.Cuts.{Cut, has_feature, is_kept}
+use Rattle.tree_model.specs.Cuts.{Cut, has_feature, is_kept}
 
 -- whether the cut leaves an arc with this feature, of the root or of another node
 abbrev pub leaves : Cut → Bool → ℕ → Bool

@@ -1,9 +1,9 @@
 -- Which of some told trees are leaves, and which are too deep, by their predicates and the numbers of their rules.
 use Rattle.std.specs.Prelude.{ℕ, ◌≡◌, nat_le, ◌||◌, Bool, true, false, if◌then◌else◌, List, [], ◌∷◌}
-use Rattle.cover.specs.declared.counts.Counts.{Counts}
+use Rattle.chart_model.specs.declared.counts.Counts.{Counts}
 use Rattle.derivation.specs.Trees.{Derivation}
-use Rattle.contributions.specs.Bags.{Word, BagTree, holds, tally, empties}
-use Rattle.item_model.specs.Lexical.{rule_count}
+use Rattle.generate_model.specs.Bags.{Word, BagTree, holds, tally, empties}
+use Rattle.tree_model.specs.Lexical.{rule_count}
 use Rattle.generated_leaves.specs.Told.{ToldWord}
 use Rattle.generated_leaves.specs.Leaves.{WordLeaf, GenLexical, TooDeep, Leaves}
 use Rattle.generated_leaves.specs.declared.leaves.Fit.{Fit}

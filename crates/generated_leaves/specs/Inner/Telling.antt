@@ -3,8 +3,8 @@ use Rattle.std.specs.Prelude.{ℕ, ◌≡◌, List, map}
 use Rattle.chart_model.specs.At.{At}
 use Rattle.type_hierarchy.specs.Table.{TypeTable}
 use Rattle.mrs_places.specs.Paths.{Paths}
-use Rattle.item_model.specs.Signs.{Signs}
-use Rattle.inflected_trees.specs.Inflected.{WordTree}
+use Rattle.tree_model.specs.Signs.{Signs}
+use Rattle.lexical_items.specs.Inflected.{WordTree}
 use Rattle.generated_leaves.specs.Told.{ToldWord, word_of, IsSaid}
 
 -- these are told of the trees so far

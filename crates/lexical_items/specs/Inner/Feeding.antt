@@ -1,9 +1,9 @@
 -- Tables of what may apply to what, while they are filled.
 use Rattle.std.specs.Prelude.{ℕ, ◌≡◌, ◌⊎◌, Bool, false, List, length}
 use Rattle.chart_model.specs.At.{At}
-use Rattle.rule_model.specs.Structures.{Structure}
-use Rattle.item_model.specs.Signs.{Signs}
-use Rattle.item_model.specs.Lexical.{IsUnderRule}
+use Rattle.tree_model.specs.Structures.{Structure}
+use Rattle.tree_model.specs.Signs.{Signs}
+use Rattle.tree_model.specs.Lexical.{IsUnderRule}
 use Rattle.morph_analysis.specs.Allowed.{FeedsTree, AllMay, in_table}
 
 -- a rule never applies to what another gives

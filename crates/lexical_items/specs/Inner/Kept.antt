@@ -1,9 +1,9 @@
 -- Chains with their full structures, and their trees.
 use Rattle.std.specs.Prelude.{ℕ, ◌<◌, ◌≤◌, List, [], ◌∷◌, All, length, map}
-use Rattle.word_lists.specs.Words.{Has}
-use Rattle.rule_model.specs.Structures.{Structure}
-use Rattle.item_model.specs.Signs.{Signs}
-use Rattle.item_model.specs.Lexical.{FullLexical}
+use Rattle.lexicon.specs.Words.{Has}
+use Rattle.tree_model.specs.Structures.{Structure}
+use Rattle.tree_model.specs.Signs.{Signs}
+use Rattle.tree_model.specs.Lexical.{FullLexical}
 use Rattle.lexicon.specs.Entries.{EntryTree}
 use Rattle.spelling_rules.specs.Trees.{SpellingTree}
 use Rattle.morph_analysis.specs.Allowed.{FeedsTree}

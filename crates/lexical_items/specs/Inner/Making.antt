@@ -1,9 +1,9 @@
 -- Full structures that are made from an entry outwards.
 use Rattle.std.specs.Prelude.{ℕ, ◌<◌, List, length, map}
-use Rattle.word_lists.specs.Words.{Has}
-use Rattle.rule_model.specs.Structures.{Structure}
-use Rattle.item_model.specs.Signs.{Signs}
-use Rattle.item_model.specs.Lexical.{FullLexical}
+use Rattle.lexicon.specs.Words.{Has}
+use Rattle.tree_model.specs.Structures.{Structure}
+use Rattle.tree_model.specs.Signs.{Signs}
+use Rattle.tree_model.specs.Lexical.{FullLexical}
 use Rattle.morph_analysis.specs.Allowed.{FeedsTree, IsAllowed}
 use Rattle.lexical_items.specs.Places.{place_in}
 

@@ -1,7 +1,7 @@
 -- How entries are noted under their last words; only private clauses cite it.
 use Rattle.std.specs.Prelude.{ℕ, ◌≡◌, ◌<◌, ◌++◌, Option, None, Some, length, get_or, set, List, [], ◌∷◌, String, Vec, map, if◌then◌else◌}
 use Rattle.std.specs.Global.{Global}
-use Rattle.word_lists.specs.Words.{Word, noted}
+use Rattle.lexicon.specs.Words.{Word, noted}
 use Rattle.lexicon.specs.declared.groups.Group.{Group}
 use Rattle.lexicon.specs.declared.entries.Entry.{Entry}
 use Rattle.lexicon.specs.Entries.{EntryTree, same_words}

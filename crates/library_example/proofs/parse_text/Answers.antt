@@ -1,9 +1,9 @@
-use Rattle.std.proofs.Common.{◌≡◌, ◌∙◌, refl, sym, ap, subst, Some, None, ℕ, List, map, string_bytes}
+use Rattle.std.proofs.Common.{◌≡◌, ◌∙◌, refl, ap, subst, Some, None, [], false, codes, map, string_bytes}
 use Rattle.lkb_io.specs.Shelves.{file_or_empty}
 use Rattle.endings.specs.Meanings.{Shelves, shelves}
 use Rattle.endings.specs.Reports.{Streams, streams}
 use Rattle.endings.specs.Endings.{IsReadThrough}
-use Rattle.command_line.specs.Words.{IsForm}
+use Rattle.command_line.specs.Words.{IsForm, parse, options_of}
 use Rattle.top_call.specs.Commands.{meaning_of}
 use Rattle.library_example.specs.Parsed.{Comes, words_asked, form_asked, asked}
 use Rattle.library_example.proofs.Asking.{have_form}
@@ -25,6 +25,6 @@ returns g c report fault jw jx =
     (Some c.new-input.result) c.new-report.result.written new.out.written c.new-fault.result.written new.err.written
     c.args.lines.items report fault (λ form. IsReadThrough (meaning_of form) (Some new.input))
     (ap Some c.new-input.ensures) (ap (λ a. a.written) c.new-report.ensures) jw (ap (λ a. a.written) c.new-fault.ensures) jx
-    c.run-status.result r.report (λ done. ap (λ a. a.written) (r.silent done)) (λ e form is. (r.usage e).0 form is)
+    c.run-status.result r.report r.noted (λ texts notes n. c.nothing_noted.ensures (parse (codes "grammar")) (options_of []) refl (Some (file_or_empty c.in_ok-shelf.shelf)) false texts notes n) (λ e form is. (r.usage e).0 form is)
     (λ e. let p = r.grammar e in (p.0, p.1, p.2, p.3.0, p.4, ap (λ a. a.written) p.6)) r.no_grammar (λ e. still (r.write_fault e).3)
     (λ form bytes is left load can. r.complete form (file_or_empty c.in_ok-shelf.shelf) bytes is refl left load can (still, still, still)))

@@ -1,7 +1,7 @@
 -- Live hosts with their keys, and what is told of them.
 use Rattle.std.specs.Prelude.{ℕ, ◌≡◌, ◌↔◌, IsTrue, List, Some, All, map, slice_get}
-use Rattle.cover.specs.Calculus.{Calculus}
-use Rattle.cover.specs.declared.span.Span.{Span}
+use Rattle.chart_model.specs.Calculus.{Calculus}
+use Rattle.chart_model.specs.declared.span.Span.{Span}
 use Rattle.chart_model.specs.Classes.{Class}
 use Rattle.chart_model.specs.Finished.{IsComplete}
 use Rattle.chart_model.specs.Limits.{IsLimitAnswer, Within}
@@ -16,10 +16,10 @@ use Rattle.derivation.specs.Trees.{Derivation}
 use Rattle.derivation.specs.Views.{derivation_of}
 use Rattle.fs_model.specs.Claims.{Path}
 use Rattle.fs_graph.specs.GraphMap.{reader_of, type_at}
-use Rattle.rule_model.specs.Structures.{Structure}
-use Rattle.rule_model.specs.Views.{view}
-use Rattle.item_model.specs.Signs.{Signs}
-use Rattle.item_model.specs.Trees.{IsRooted}
+use Rattle.tree_model.specs.Structures.{Structure}
+use Rattle.tree_model.specs.Views.{view}
+use Rattle.tree_model.specs.Signs.{Signs}
+use Rattle.tree_model.specs.Trees.{IsRooted}
 use Rattle.lexical_items.specs.declared.lexeme.LexTree.{LexTree}
 use Rattle.line_charts.specs.Keys.{Key}
 use Rattle.line_charts.specs.Charts.{Keyed, ToldClass}

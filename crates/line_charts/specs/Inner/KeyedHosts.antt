@@ -1,6 +1,6 @@
 -- Hosts with the keys of their rows.
 use Rattle.std.specs.Prelude.{ℕ, ◌≡◌, List, All}
-use Rattle.cover.specs.declared.span.Span.{Span}
+use Rattle.chart_model.specs.declared.span.Span.{Span}
 use Rattle.type_hierarchy.specs.Table.{TypeTable}
 use Rattle.chart_core.specs.declared.ended.Finished.{Finished}
 use Rattle.chart_core.specs.Kept.{core_of, rows_in}

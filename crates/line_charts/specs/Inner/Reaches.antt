@@ -1,7 +1,7 @@
 -- What the search for unknown words sees of lexical trees.
 use Rattle.std.specs.Prelude.{ℕ, ◌≡◌, ◌<◌, ◌+◌, ◌⊎◌, ◌==◌, Bool, true, false, if◌then◌else◌, Option, Some, None, List, [], ◌∷◌, length, map, take, drop, slice_index_or, string_bytes}
 use Rattle.std.specs.List.{filter_map}
-use Rattle.word_lists.specs.Words.{Word, Has}
+use Rattle.lexicon.specs.Words.{Word, Has}
 use Rattle.derivation.specs.Trees.{Derivation, lexical, phrase}
 use Rattle.morph_analysis.specs.Lattices.{StepTree, Carries}
 use Rattle.line_charts.specs.declared.unknown.Reach.{Reach}

@@ -2,12 +2,12 @@
 use Rattle.std.specs.Prelude.{ℕ, ◌≡◌, ◌<◌, Some, List, All, slice_get, IsPermutation}
 use Rattle.std.specs.List.Sorted.{IsSortedBy}
 use Rattle.std.specs.Ordering.{is_lt}
-use Rattle.cover.specs.Calculus.{Calculus, Along}
+use Rattle.chart_model.specs.Calculus.{Calculus, Along}
 use Rattle.chart_model.specs.At.{At}
 use Rattle.chart_model.specs.Chart.{Kind, OfLeaf, OfPartial, OfWhole, Chart, Leaf, Limits}
 use Rattle.chart_model.specs.Classes.{Class, IsHost}
 use Rattle.derivation.specs.Trees.{Derivation}
-use Rattle.item_model.specs.Signs.{Signs, placed_rules, place_at}
+use Rattle.tree_model.specs.Signs.{Signs, placed_rules, place_at}
 use Rattle.chart_core.specs.declared.Row.{Row}
 use Rattle.chart_core.specs.View.{kind_of, list_of}
 use Rattle.line_charts.specs.Charts.{Maker, by_tree, by_rule, compare_makers}

@@ -1,6 +1,6 @@
 -- What a call adds to a list, in no order and perhaps more than once.
 use Rattle.std.specs.Prelude.{ℕ, ◌≡◌, ◌⊎◌, ◌++◌, ◌<◌, ◌≤◌, List, [], ◌∷◌, length}
-use Rattle.word_lists.specs.Words.{Word, Has}
+use Rattle.lexicon.specs.Words.{Word, Has}
 use Rattle.lexicon.specs.Entries.{EntryTree}
 use Rattle.lexicon.specs.Groups.{GroupTree}
 use Rattle.spelling_rules.specs.Trees.{SpellingTree}

@@ -1,6 +1,6 @@
 -- How the words that lead to a word are gathered, round by round.
 use Rattle.std.specs.Prelude.{ℕ, zero, suc, ◌≡◌, ◌⊎◌, ◌<◌, ◌≤◌, ◌++◌, List, [], ◌∷◌, length}
-use Rattle.word_lists.specs.Words.{Word, Has}
+use Rattle.lexicon.specs.Words.{Word, Has}
 use Rattle.spelling_rules.specs.Trees.{SpellingTree}
 use Rattle.spelling_rules.specs.Forms.{HasForm}
 use Rattle.morph_analysis.specs.Chains.{Leads}

@@ -2,7 +2,7 @@
 use Rattle.std.specs.Prelude.{ℕ, ◌≡◌, ◌<◌, ◌≤◌, ◌++◌, ◌+◌, Bool, false, List, [], ◌∷◌, length, encode_utf8_all, if◌then◌else◌}
 use Rattle.std.specs.Char.{is_whitespace}
 use Rattle.std.specs.List.{list_any}
-use Rattle.word_lists.specs.Words.{Has}
+use Rattle.lexicon.specs.Words.{Has}
 use Rattle.morph_analysis.specs.declared.items.Item.{Item}
 use Rattle.morph_analysis.specs.Lattices.{StepTree}
 use Rattle.morph_analysis.specs.LatticeLines.{ItemTree, Items, IsNumber, Writes, same_step, once, AllWrite, IsEnd}

@@ -1,6 +1,6 @@
 -- The search outwards: rules by which an entry's word leads to the word at node 0.
 use Rattle.std.specs.Prelude.{ℕ, ◌≡◌, ◌<◌, ◌≤◌, ◌++◌, List, [], ◌∷◌, length}
-use Rattle.word_lists.specs.Words.{Has}
+use Rattle.lexicon.specs.Words.{Has}
 use Rattle.morph_analysis.specs.Spelled.{EdgeTree, NodeTree, node_at, Runs}
 
 -- each edge leads to a node, and no node is farther from node 0 than it says

@@ -1,7 +1,7 @@
 -- Paths that properties may go along, one after another.
 use Rattle.std.specs.Prelude.{ℕ, zero, suc, ◌<◌, ◌≤◌, ◌==◌, ◌&&◌, not, Bool, All, List, [], ◌∷◌, ◌++◌, map, filter, length, take}
 use Rattle.std.specs.List.{flat_map}
-use Rattle.fs_paths.specs.declared.facts.Feat.{Feat}
+use Rattle.fs_graph.specs.declared.facts.Feat.{Feat}
 use Rattle.fs_graph.specs.declared.graph.GraphArc.{GraphArc}
 use Rattle.fs_graph.specs.GraphMap.{GraphMap, type_at, arcs_at}
 use Rattle.type_hierarchy.specs.Table.{TypeTable}

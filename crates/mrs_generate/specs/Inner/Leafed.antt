@@ -1,11 +1,11 @@
 -- Lexical trees with the abstractions of their full structures, as the leaves of an item.
 use Rattle.std.specs.Prelude.{List, [], ◌∷◌}
-use Rattle.cover.specs.Calculus.{Along}
-use Rattle.cover.specs.declared.counts.Counts.{Counts}
-use Rattle.rule_model.specs.Structures.{Structure}
-use Rattle.rule_model.specs.Mothers.{IsAbstract, Meant}
-use Rattle.item_model.specs.Signs.{Signs, rule_system}
-use Rattle.item_model.specs.Items.{LeafTree}
+use Rattle.chart_model.specs.Calculus.{Along}
+use Rattle.chart_model.specs.declared.counts.Counts.{Counts}
+use Rattle.tree_model.specs.Structures.{Structure}
+use Rattle.tree_model.specs.Mothers.{IsAbstract, Meant}
+use Rattle.tree_model.specs.Signs.{Signs, rule_system}
+use Rattle.tree_model.specs.Items.{LeafTree}
 use Rattle.generated_leaves.specs.Leaves.{WordLeaf}
 
 abbrev pub leaf_of : WordLeaf → Structure → LeafTree Counts

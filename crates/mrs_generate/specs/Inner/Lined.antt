@@ -1,12 +1,12 @@
 -- The leaves of a chart for an input: its lexical trees in order, named by their numbers, with shapes that stand for the abstractions of
 -- their full structures.
 use Rattle.std.specs.Prelude.{◌≡◌, List, map}
-use Rattle.cover.specs.declared.counts.Counts.{Counts}
+use Rattle.chart_model.specs.declared.counts.Counts.{Counts}
 use Rattle.chart_core.specs.declared.Leaf.{Leaf}
 use Rattle.chart_core.specs.Leaves.{leaf_seen}
-use Rattle.rule_model.specs.Structures.{Structure}
-use Rattle.item_model.specs.Signs.{Signs}
-use Rattle.item_model.specs.Items.{leaves_from}
+use Rattle.tree_model.specs.Structures.{Structure}
+use Rattle.tree_model.specs.Signs.{Signs}
+use Rattle.tree_model.specs.Items.{leaves_from}
 use Rattle.generate_model.specs.Covers.{IsCount}
 use Rattle.generated_leaves.specs.Leaves.{WordLeaf}
 use Rattle.mrs_generate.specs.Inner.Leafed.{leaf_trees, AreShapes}

@@ -2,7 +2,7 @@
 use Rattle.std.specs.Prelude.{◌≡◌, List, map}
 use Rattle.fs_model.specs.Claims.{Has}
 use Rattle.derivation.specs.Views.{derivation_of}
-use Rattle.forest_model.specs.Readings.{Rises}
+use Rattle.tree_model.specs.Readings.{Rises}
 use Rattle.packed_items.specs.declared.Found.{Found}
 use Rattle.packed_items.specs.declared.Found.TheVariants as found
 use Rattle.generate_model.specs.Sentences.{Sentence, AreSentences, GenAnswer, ByUnaryChain, ByEdges, Readings, Sentences}

@@ -1,6 +1,6 @@
 -- The class of a row, and the classes of the first rows; only private clauses cite it.
 use Rattle.std.specs.Prelude.{◌≡◌, ℕ, ◌<◌, ◌==◌, ◌&&◌, Bool, true, false, Option, Some, None, is_some, List, slice_get}
-use Rattle.cover.specs.Calculus.{Calculus}
+use Rattle.chart_model.specs.Calculus.{Calculus}
 use Rattle.chart_model.specs.At.{At}
 use Rattle.chart_model.specs.Chart as model
 use Rattle.chart_core.specs.declared.Row.{Row}

@@ -1,10 +1,10 @@
 -- What is told of the items of a profile.
 use Rattle.std.specs.Prelude.{ℕ, Bool, true, false, List, map}
-use Rattle.item_model.specs.Items.{Limits}
+use Rattle.tree_model.specs.Items.{Limits}
 use Rattle.endings.specs.declared.commands.ItemsReport.{ItemsReport}
 use Rattle.endings.specs.declared.commands.ItemsReport.TheVariants.{AllAnswered, WithGaps}
 use Rattle.engine.specs.Speeches.{Speech}
-use Rattle.profile_items.specs.Profiles.{Item}
+use Rattle.profile_reports.specs.Profiles.{Item}
 use Rattle.profile_reports.specs.declared.report.ProfileReport.{ProfileReport}
 use Rattle.profile_batch.specs.Results.{IsReported, IsReportedWithGaps}
 

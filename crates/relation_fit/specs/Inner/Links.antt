@@ -1,7 +1,7 @@
 -- Lists of daughters, and how far a walk along them has come.
 use Rattle.std.specs.Prelude.{ℕ, ◌≡◌, ◌⊎◌, ◌<◌, Some, List, length, slice_index_or}
 use Rattle.fs_model.specs.Claims.{Path, Claim, exists_at, same, below, Has}
-use Rattle.fs_paths.specs.Facts.{path_of}
+use Rattle.fs_graph.specs.Facts.{path_of}
 use Rattle.fs_graph.specs.GraphMap.{GraphMap, node_at}
 use Rattle.generate_model.specs.Threads.{Open, Reaches}
 use Rattle.generate_model.specs.Embedding.{moved_to}

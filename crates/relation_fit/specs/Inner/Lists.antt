@@ -1,7 +1,7 @@
 -- Paths that daughters don't stand on.
 use Rattle.std.specs.Prelude.{ℕ, Bool, false, not, List, [], ◌∷◌}
 use Rattle.fs_model.specs.Claims.{Path}
-use Rattle.rule_model.specs.Cuts.{has_feature}
+use Rattle.tree_model.specs.Cuts.{has_feature}
 
 -- the path has a first feature, which isn't among these
 abbrev pub begins_apart : Path → List ℕ → Bool

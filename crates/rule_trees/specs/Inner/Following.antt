@@ -1,13 +1,13 @@
 -- Which lexical rule may apply to what another makes; only private clauses cite it.
 use Rattle.std.specs.Prelude.{ℕ, ◌≡◌, Some, [], ◌∷◌}
 use Rattle.fs_graph.specs.GraphMap.{GraphMap}
-use Rattle.rule_model.specs.Structures.{Says}
-use Rattle.rule_model.specs.Cuts.{Kept}
-use Rattle.rule_model.specs.Mothers.{Rule, Applies, daughters_cut}
+use Rattle.tree_model.specs.Structures.{Says}
+use Rattle.tree_model.specs.Cuts.{Kept}
+use Rattle.tree_model.specs.Mothers.{Rule, Applies, daughters_cut}
 use Rattle.fs_model.specs.Claims.{Claim}
 use Rattle.fs_model.specs.Closure.{Closure}
 use Rattle.fs_model.specs.Sources.{Told}
-use Rattle.item_model.specs.Signs.{rule_system}
+use Rattle.tree_model.specs.Signs.{rule_system}
 use Rattle.book_signs.specs.Trees.{SignTree, signs_of, rule_at}
 use Rattle.rule_trees.specs.Mothers.{view_in}
 

@@ -1,9 +1,9 @@
 -- Whether the instance at a place unifies with a structure; only private clauses cite it.
 use Rattle.std.specs.Prelude.{ℕ, ◌≡◌, Some, slice_get}
 use Rattle.fs_model.specs.Closure.{Closure, AreConsistent}
-use Rattle.rule_model.specs.Structures.{Structure}
-use Rattle.item_model.specs.Signs.{Instance, Signs}
-use Rattle.item_model.specs.Trees.{Both}
+use Rattle.tree_model.specs.Structures.{Structure}
+use Rattle.tree_model.specs.Signs.{Instance, Signs}
+use Rattle.tree_model.specs.Trees.{Both}
 
 pub record IsRootedBy (g : Signs) (f : Structure) (place : ℕ) : Type 0 where
   pub root : Instance

@@ -1,6 +1,6 @@
 -- What is counted, and why there is nothing to count.
 use Rattle.std.specs.Prelude.{ℕ, ◌≡◌, true, false, List, [], ◌∷◌, ◌++◌, None, Some, map}
-use Rattle.item_model.specs.Items.{Limits, Answer}
+use Rattle.tree_model.specs.Items.{Limits, Answer}
 use Rattle.grammar_load.specs.Loaded.{GrammarTree}
 use Rattle.endings.specs.Meanings.{FileFault}
 use Rattle.endings.specs.declared.commands.ItemsReport.{ItemsReport}
@@ -8,10 +8,10 @@ use Rattle.endings.specs.declared.commands.ItemsReport.TheVariants.{AllAnswered,
 use Rattle.endings.specs.declared.Fault.{Fault}
 use Rattle.endings.specs.declared.Fault.TheVariants.{Files as FilesFault, Stopped}
 use Rattle.endings.specs.declared.Stop.TheVariants.{NoMemory}
-use Rattle.command_grammars.specs.Grammars.{IsFirstFault, never}
+use Rattle.command_files.specs.Grammars.{IsFirstFault, never}
 use Rattle.engine.specs.Speeches.{Speech, IsSpeechOf}
-use Rattle.item_counts.specs.declared.Count.{Count}
-use Rattle.item_counts.specs.Summaries.{summary_line, is_some_refused, is_some_lacking}
+use Rattle.self_tests.specs.declared.counts.Count.{Count}
+use Rattle.self_tests.specs.Summaries.{summary_line, is_some_refused, is_some_lacking}
 use Rattle.self_tests.specs.Items.{count_of, IsItem, IsCountOrGap, AreCountsOrGaps}
 use Rattle.self_tests.specs.SelfTests.{workload_files, workload_name, gap_lines, IsSummed, IsSummedWithGaps}
 
@@ -41,6 +41,6 @@ IsSummedSo speech limits most number size (WithGaps lines) = IsSummedWithGaps sp
 
 -- why the file of a workload has no grammar: its first fault, or want of memory
 abbrev pub IsWorkloadFault : Fault → Type 0
-IsWorkloadFault (FilesFault text) = (fault : FileFault) × IsFirstFault workload_name None workload_files never fault × ((file : List ℕ) → fault.failed ≡ Some file → ⊥) × (text.items ≡ fault.text)
+IsWorkloadFault (FilesFault text) = (fault : FileFault) × IsFirstFault workload_name None false workload_files never fault × ((file : List ℕ) → fault.failed ≡ Some file → ⊥) × (text.items ≡ fault.text ++ fault.details)
 IsWorkloadFault (Stopped NoMemory) = Unit {0}
 IsWorkloadFault fault = ⊥

@@ -1,10 +1,10 @@
 -- What the workers did, and how it is put in order.
 use Rattle.std.specs.Prelude.{◌≡◌, ℕ, ◌<◌, ◌≤◌, List, [], ◌∷◌, ◌++◌, ◌⊎◌, All, map, length, false, Option, Some, None, slice_get, slice_index_or}
 use Rattle.std.specs.List.{Contains}
-use Rattle.place_draws.specs.Draws.{times}
-use Rattle.place_draws.specs.Plays.{all_hands}
-use Rattle.place_draws.specs.declared.hand.Hand.{Hand}
-use Rattle.place_draws.specs.declared.table.Draws.{Draws}
+use Rattle.side_by_side.specs.Draws.{times}
+use Rattle.side_by_side.specs.Plays.{all_hands}
+use Rattle.side_by_side.specs.declared.draw_hand.Hand.{Hand}
+use Rattle.side_by_side.specs.declared.draw_table.Draws.{Draws}
 use Rattle.side_by_side.specs.declared.posts.Done.{Done}
 use Rattle.side_by_side.specs.declared.posts.Post.{Post}
 

@@ -1,6 +1,6 @@
 -- How stems are gathered; only private clauses cite it.
 use Rattle.std.specs.Prelude.{ℕ, ◌<◌, ◌⊎◌, ◌≡◌, List, [], ◌∷◌, zero, suc, length}
-use Rattle.word_lists.specs.Words.{Word, Has, Rises}
+use Rattle.lexicon.specs.Words.{Word, Has, Rises}
 use Rattle.spelling_rules.specs.Trees.{SignTree, letter, variable, GroupTree, SpellingTree}
 use Rattle.spelling_rules.specs.Forms.{HasForm, StemTree}
 

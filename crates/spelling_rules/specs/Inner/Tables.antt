@@ -3,7 +3,7 @@ use Rattle.std.specs.Prelude.{ℕ, ◌≡◌, ◌==◌, ◌++◌, Bool, List, []
 use Rattle.std.specs.List.{list_any}
 use Rattle.std.specs.Global.{Global}
 use Rattle.std.specs.Str.{bytes_eq}
-use Rattle.word_lists.specs.Words.{Word, noted}
+use Rattle.lexicon.specs.Words.{Word, noted}
 use Rattle.spelling_rules.specs.declared.table.Line.{Line}
 use Rattle.spelling_rules.specs.declared.rules.SpellRule.{SpellRule}
 use Rattle.spelling_rules.specs.Trees.{LineTree, RuleTree, AreBound}

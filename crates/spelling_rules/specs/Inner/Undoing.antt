@@ -1,7 +1,7 @@
 -- What the code finds when it undoes a group; only private clauses cite it.
 use Rattle.std.specs.Prelude.{ℕ, ◌≡◌, ◌==◌, ◌||◌, ◌++◌, Bool, true, false, List, [], ◌∷◌, map, if◌then◌else◌}
 use Rattle.std.specs.List.{flat_map}
-use Rattle.word_lists.specs.Words.{Word, Has}
+use Rattle.lexicon.specs.Words.{Word, Has}
 use Rattle.spelling_rules.specs.Trees.{SignTree, letter, variable, SpellingTree}
 use Rattle.spelling_rules.specs.Forms.{HasForm}
 use Rattle.spelling_rules.specs.Inner.Rewriting.{is_variable, value_in}

@@ -1,9 +1,10 @@
-use Rattle.std.proofs.Common.{◌≡◌, inl, inr, sym, refl, subst, Some, Err, true, false, map, string_bytes}
+use Rattle.std.proofs.Common.{◌≡◌, [], inl, inr, sym, refl, subst, Some, Err, true, false, map, string_bytes}
 use Rattle.command_line.specs.Words.{Form, IsForm}
 use Rattle.command_line.specs.Commands.{form}
 use Rattle.endings.specs.Meanings.{Shelves, shelves}
 use Rattle.endings.specs.Reports.{Streams, streams}
 use Rattle.endings.specs.Endings.{IsWhole}
+use Rattle.endings.proofs.NotedClauses.{tells-alone}
 use Rattle.top_call.specs.Commands.{meaning_of}
 use Rattle.top_call.proofs.Words.{outside-status, told-at, memory-at, formless-at, either-at, not-done, not-grammar, not-read, not-write, not-gaps}
 use Rattle.top_call.proofs.run.Goals as goal
@@ -16,7 +17,14 @@ returns-in-Ok-clause-ended g c =
     let is = c.in-Ok.ensures.ok in
     let r = c.run_command.ensures in
     let e = r.ended in
-    (e.0, inl (f, is, e.1, r.unopened), e.2, e.3)
+    (e.0, e.3, inl (f, is, e.1, r.unopened, e.4), e.2, e.5)
+
+pub returns-in-Ok-clause-noted : goal.returns-in-Ok-clause-noted
+returns-in-Ok-clause-noted g c =
+    let f = form c.in-Ok.command.command in
+    let is = c.in-Ok.ensures.ok in
+    let r = c.run_command.ensures in
+    λ bytes d l. (let p = r.noted bytes d l in (f, p.0, is, p.1, p.2))
 
 pub returns-in-Ok-clause-report : goal.returns-in-Ok-clause-report
 returns-in-Ok-clause-report g c =
@@ -68,7 +76,10 @@ returns-in-Ok-clause-first_fault g c =
     let is = c.in-Ok.ensures.ok in
     let r = c.run_command.ensures in
     let same = λ (k : Form) (h : IsForm (map (λ w. string_bytes w) c.args.words.now) k). c.one_form.ensures (map (λ w. string_bytes w) c.args.words.now) f k is h in
-    λ k files fault h told first calm. r.first_fault files fault told (subst (λ x. (meaning_of x).first (Some files) (λ name. false) fault) (sym (same k h)) first) calm
+    λ k files fault h told first calm. elim (r.first_fault files fault told (subst (λ x. (meaning_of x).first (Some files) (λ name. false) fault) (sym (same k h)) first) calm) [
+      | inl memory ↦ inl memory
+      | inr t ↦ inr (t.0, t.1, subst (λ x. (meaning_of x).first (Some files) (λ name. false) t.1) (same k h) t.2, t.3, t.4)
+    ]
 
 pub returns-in-Ok-clause-read_fault : goal.returns-in-Ok-clause-read_fault
 returns-in-Ok-clause-read_fault g c =
@@ -130,7 +141,7 @@ returns-in-Err-clause-ended g c =
     let end = c.fault_of.ensures c.in-Err.ensures.usage in
     let s = c.conclude.result in
     let st = outside-status words c.fault_of.result s c.conclude.ensures.status end in
-    (Err c.fault_of.result, inr (end, refl, (refl, refl)), c.conclude.ensures.status, c.conclude.ensures.tells)
+    (Err c.fault_of.result, [], inr (end, refl, (refl, refl), refl), c.conclude.ensures.status, tells-alone _ _ _ _ _ c.conclude.ensures.tells)
 
 pub returns-in-Err-clause-report : goal.returns-in-Err-clause-report
 returns-in-Err-clause-report g c =
@@ -148,13 +159,13 @@ returns-in-Err-clause-flushed g c =
     let st = outside-status words c.fault_of.result s c.conclude.ensures.status end in
     λ d. absurd (not-done words s st d)
 
-pub returns-in-Err-clause-silent : goal.returns-in-Err-clause-silent
-returns-in-Err-clause-silent g c =
+pub returns-in-Err-clause-noted : goal.returns-in-Err-clause-noted
+returns-in-Err-clause-noted g c =
     let words = map (λ w. string_bytes w) c.args.words.now in
     let end = c.fault_of.ensures c.in-Err.ensures.usage in
     let s = c.conclude.result in
     let st = outside-status words c.fault_of.result s c.conclude.ensures.status end in
-    λ d. absurd (not-done words s st d)
+    λ bytes d l. absurd (not-done words s st d)
 
 pub returns-in-Err-clause-usage : goal.returns-in-Err-clause-usage
 returns-in-Err-clause-usage g c =
@@ -238,3 +249,9 @@ returns-in-Err-clause-complete g c =
 
 pub returns-in-Err-clause-one_report : goal.returns-in-Err-clause-one_report
 returns-in-Err-clause-one_report g c = λ k. (c.built_lawful.ensures k).one_report
+
+pub returns-in-Ok-clause-one_notes : goal.returns-in-Ok-clause-one_notes
+returns-in-Ok-clause-one_notes g c = λ k. (c.built_lawful.ensures k).one_notes
+
+pub returns-in-Err-clause-one_notes : goal.returns-in-Err-clause-one_notes
+returns-in-Err-clause-one_notes g c = λ k. (c.built_lawful.ensures k).one_notes

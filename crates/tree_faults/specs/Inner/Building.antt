@@ -4,7 +4,7 @@ use Rattle.std.specs.List.{sum_by}
 use Rattle.derivation.specs.Trees.{Derivation, phrase}
 use Rattle.derivation.specs.Views.{derivation_of, in_order}
 use Rattle.derivation.proofs.Weights.{weights}
-use Rattle.item_model.specs.Trees.{Full, Fulls}
+use Rattle.tree_model.specs.Trees.{Full, Fulls}
 use Rattle.forest_unpack.specs.Parts.{AreParts}
 use Rattle.book_signs.specs.Trees.{SignTree, signs_of}
 use Rattle.tree_structures.specs.Known.{view_of}

@@ -1,7 +1,7 @@
 -- The words to which lexical rules lead those of an entry; only private clauses cite it.
 use Rattle.std.specs.Prelude.{ℕ, ◌≡◌, ◌<◌, ◌+◌, ◌-◌, List, [], ◌∷◌, ◌++◌, length, map, take, string_bytes}
-use Rattle.word_lists.specs.Words.{Has}
-use Rattle.item_model.specs.Lexical.{Word, Words, Spells}
+use Rattle.lexicon.specs.Words.{Has}
+use Rattle.tree_model.specs.Lexical.{Word, Words, Spells}
 use Rattle.tree_faults.specs.Spelled.{HasForms}
 use Rattle.tree_faults.specs.declared.endings.Ends.{Ends}
 use Rattle.tree_faults.specs.declared.endings.Ends.TheVariants.{LastWords, NoForm}

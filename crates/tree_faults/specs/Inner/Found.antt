@@ -1,8 +1,8 @@
 -- What is found of a tree: its structure, or why it has none; only private clauses cite it.
 use Rattle.std.specs.Prelude.{length}
 use Rattle.derivation.specs.Trees.{Derivation}
-use Rattle.item_model.specs.Lexical.{Words}
-use Rattle.item_model.specs.Trees.{Full}
+use Rattle.tree_model.specs.Lexical.{Words}
+use Rattle.tree_model.specs.Trees.{Full}
 use Rattle.book_signs.specs.Trees.{SignTree, signs_of}
 use Rattle.tree_structures.specs.Known.{view_of}
 use Rattle.tree_faults.specs.declared.explaining.Explanation.{Explanation}

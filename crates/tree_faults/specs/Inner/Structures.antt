@@ -3,12 +3,12 @@ use Rattle.std.specs.Prelude.{ℕ, ◌≡◌, ◌<◌, All, List, [], ◌∷◌,
 use Rattle.type_hierarchy.specs.Table.{count_of}
 use Rattle.fs_model.specs.Claims.{Path}
 use Rattle.fs_graph.specs.GraphMap.{GraphMap}
-use Rattle.fs_paths.specs.Facts.{path_of}
+use Rattle.fs_graph.specs.Facts.{path_of}
 use Rattle.fs_unify.specs.Rules.{Grammar}
 use Rattle.derivation.specs.Trees.{Derivation}
-use Rattle.rule_model.specs.Structures.{Structure}
-use Rattle.rule_model.specs.Mothers.{Rule, Parts}
-use Rattle.item_model.specs.Trees.{Full}
+use Rattle.tree_model.specs.Structures.{Structure}
+use Rattle.tree_model.specs.Mothers.{Rule, Parts}
+use Rattle.tree_model.specs.Trees.{Full}
 use Rattle.forest_unpack.specs.declared.fulls.FullParts.{FullParts}
 use Rattle.forest_unpack.specs.Parts.{parts_of}
 use Rattle.book_signs.specs.Trees.{SignTree, signs_of, rule_at}

@@ -2,8 +2,8 @@
 use Rattle.std.specs.Prelude.{ℕ, ◌≡◌, ◌<◌, ◌≤◌, All, List, Option, length, map, take, replicate}
 use Rattle.derivation.specs.Trees.{Derivation, lexical}
 use Rattle.derivation.specs.Views.{derivation_of, in_order}
-use Rattle.item_model.specs.Lexical.{Word, Words}
-use Rattle.item_model.specs.Trees.{LeavesAre, AllLeavesAre}
+use Rattle.tree_model.specs.Lexical.{Word, Words}
+use Rattle.tree_model.specs.Trees.{LeavesAre, AllLeavesAre}
 use Rattle.tree_faults.specs.Spelled.{IsSpelled, AreSpelled, FailsWithin}
 use Rattle.tree_faults.specs.declared.opened.Opened.{Opened}
 use Rattle.tree_faults.specs.declared.endings.LeafFault.{LeafFault}

@@ -1,6 +1,6 @@
 -- What is known stays known while more is made; only private clauses cite it.
 use Rattle.std.specs.Prelude.{ℕ, ◌≡◌, List, Option, Some, None, slice_get}
-use Rattle.rule_model.specs.Structures.{Structure}
+use Rattle.tree_model.specs.Structures.{Structure}
 use Rattle.book_signs.specs.Trees.{SignTree}
 use Rattle.tree_structures.specs.declared.memo.FullMemo.{FullMemo}
 use Rattle.tree_structures.specs.Known.{IsRight, kept}

@@ -4,9 +4,9 @@ use Rattle.std.specs.List.{sum_by}
 use Rattle.derivation.specs.Trees.{Derivation, phrase}
 use Rattle.derivation.specs.Views.{derivation_of, in_order}
 use Rattle.derivation.proofs.Weights.{weights}
-use Rattle.rule_model.specs.Structures.{Structure}
-use Rattle.item_model.specs.Signs.{Signs}
-use Rattle.item_model.specs.Trees.{Full, Fulls}
+use Rattle.tree_model.specs.Structures.{Structure}
+use Rattle.tree_model.specs.Signs.{Signs}
+use Rattle.tree_model.specs.Trees.{Full, Fulls}
 use Rattle.book_signs.specs.Trees.{SignTree, signs_of}
 use Rattle.tree_structures.specs.declared.memo.FullMemo.{FullMemo}
 use Rattle.tree_structures.specs.declared.opened.Opened.{Opened}

@@ -3,7 +3,7 @@ use Rattle.std.specs.List.{flat_map}
 use Rattle.std.proofs.lemmas.List.{take_all}
 use Rattle.type_hierarchy.specs.Decls.{texts, number_of}
 use Rattle.fs_model.specs.Claims.{below}
-use Rattle.fs_paths.specs.Facts.{path_of}
+use Rattle.fs_graph.specs.Facts.{path_of}
 use Rattle.tdl_reader.specs.Trees.{items_of, more_items, no_items}
 use Rattle.tdl_reader.specs.Views.{term_of, body_in, rest_of}
 use Rattle.tdl_reader.proofs.Rows.{view_of_name, view_of_text, view_of_coref, view_of_avm, view_of_list, view_of_diff, view_of_closed, view_of_open, view_of_tail}

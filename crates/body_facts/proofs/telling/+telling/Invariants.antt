@@ -3,7 +3,7 @@ use Rattle.std.specs.List.{flat_map}
 use Rattle.type_hierarchy.specs.Decls.{number_of}
 use Rattle.tdl_reader.specs.Trees.{items_of}
 use Rattle.tdl_reader.specs.Views.{term_of, body_in}
-use Rattle.fs_paths.specs.Facts.{path_of}
+use Rattle.fs_graph.specs.Facts.{path_of}
 use Rattle.body_facts.specs.Sayings.{term_says}
 use Rattle.body_facts.specs.Running.{running_of, told_all, items_told}
 use Rattle.body_facts.specs.WordTables.{table_of}

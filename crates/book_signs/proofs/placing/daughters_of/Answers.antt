@@ -1,6 +1,6 @@
 use Rattle.std.proofs.Common.{◌∙◌, map, option_map, None, Some, ap, sym}
 use Rattle.closed_lists.specs.Names.{names_of, ListTree}
-use Rattle.fs_paths.specs.Facts.{path_of}
+use Rattle.fs_graph.specs.Facts.{path_of}
 use Rattle.constraint_expand.specs.Books.{instance_of}
 use Rattle.std.specs.List.{range_with_len}
 use Rattle.book_signs.specs.Signed.{known_of, element_path}

@@ -1,5 +1,5 @@
 use Rattle.std.proofs.Common.{refl}
-use Rattle.fs_paths.specs.Facts.{path_of}
+use Rattle.fs_graph.specs.Facts.{path_of}
 use Rattle.book_signs.proofs.PlaceLemmas.{path_next}
 use Rattle.book_signs.proofs.placing.element_path.Goals as goal
 

@@ -1,6 +1,6 @@
 use Rattle.std.proofs.Common.{◌≡◌, ◌++◌}
 use Rattle.std.specs.Prelude.{replicate}
-use Rattle.fs_paths.specs.Facts.{path_of}
+use Rattle.fs_graph.specs.Facts.{path_of}
 use Rattle.book_signs.proofs.placing.element_path.Given as goal
 
 abbrev pub invariant-loop-before : goal.invariant-loop-before

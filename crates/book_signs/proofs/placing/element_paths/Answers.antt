@@ -1,4 +1,4 @@
-use Rattle.fs_paths.specs.Facts.{path_of}
+use Rattle.fs_graph.specs.Facts.{path_of}
 use Rattle.book_signs.specs.Signed.{element_path}
 use Rattle.book_signs.proofs.PlaceLemmas.{paths_next}
 use Rattle.book_signs.proofs.placing.element_paths.Goals as goal

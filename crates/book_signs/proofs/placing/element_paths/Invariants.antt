@@ -1,6 +1,6 @@
 use Rattle.std.proofs.Common.{◌≡◌, map}
 use Rattle.std.specs.List.{range_with_len}
-use Rattle.fs_paths.specs.Facts.{path_of}
+use Rattle.fs_graph.specs.Facts.{path_of}
 use Rattle.book_signs.specs.Signed.{element_path}
 use Rattle.book_signs.specs.Trees.{paths_of}
 use Rattle.book_signs.proofs.placing.element_paths.Given as goal

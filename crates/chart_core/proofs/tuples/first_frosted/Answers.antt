@@ -1,5 +1,5 @@
 use Rattle.std.proofs.Common.{◌<◌, length, ℕ, []}
-use Rattle.cover.specs.Tuples.{on_list}
+use Rattle.chart_model.specs.Tuples.{on_list}
 use Rattle.chart_core.specs.View.{number_of}
 use Rattle.chart_core.proofs.Frosted.{all_first, all_rest}
 use Rattle.chart_core.proofs.tuples.first_frosted.Goals as goal

@@ -1,5 +1,5 @@
 use Rattle.std.proofs.Common.{All, ◌≤◌}
-use Rattle.cover.specs.Spans.{is_span}
+use Rattle.chart_model.specs.Spans.{is_span}
 use Rattle.chart_rows.proofs.grammars.leaves.Given as goal
 
 abbrev pub invariant-loop-shape : goal.invariant-loop-shape

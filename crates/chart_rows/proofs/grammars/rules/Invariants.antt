@@ -1,5 +1,5 @@
 use Rattle.std.proofs.Common.{All, ◌≤◌, length}
-use Rattle.cover.specs.Tables.{IsSized}
+use Rattle.chart_model.specs.Tables.{IsSized}
 use Rattle.chart_rows.proofs.grammars.rules.Given as goal
 
 abbrev pub invariant-loop-word : goal.invariant-loop-word

@@ -1,6 +1,6 @@
 use Rattle.std.proofs.Common.{◌∙◌, ◌++◌, length, map, reverse, ap, arith}
 use Rattle.std.proofs.lemmas.List.{reverse-reverse, length-reverse}
-use Rattle.task_pool.specs.Pools.{seat_post, pass_post}
+use Rattle.chart_workers.specs.Pools.{seat_post, pass_post}
 use Rattle.chart_rows.proofs.Moved.{one_longer, one_moved}
 use Rattle.chart_rows.proofs.pools.passes.Goals as goal
 

@@ -1,5 +1,5 @@
 use Rattle.std.proofs.Common.{◌≡◌, ◌+◌, ◌≤◌, ◌++◌, length, map, reverse}
-use Rattle.task_pool.specs.Pools.{seat_post, pass_post}
+use Rattle.chart_workers.specs.Pools.{seat_post, pass_post}
 use Rattle.chart_rows.proofs.pools.passes.Given as goal
 
 abbrev pub invariant-loop-seat : goal.invariant-loop-seat

@@ -1,5 +1,5 @@
 use Rattle.std.proofs.Common.{◌∙◌, sym, subst}
-use Rattle.task_pool.specs.Pools.{ArePool}
+use Rattle.chart_workers.specs.Pools.{ArePool}
 use Rattle.chart_rows.proofs.pools.pool.Goals as goal
 
 pub settle-settled-requires : goal.settle-settled-requires

@@ -1,6 +1,6 @@
 use Rattle.std.proofs.Common.{◌∙◌, ap}
 use Rattle.std.proofs.Math.Seq.{map-set_same}
-use Rattle.task_pool.specs.Pools.{seat_post}
+use Rattle.chart_workers.specs.Pools.{seat_post}
 use Rattle.chart_rows.proofs.pools.step.Goals as goal
 
 pub returns : goal.returns

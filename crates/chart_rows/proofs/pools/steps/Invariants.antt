@@ -1,5 +1,5 @@
 use Rattle.std.proofs.Common.{◌≡◌, map}
-use Rattle.task_pool.specs.Pools.{seat_post}
+use Rattle.chart_workers.specs.Pools.{seat_post}
 use Rattle.chart_rows.proofs.pools.steps.Given as goal
 
 abbrev pub invariant-loop-word : goal.invariant-loop-word

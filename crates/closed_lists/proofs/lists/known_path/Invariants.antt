@@ -1,6 +1,6 @@
 use Rattle.std.proofs.Common.{◌≡◌, map, take, Some}
 use Rattle.std.specs.Option.{option_map}
-use Rattle.fs_paths.specs.Facts.{path_of}
+use Rattle.fs_graph.specs.Facts.{path_of}
 use Rattle.closed_lists.proofs.lists.known_path.Given as goal
 
 abbrev pub invariant-loop-feat : goal.invariant-loop-feat

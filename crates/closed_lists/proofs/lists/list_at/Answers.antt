@@ -1,7 +1,7 @@
 use Rattle.std.proofs.Common.{◌≡◌, ◌∙◌, map, None, Some, refl, sym, ap, subst}
 use Rattle.std.specs.Option.{option_map}
 use Rattle.fs_graph.specs.GraphMap.{node_at}
-use Rattle.fs_paths.specs.Facts.{path_of}
+use Rattle.fs_graph.specs.Facts.{path_of}
 use Rattle.closed_lists.specs.Names.{names_of}
 use Rattle.closed_lists.specs.Inner.Walked.{IsKnownPath}
 use Rattle.closed_lists.proofs.ListLemmas.{list_found, no_list, unknown_list}

@@ -1,6 +1,6 @@
 use Rattle.std.proofs.Common.{◌≡◌, ◌∙◌, List, ℕ, None, Some, Option, refl, sym, ap, subst}
 use Rattle.std.specs.Option.{option_map}
-use Rattle.word_lists.proofs.WordLemmas.{true_not_false}
+use Rattle.lexicon.proofs.WordLemmas.{true_not_false}
 use Rattle.closed_lists.specs.Names.{names_of}
 use Rattle.closed_lists.specs.Lists.{IsAtOrBelow}
 use Rattle.closed_lists.proofs.ListLemmas.{no_cell, no_first, no_rest}

@@ -23,4 +23,5 @@ returns c =
     let is-6 = c.in_ok-arg-6.ensures.shape c.number_option-6.ensures.local ∙ ap₂ with_rule is-5 c.number_option-6.ensures.rule in
     let is-7 = c.in_ok-arg-7.ensures.shape c.name_option.ensures.local ∙ ap₂ with_rule is-6 c.name_option.ensures.rule in
     let is-8 = c.in_ok-arg-8.ensures.shape c.flag.ensures.local ∙ ap₂ with_rule is-7 c.flag.ensures.rule in
-    IfOk-weaker c.arg-9.result _ _ (λ r h. h.shape c.flag-2.ensures.local ∙ ap₂ with_rule is-8 c.flag-2.ensures.rule) c.arg-9.ensures
+    let is-9 = c.in_ok-arg-9.ensures.shape c.flag-2.ensures.local ∙ ap₂ with_rule is-8 c.flag-2.ensures.rule in
+    IfOk-weaker c.arg-10.result _ _ (λ r h. h.shape c.flag-3.ensures.local ∙ ap₂ with_rule is-9 c.flag-3.ensures.rule) c.arg-10.ensures

@@ -1,14 +1,15 @@
 use Rattle.std.proofs.Common.{◌∙◌, List, map, ap, sym, subst}
 use Rattle.type_hierarchy.specs.Decls.{Name, texts}
 use Rattle.constraint_expand.specs.declared.books.Book.{Book}
-use Rattle.placed_statements.specs.declared.fault.ExpandFault.TheVariants.{NoMemory}
-use Rattle.placed_statements.specs.Placings.{placed_of}
+use Rattle.grammar_files.specs.declared.expand_fault.ExpandFault.TheVariants.{NoMemory}
+use Rattle.grammar_files.specs.Placings.{placed_of}
 use Rattle.constraint_expand.specs.Introducers.{numbers_of}
 use Rattle.constraint_expand.specs.Systems.{settled_of, IsSystemOf}
 use Rattle.constraint_expand.specs.Faults.{IsFaultOf}
 use Rattle.constraint_expand.specs.Found.{IsIntroduced}
 use Rattle.constraint_expand.proofs.FirstLemmas.{placed_within}
 use Rattle.constraint_expand.proofs.MissingLemmas.{at_exit}
+use Rattle.constraint_expand.proofs.FaultLemmas.{early_fault}
 use Rattle.constraint_expand.proofs.ExpandLemmas.{facts_defined}
 use Rattle.constraint_expand.proofs.BookLemmas.{all_covered, all_in_range, fault_of_types, fault_of_instances, book_is}
 use Rattle.constraint_expand.proofs.expansion.expand.Goals as goal
@@ -54,7 +55,7 @@ pub returns-in_err-feats-clause-fault : goal.returns-in_err-feats-clause-fault
 returns-in_err-feats-clause-fault c =
     let e = c.in_err-feats.field-0.0 in
     at_exit (IsFaultOf c.args.types (settled_of c.args.names.now) (map placed_of c.args.statements.now)) c.from_residual.result e c.from_residual.ensures.1
-    c.in_err-feats.ensures.fault
+    (early_fault c.args.types (settled_of c.args.names.now) (map placed_of c.args.statements.now) e c.in_err-feats.ensures.fault)
 
 pub returns-in_err-constraints-clause-fault : goal.returns-in_err-constraints-clause-fault
 returns-in_err-constraints-clause-fault c =

@@ -4,7 +4,7 @@ use Rattle.type_hierarchy.specs.Table.{TypeTable}
 use Rattle.body_facts.specs.Claimed.{WordTable}
 use Rattle.body_facts.specs.Writing.{list_names}
 use Rattle.body_facts.specs.WordTables.{table_of}
-use Rattle.placed_statements.specs.Placings.{placed_of}
+use Rattle.grammar_files.specs.Placings.{placed_of}
 use Rattle.constraint_expand.specs.Statements.{statement_at}
 use Rattle.constraint_expand.specs.Systems.{words_of, instance_claims}
 use Rattle.constraint_expand.specs.Books.{instance_of}

@@ -3,11 +3,10 @@ use Rattle.std.specs.List.{AllZip}
 use Rattle.std.specs.List.Sorted.{IsPermutation}
 use Rattle.type_hierarchy.specs.Decls.{Name, texts}
 use Rattle.type_hierarchy.specs.Table.{count_of, completed_count}
-use Rattle.placed_statements.specs.Placings.{placed_of}
+use Rattle.grammar_files.specs.Placings.{placed_of}
 use Rattle.constraint_expand.specs.Introducers.{numbers_of, IsIntroducer}
 use Rattle.constraint_expand.specs.Systems.{settled_of}
-use Rattle.constraint_expand.specs.Faults.{IsFaultOf}
-use Rattle.constraint_expand.specs.Found.{numbers_noted}
+use Rattle.constraint_expand.specs.Found.{numbers_noted, IsEarlyFault}
 use Rattle.constraint_expand.proofs.MissingLemmas.{at_exit}
 use Rattle.constraint_expand.proofs.FaultLemmas.{fault_unknown, fault_unwritten, keys_noted, keys_defined, keys_fault, feats_noted, feats_introduced, introduced_is}
 use Rattle.constraint_expand.proofs.expansion.introduce.Goals as goal
@@ -49,7 +48,7 @@ returns-in_err-check_names-clause-fault c =
     let s = settled_of c.args.names.now in
     let ps = map placed_of c.args.statements.now in
     let e = c.in_err-check_names.field-0.0 in
-    at_exit (IsFaultOf types s ps) c.from_residual.result e c.from_residual.ensures.1 (fault_unknown types s ps e c.in_err-check_names.ensures.fault)
+    at_exit (IsEarlyFault types s ps) c.from_residual.result e c.from_residual.ensures.1 (fault_unknown types s ps e c.in_err-check_names.ensures.fault)
 
 pub returns-in_err-check_written-clause-fault : goal.returns-in_err-check_written-clause-fault
 returns-in_err-check_written-clause-fault c =
@@ -57,7 +56,7 @@ returns-in_err-check_written-clause-fault c =
     let s = settled_of c.args.names.now in
     let ps = map placed_of c.args.statements.now in
     let e = c.in_err-check_written.field-0.0 in
-    at_exit (IsFaultOf types s ps) c.from_residual-in_err-check_written.result e c.from_residual-in_err-check_written.ensures.1
+    at_exit (IsEarlyFault types s ps) c.from_residual-in_err-check_written.result e c.from_residual-in_err-check_written.ensures.1
     (fault_unwritten types s ps e c.in_ok-check_names.ensures.known c.in_err-check_written.ensures.fault)
 
 pub returns-in_err-check_introducers-clause-fault : goal.returns-in_err-check_introducers-clause-fault
@@ -67,7 +66,7 @@ returns-in_err-check_introducers-clause-fault c =
     let ps = map placed_of c.args.statements.now in
     let le : completed_count types ≤ count_of types = omega arith in
     let e = c.in_err-check_introducers.field-0.0 in
-    at_exit (IsFaultOf types s ps) c.from_residual-in_err-check_introducers.result e c.from_residual-in_err-check_introducers.ensures.1
+    at_exit (IsEarlyFault types s ps) c.from_residual-in_err-check_introducers.result e c.from_residual-in_err-check_introducers.ensures.1
     (keys_fault types s ps c.in_ok-writers.writers.entries (texts c.in_ok-features.features.keys) c.requires le c.in_ok-check_names.ensures.known
     c.in_ok-check_written.ensures.written c.in_ok-writers.ensures c.in_ok-features.ensures e c.in_err-check_introducers.ensures.fault)
 

@@ -2,7 +2,7 @@ use Rattle.std.proofs.Common.{◌≤◌, map, refl, arith}
 use Rattle.type_hierarchy.specs.Decls.{texts}
 use Rattle.type_hierarchy.specs.Table.{count_of, completed_count}
 use Rattle.fs_unify.specs.Systems.{grammar_of}
-use Rattle.placed_statements.specs.Placings.{placed_of}
+use Rattle.grammar_files.specs.Placings.{placed_of}
 use Rattle.constraint_expand.specs.Systems.{settled_of}
 use Rattle.constraint_expand.proofs.ExpandLemmas.{system_is, grammar_in_range, grammar_bare}
 use Rattle.constraint_expand.proofs.expansion.system_with.Goals as goal

@@ -1,7 +1,7 @@
 use Rattle.std.proofs.Common.{◌≡◌, map, subst, IfOk}
 use Rattle.body_facts.specs.Claimed.{WordTable}
 use Rattle.fs_unify.specs.Systems.{rules_of}
-use Rattle.placed_statements.specs.Placings.{placed_of}
+use Rattle.grammar_files.specs.Placings.{placed_of}
 use Rattle.constraint_expand.specs.Systems.{rules_in}
 use Rattle.constraint_expand.proofs.expansion.type_facts.Goals as goal
 

@@ -3,7 +3,7 @@ use Rattle.std.specs.List.{flat_map}
 use Rattle.std.proofs.lemmas.List.{take_all}
 use Rattle.body_facts.specs.Writing.{list_names}
 use Rattle.type_hierarchy.specs.Decls.{texts}
-use Rattle.placed_statements.specs.Placings.{placed_of}
+use Rattle.grammar_files.specs.Placings.{placed_of}
 use Rattle.constraint_expand.specs.Kinds.{picks}
 use Rattle.constraint_expand.specs.Features.{uses_in}
 use Rattle.constraint_expand.specs.Found.{with_each, features_under}

@@ -2,7 +2,7 @@ use Rattle.std.proofs.Common.{◌≡◌, take}
 use Rattle.std.specs.List.{flat_map}
 use Rattle.body_facts.specs.Writing.{list_names}
 use Rattle.type_hierarchy.specs.Decls.{texts}
-use Rattle.placed_statements.specs.Placings.{placed_of}
+use Rattle.grammar_files.specs.Placings.{placed_of}
 use Rattle.constraint_expand.specs.Found.{with_each, features_under}
 use Rattle.constraint_expand.proofs.features.add_kind.Given as goal
 

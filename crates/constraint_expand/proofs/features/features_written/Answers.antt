@@ -1,7 +1,7 @@
 use Rattle.std.proofs.Common.{map, ap}
 use Rattle.body_facts.specs.Writing.{list_names}
 use Rattle.type_hierarchy.specs.Decls.{texts}
-use Rattle.placed_statements.specs.Placings.{placed_of}
+use Rattle.grammar_files.specs.Placings.{placed_of}
 use Rattle.constraint_expand.proofs.FeatureLemmas.{features_both}
 use Rattle.constraint_expand.proofs.features.features_written.Goals as goal
 

@@ -1,6 +1,6 @@
 use Rattle.std.proofs.Common.{map}
 use Rattle.body_facts.specs.Writing.{list_names}
-use Rattle.placed_statements.specs.Placings.{placed_of}
+use Rattle.grammar_files.specs.Placings.{placed_of}
 use Rattle.constraint_expand.specs.Kinds.{picks}
 use Rattle.constraint_expand.specs.Found.{HasNoneBefore, UsesWithout}
 use Rattle.constraint_expand.proofs.missing.check_kind.Given as goal

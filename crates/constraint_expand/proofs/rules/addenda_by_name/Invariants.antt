@@ -2,7 +2,7 @@ use Rattle.std.proofs.Common.{◌≡◌, map}
 use Rattle.std.specs.List.{flat_map, range_with_len}
 use Rattle.type_hierarchy.specs.Decls.{Name}
 use Rattle.constraint_expand.specs.Notes.{noted}
-use Rattle.placed_statements.specs.Placings.{placed_of}
+use Rattle.grammar_files.specs.Placings.{placed_of}
 use Rattle.constraint_expand.specs.Statements.{statement_at}
 use Rattle.constraint_expand.specs.Found.{place_by}
 use Rattle.constraint_expand.proofs.rules.addenda_by_name.Given as goal

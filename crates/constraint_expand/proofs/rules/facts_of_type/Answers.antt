@@ -2,7 +2,7 @@ use Rattle.std.proofs.Common.{◌≤◌, ◌∙◌, ◌++◌, length, map, ap, a
 use Rattle.std.specs.List.{flat_map}
 use Rattle.std.proofs.lemmas.List.{take_all}
 use Rattle.body_facts.specs.WordTables.{table_of}
-use Rattle.placed_statements.specs.Placings.{placed_of}
+use Rattle.grammar_files.specs.Placings.{placed_of}
 use Rattle.constraint_expand.specs.Statements.{statement_at}
 use Rattle.constraint_expand.specs.Systems.{said_by}
 use Rattle.constraint_expand.proofs.rules.facts_of_type.Goals as goal

@@ -1,8 +1,8 @@
 use Rattle.std.proofs.Common.{◌≡◌, ◌++◌, map, take}
 use Rattle.std.specs.List.{flat_map}
-use Rattle.fs_paths.specs.Facts.{claims_of}
+use Rattle.fs_graph.specs.Facts.{claims_of}
 use Rattle.body_facts.specs.WordTables.{table_of}
-use Rattle.placed_statements.specs.Placings.{placed_of}
+use Rattle.grammar_files.specs.Placings.{placed_of}
 use Rattle.constraint_expand.specs.Statements.{statement_at}
 use Rattle.constraint_expand.specs.Systems.{said_by}
 use Rattle.constraint_expand.proofs.rules.facts_of_type.Given as goal

@@ -4,7 +4,7 @@ use Rattle.std.proofs.lemmas.List.{length-map}
 use Rattle.fs_closing.specs.declared.facts.TypeFacts.{TypeFacts}
 use Rattle.body_facts.specs.Numbers.{type_number}
 use Rattle.body_facts.specs.WordTables.{table_of}
-use Rattle.placed_statements.specs.Placings.{placed_of}
+use Rattle.grammar_files.specs.Placings.{placed_of}
 use Rattle.constraint_expand.specs.Statements.{statement_at, defines_type}
 use Rattle.constraint_expand.specs.Systems.{said_by}
 use Rattle.constraint_expand.specs.Found.{addenda_places}

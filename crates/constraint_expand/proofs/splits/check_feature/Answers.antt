@@ -1,5 +1,5 @@
 use Rattle.std.proofs.Common.{map}
-use Rattle.placed_statements.specs.Placings.{placed_of}
+use Rattle.grammar_files.specs.Placings.{placed_of}
 use Rattle.constraint_expand.specs.Notes.{noted}
 use Rattle.constraint_expand.proofs.IntroducerLemmas.{all_writers}
 use Rattle.constraint_expand.proofs.SplitLemmas.{split_noted}

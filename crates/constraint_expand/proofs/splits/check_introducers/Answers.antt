@@ -3,7 +3,7 @@ use Rattle.std.specs.String.{string_bytes}
 use Rattle.std.proofs.lemmas.List.{length-map}
 use Rattle.fs_model.specs.Claims.{Has}
 use Rattle.type_hierarchy.specs.Decls.{texts}
-use Rattle.placed_statements.specs.Placings.{placed_of}
+use Rattle.grammar_files.specs.Placings.{placed_of}
 use Rattle.constraint_expand.specs.Found.{numbers_noted, HasNoted, IsSplitAmong}
 use Rattle.constraint_expand.proofs.ListLemmas.{Has-read, Has-map}
 use Rattle.constraint_expand.proofs.NumberLemmas.{text_at}

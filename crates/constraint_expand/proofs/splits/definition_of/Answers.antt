@@ -1,6 +1,6 @@
 use Rattle.std.proofs.Common.{◌≡◌, ◌<◌, true, length, map, Some, sym, subst, arith}
 use Rattle.type_hierarchy.specs.Named.{type_named}
-use Rattle.placed_statements.specs.Placings.{placed_of}
+use Rattle.grammar_files.specs.Placings.{placed_of}
 use Rattle.constraint_expand.specs.Statements.{defines_type, name_of}
 use Rattle.constraint_expand.proofs.ListLemmas.{true_not_false}
 use Rattle.constraint_expand.proofs.FirstLemmas.{at_placed, none_next}

@@ -1,6 +1,6 @@
 use Rattle.std.proofs.Common.{◌≡◌, map, Some}
 use Rattle.type_hierarchy.specs.Named.{type_named}
-use Rattle.placed_statements.specs.Placings.{placed_of}
+use Rattle.grammar_files.specs.Placings.{placed_of}
 use Rattle.constraint_expand.specs.Statements.{defines_type, name_of}
 use Rattle.constraint_expand.specs.Found.{HasNoneBefore}
 use Rattle.constraint_expand.proofs.splits.definition_of.Given as goal

@@ -1,6 +1,6 @@
 use Rattle.std.proofs.Common.{◌∙◌, map, sym}
 use Rattle.body_facts.specs.WordTables.{table_of}
-use Rattle.placed_statements.specs.Placings.{placed_of}
+use Rattle.grammar_files.specs.Placings.{placed_of}
 use Rattle.constraint_expand.specs.Books.{instance_of}
 use Rattle.constraint_expand.proofs.StructureLemmas.{adds_none}
 use Rattle.constraint_expand.proofs.structures.add_instance.Goals as goal

@@ -1,7 +1,7 @@
 use Rattle.std.proofs.Common.{◌≡◌, ◌<◌, ◌∙◌, map, ap, sym, subst, arith}
 use Rattle.type_hierarchy.specs.Laws.{HasTypeLaws}
 use Rattle.type_hierarchy.specs.Table.{TypeTable, count_of, completed_count}
-use Rattle.placed_statements.specs.Placings.{placed_of}
+use Rattle.grammar_files.specs.Placings.{placed_of}
 use Rattle.constraint_expand.specs.Systems.{constraint_claims}
 use Rattle.constraint_expand.specs.Shaped.{IsAnswerFor}
 use Rattle.constraint_expand.proofs.CoveredLemmas.{first_is_defined}

@@ -2,7 +2,7 @@ use Rattle.std.proofs.Common.{◌≡◌, ◌<◌, ◌≤◌, true, List, length,
 use Rattle.std.specs.List.{AllZip}
 use Rattle.std.proofs.lemmas.List.{length-map}
 use Rattle.body_facts.specs.WordTables.{table_of}
-use Rattle.placed_statements.specs.Placings.{PlacedTree, placed_of}
+use Rattle.grammar_files.specs.Placings.{PlacedTree, placed_of}
 use Rattle.constraint_expand.specs.Statements.{defines_instance}
 use Rattle.constraint_expand.specs.Systems.{instance_claims}
 use Rattle.constraint_expand.specs.Books.{instance_of}

@@ -1,7 +1,7 @@
 use Rattle.std.proofs.Common.{map, take, filter}
 use Rattle.std.specs.List.{AllZip}
 use Rattle.body_facts.specs.WordTables.{table_of}
-use Rattle.placed_statements.specs.Placings.{placed_of}
+use Rattle.grammar_files.specs.Placings.{placed_of}
 use Rattle.constraint_expand.specs.Statements.{defines_instance}
 use Rattle.constraint_expand.specs.Books.{instance_of}
 use Rattle.constraint_expand.specs.Shaped.{IsInstanceBy, HasNoShape}

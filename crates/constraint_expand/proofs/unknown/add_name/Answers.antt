@@ -1,5 +1,5 @@
 use Rattle.std.proofs.Common.{◌∙◌, sym}
-use Rattle.placed_statements.specs.Placings.{placed_of}
+use Rattle.grammar_files.specs.Placings.{placed_of}
 use Rattle.constraint_expand.proofs.DefinedLemmas.{name_added, name_passed}
 use Rattle.constraint_expand.proofs.unknown.add_name.Goals as goal
 

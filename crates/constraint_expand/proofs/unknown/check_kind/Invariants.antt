@@ -1,6 +1,6 @@
 use Rattle.std.proofs.Common.{map}
 use Rattle.body_facts.specs.Writing.{list_names}
-use Rattle.placed_statements.specs.Placings.{placed_of}
+use Rattle.grammar_files.specs.Placings.{placed_of}
 use Rattle.constraint_expand.specs.Kinds.{picks}
 use Rattle.constraint_expand.specs.Unknowns.{NamesUnknown}
 use Rattle.constraint_expand.specs.Found.{HasNoneBefore}

@@ -1,7 +1,7 @@
 use Rattle.std.proofs.Common.{map}
 use Rattle.std.proofs.lemmas.Result.{IfErr-weaker, on_ok_weaker}
 use Rattle.constraint_expand.specs.declared.kinds.Kind.TheVariants.{Instances}
-use Rattle.placed_statements.specs.Placings.{placed_of}
+use Rattle.grammar_files.specs.Placings.{placed_of}
 use Rattle.constraint_expand.specs.Systems.{settled_of}
 use Rattle.constraint_expand.specs.Found.{IsUnknownAmong, IsUnknownFault}
 use Rattle.constraint_expand.proofs.MissingLemmas.{at_exit}

@@ -1,6 +1,6 @@
 use Rattle.std.proofs.Common.{◌<◌, ◌≤◌, ◌∙◌, length, map, ap, arith}
 use Rattle.std.proofs.lemmas.List.{take_all}
-use Rattle.placed_statements.specs.Placings.{placed_of}
+use Rattle.grammar_files.specs.Placings.{placed_of}
 use Rattle.constraint_expand.specs.Unknowns.{is_defined}
 use Rattle.constraint_expand.specs.Found.{has_text_key}
 use Rattle.constraint_expand.proofs.DefinedLemmas.{defined_next}

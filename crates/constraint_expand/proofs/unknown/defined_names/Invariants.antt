@@ -1,6 +1,6 @@
 use Rattle.std.proofs.Common.{◌≡◌, map, take}
 use Rattle.type_hierarchy.specs.Decls.{Name}
-use Rattle.placed_statements.specs.Placings.{placed_of}
+use Rattle.grammar_files.specs.Placings.{placed_of}
 use Rattle.constraint_expand.specs.Unknowns.{is_defined}
 use Rattle.constraint_expand.specs.Found.{has_text_key}
 use Rattle.constraint_expand.proofs.unknown.defined_names.Given as goal

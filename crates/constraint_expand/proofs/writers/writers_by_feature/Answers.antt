@@ -2,7 +2,7 @@ use Rattle.std.proofs.Common.{◌<◌, ◌≤◌, ◌∙◌, [], length, ap, ari
 use Rattle.std.specs.List.{flat_map}
 use Rattle.std.proofs.lemmas.List.{take_all}
 use Rattle.body_facts.specs.Writing.{list_names}
-use Rattle.placed_statements.specs.Placings.{placed_of}
+use Rattle.grammar_files.specs.Placings.{placed_of}
 use Rattle.constraint_expand.specs.Found.{writings_by}
 use Rattle.constraint_expand.proofs.ListLemmas.{push_step}
 use Rattle.constraint_expand.proofs.WriterLemmas.{writers_flat}

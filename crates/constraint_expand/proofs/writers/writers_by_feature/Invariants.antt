@@ -2,7 +2,7 @@ use Rattle.std.proofs.Common.{◌≡◌, take}
 use Rattle.std.specs.List.{flat_map}
 use Rattle.type_hierarchy.specs.Decls.{Name}
 use Rattle.body_facts.specs.Writing.{list_names}
-use Rattle.placed_statements.specs.Placings.{placed_of}
+use Rattle.grammar_files.specs.Placings.{placed_of}
 use Rattle.constraint_expand.specs.Found.{numbers_noted, writings_by}
 use Rattle.constraint_expand.proofs.writers.writers_by_feature.Given as goal
 

@@ -5,7 +5,7 @@ use Rattle.endings.proofs.answering.answer_in_turn.Given as goal
 
 abbrev pub invariant-loop-place : goal.invariant-loop-place
 invariant-loop-place g l = record {
-  given : AreGiven (λ place line a. IsTold (g.C.Answers.IsAnswer l.command) (l.number + place) line.items a) 0 (take l.place l.lines) l.told.items;
+  given : AreGiven (λ place line a. IsTold (g.C.Answers.IsAnswer l.command) (g.C.Answers.IsNote l.command) (l.number + place) line.items a) 0 (take l.place l.lines) l.told.items;
   count : vec_len l.told ≡ l.place;
   room : length l.lines ≤ vec_capacity l.told;
 }

@@ -45,7 +45,7 @@ returns-in_err-put_told-clause-outcome g c =
       lines_of_all number told,
       is_one_refused told,
       is_one_wanting told,
-      given-told answers number 0 number c.args.lines.now told (omega arith) c.in_ok-told.ensures,
+      given-told answers (g.C.Answers.IsNote c.args.command.now) number 0 number c.args.lines.now told (omega arith) c.in_ok-told.ensures,
       flag-any stop before (is_one_wanting told) later flag,
       put-as (Unit {0}) (concat (lines_of_all number told)) (written c.args.out.now) (written c.put_told.new.out) (faults c.args.out.now) (faults c.put_told.new.out) stop put,
     ))
@@ -61,5 +61,5 @@ returns-clause-outcome g c =
     let before = c.args.kept.now.wanting in
     let flag = c.either-kept.ensures ∙ ap (λ b. before || b) (c.is_one_wanting.ensures ∙ ap is_one_wanting c.deref-2.ensures.value) in
     let put = subst (λ t. IsToldPut {X = Unit {0}} (concat (lines_of_all number t)) (written c.args.out.now) (written c.put_told.new.out) (faults c.args.out.now) (faults c.put_told.new.out) (Ok (tt {0}))) c.deref-3.ensures.value c.in_ok-put_told.ensures.put in
-    let are = given-told answers number 0 number c.args.lines.now told (omega arith) c.in_ok-told.ensures in
+    let are = given-told answers (g.C.Answers.IsNote c.args.command.now) number 0 number c.args.lines.now told (omega arith) c.in_ok-told.ensures in
     (lines_of_all number told, is_one_wanting told, subst (λ r. AreTold answers number lines (lines_of_all number told) r (is_one_wanting told)) (sym (c.is_one_refused.ensures ∙ ap is_one_refused c.deref-4.ensures.value)) are, flag, put)

@@ -1,8 +1,10 @@
-use Rattle.std.proofs.Common.{◌∙◌, sym, ap, refl, subst, [], Ok, Err, map, length, ◌||◌, arith}
+use Rattle.std.proofs.Common.{◌∙◌, sym, ap, refl, subst, List, [], Option, Ok, Err, map, length, ◌||◌, arith}
 use Rattle.std.proofs.lemmas.Result.{err_from_is_err_and}
 use Rattle.std.specs.List.{concat}
 use Rattle.lkb_io.proofs.Told.{Adds-none}
-use Rattle.endings.specs.Inner.Batches.{ServedBatch, IsToldPut, AreTold, lines_of_all, is_one_refused, is_one_wanting}
+use Rattle.endings.specs.declared.lines.Answer.{Answer}
+use Rattle.endings.specs.Inner.Batches.{ServedBatch, IsToldPut, AreTold, lines_of_all, notes_of_all, is_one_refused, is_one_wanting, TellsMore}
+use Rattle.endings.proofs.NoteLemmas.{notes-given}
 use Rattle.endings.proofs.ToldLines.{given-told, given-length, gaps-only, flag-any, put-as}
 use Rattle.endings.proofs.lines.serve_batch.Goals as goal
 
@@ -45,7 +47,7 @@ returns-in_err-put_told-clause-outcome g c =
       lines_of_all number told,
       is_one_refused told,
       is_one_wanting told,
-      given-told answers number 0 number c.args.lines.now told (omega arith) c.in_ok-told.ensures,
+      given-told answers (g.C.Answers.IsNote c.args.command.now) number 0 number c.args.lines.now told (omega arith) c.in_ok-told.ensures,
       flag-any stop before (is_one_wanting told) later flag,
       put-as (Unit {0}) (concat (lines_of_all number told)) (written c.args.out.now) (written c.put_told.new.out) (faults c.args.out.now) (faults c.put_told.new.out) stop put,
     ))
@@ -61,5 +63,15 @@ returns-clause-outcome g c =
     let before = c.args.kept.now.wanting in
     let flag = c.either-kept.ensures ∙ ap (λ b. before || b) (c.is_one_wanting.ensures ∙ ap is_one_wanting c.deref-2.ensures.value) in
     let put = subst (λ t. IsToldPut {X = Unit {0}} (concat (lines_of_all number t)) (written c.args.out.now) (written c.put_told.new.out) (faults c.args.out.now) (faults c.put_told.new.out) (Ok (tt {0}))) c.deref-3.ensures.value c.in_ok-put_told.ensures.put in
-    let are = given-told answers number 0 number c.args.lines.now told (omega arith) c.in_ok-told.ensures in
-    (lines_of_all number told, is_one_wanting told, subst (λ r. AreTold answers number lines (lines_of_all number told) r (is_one_wanting told)) (sym (c.is_one_refused.ensures ∙ ap is_one_refused c.deref-4.ensures.value)) are, flag, put)
+    let are = given-told answers (g.C.Answers.IsNote c.args.command.now) number 0 number c.args.lines.now told (omega arith) c.in_ok-told.ensures in
+    (lines_of_all number told, is_one_wanting told, subst (λ r. AreTold answers number lines (lines_of_all number told) r (is_one_wanting told)) (sym (c.is_one_refused.ensures ∙ ap is_one_refused c.deref-5.ensures.value)) are, flag, put)
+
+pub returns-clause-noted : goal.returns-clause-noted
+returns-clause-noted g c =
+    let told = c.in_ok-told.told.items in
+    let before = c.args.kept.now.wanting in
+    let flag = c.either-kept.ensures ∙ ap (λ b. before || b) (c.is_one_wanting.ensures ∙ ap is_one_wanting c.deref-2.ensures.value) in
+    let written = g.X.Sink.written in
+    let faults = g.X.Sink.faults in
+    let more = λ (ts : List (Option Answer)). TellsMore c.args.kept.now.failed c.put_notes.new.failed (written c.args.err.now) (written c.put_notes.new.err) (faults c.args.err.now) (faults c.put_notes.new.err) (notes_of_all ts) in
+    (notes_of_all told, notes-given (g.C.Answers.IsNote c.args.command.now) (g.C.Answers.IsAnswer c.args.command.now) c.args.number c.args.lines.now told c.in_ok-told.ensures before c.either-kept.result flag, subst more c.deref-4.ensures.value c.put_notes.ensures)

@@ -1,4 +1,4 @@
-use Rattle.std.proofs.Common.{arith, ◌+◌, ◌++◌, ◌∙◌, sym, ap, refl, subst, ◌≡◌, Result, Ok, Err, length, length-append, map, List, [], ℕ, Bool, false, inr, ◌||◌, IfOk}
+use Rattle.std.proofs.Common.{arith, ◌+◌, ◌++◌, ◌∙◌, sym, ap, refl, subst, ◌≡◌, Result, Ok, Err, length, length-append, map, List, [], ℕ, Bool, false, inr, ◌||◌, IfOk, Option}
 use Rattle.std.proofs.lemmas.Result.{err_from_is_err_and}
 use Rattle.std.specs.List.{concat}
 use Rattle.std.proofs.lemmas.List.{length-map}
@@ -10,11 +10,13 @@ use Rattle.endings.specs.Readings.{ReadsSoFar}
 use Rattle.endings.specs.Stops.{stop_of}
 use Rattle.endings.specs.declared.Stop.{Stop}
 use Rattle.endings.specs.Reports.{Streams, streams}
-use Rattle.endings.specs.Inner.Batches.{Gathered, AreTold, none_told, ServedBatch, IsFlag, Ends, Told}
+use Rattle.endings.specs.Inner.Batches.{Gathered, AreTold, none_told, ServedBatch, IsFlag, Ends, Told, IsNotedSoFar, TellsMore, EndNotes}
+use Rattle.endings.specs.Notes.{AreNotes, no_line_noted, OrNone}
 use Rattle.endings.proofs.Reading.{so_far-either, so_far-none}
 use Rattle.endings.proofs.Flushing.{Adds-same}
 use Rattle.endings.proofs.Exits.{at-nothing}
 use Rattle.endings.proofs.ToldLines.{AreTold-append}
+use Rattle.endings.proofs.NoteLemmas.{notes-raised, so-far-none, noted-more, stopped-noted, fault-noted}
 use Rattle.endings.proofs.Batching.{gathered-some, at-batch, at-read}
 use Rattle.endings.proofs.lines.serve_lines.Goals as goal
 use Rattle.endings.proofs.lines.serve_lines.Goals.{then-refused, else-refused}
@@ -34,13 +36,13 @@ stopped answers o later NoMemory s = (later, cc, s)
 
 pub loop-count-init : goal.loop-count-init
 loop-count-init g c = record {
-  read = ([], [], so_far-none (g.I.Source.left c.args.input.now) c.new-held.result c.new-held.ensures, subst (λ w. AreTold (g.C.Answers.IsAnswer c.args.command.now) 1 [] [] false w) (sym c.requires.none_yet) (none_told 1), Adds-none (g.O.Sink.written c.args.out.now), refl);
+  read = ([], [], so_far-none (g.I.Source.left c.args.input.now) c.new-held.result c.new-held.ensures, subst (λ w. AreTold (g.C.Answers.IsAnswer c.args.command.now) 1 [] [] false w) (sym c.requires.none_yet) (none_told 1), Adds-none (g.O.Sink.written c.args.out.now), refl, [], no_line_noted 1, so-far-none (g.X.Sink.written c.args.err.now) (g.X.Sink.faults c.args.err.now) c.args.kept.now.failed c.requires.calm);
   no_fall_in = omega arith;
   no_fall_out = omega arith;
 }
 
-pub returns-in_err-flush_before_read : goal.returns-in_err-flush_before_read
-returns-in_err-flush_before_read g c =
+pub returns-in_err-flush_before_read-clause-ends : goal.returns-in_err-flush_before_read-clause-ends
+returns-in_err-flush_before_read-clause-ends g c =
     let p = err_from_is_err_and c.from_residual.result c.from_residual.ensures.1 in
     let o : Streams = streams g.I.Source.left g.I.Source.faults g.O.Sink.written g.O.Sink.flushed g.O.Sink.faults c.args.input.now c.loop-count.input c.args.out.now c.flush_before_read.new.out in
     let answers = g.C.Answers.IsAnswer c.args.command.now in
@@ -52,8 +54,8 @@ returns-in_err-flush_before_read g c =
     let s : Ends (Told answers w) o (Err Write) = (at-nothing (Told answers w) o (g.O.Sink.written c.loop-count.out) held.bytes r.0 r.1 c.loop-count.refused (so_far-either o.left_old o.left_new held.bytes held.ended r.0 r.2) r.3 r.4 c.in_err-flush_before_read.ensures.same, omega (arith, risen, below)) in
     subst (Ended answers o w) (sym (p.1 ∙ ap Err p.2)) (stopped answers o w Write s)
 
-pub returns-in_err-batch_refused : goal.returns-in_err-batch_refused
-returns-in_err-batch_refused g c =
+pub returns-in_err-batch_refused-clause-ends : goal.returns-in_err-batch_refused-clause-ends
+returns-in_err-batch_refused-clause-ends g c =
     let w4 = Adds-same (g.O.Sink.written c.args.out.now) (g.O.Sink.written c.loop-count.out) (g.O.Sink.written c.flush_before_read.new.out) (concat c.loop-count.invariant.read.1) c.loop-count.invariant.read.4 c.in_ok-flush_before_read.ensures.same in
     let fb = c.in_ok-flush_before_read.ensures.no_fall in
     let left = g.I.Source.left in
@@ -73,8 +75,8 @@ returns-in_err-batch_refused g c =
     let s = at-batch answers o (written c.flush_before_read.new.out) (g.O.Sink.faults c.flush_before_read.new.out) stop batch r.0 r.1 c.loop-count.refused c.loop-count.kept.wanting c.loop-count.kept.wanting c.serve_batch.new.kept.wanting (c.loop-count.count + 1) some r.3 refl w4 served number (let below = c.loop-count.invariant.no_fall_out in omega (arith, below, fb)) in
     subst (Ended answers o c.serve_batch.new.kept.wanting) (sym p.1) (subst (λ e. Ended answers o c.serve_batch.new.kept.wanting (Err e)) (sym p.2) s)
 
-pub returns-in_err-came : goal.returns-in_err-came
-returns-in_err-came g c =
+pub returns-in_err-came-clause-ends : goal.returns-in_err-came-clause-ends
+returns-in_err-came-clause-ends g c =
     let w4 = Adds-same (g.O.Sink.written c.args.out.now) (g.O.Sink.written c.loop-count.out) (g.O.Sink.written c.flush_before_read.new.out) (concat c.loop-count.invariant.read.1) c.loop-count.invariant.read.4 c.in_ok-flush_before_read.ensures.same in
     let left = g.I.Source.left in
     let faults = g.I.Source.faults in
@@ -97,8 +99,8 @@ returns-in_err-came g c =
     let s = at-read ℕ (Told answers w) o (faults c.loop-count.input) c.read_batch-read.new.held fault (r.0 ++ batch) (r.1 ++ served.0) (c.loop-count.refused || b) gathered report adds c.loop-count.invariant.no_fall_in in
     subst (Ended answers o w) (sym (p.1 ∙ ap Err p.2)) (stopped answers o w (stop_of fault) s)
 
-pub returns-in_err-flush : goal.returns-in_err-flush
-returns-in_err-flush g c =
+pub returns-in_err-flush-clause-ends : goal.returns-in_err-flush-clause-ends
+returns-in_err-flush-clause-ends g c =
     let w4 = Adds-same (g.O.Sink.written c.args.out.now) (g.O.Sink.written c.loop-count.out) (g.O.Sink.written c.flush_before_read.new.out) (concat c.loop-count.invariant.read.1) c.loop-count.invariant.read.4 c.in_ok-flush_before_read.ensures.same in
     let fb = c.in_ok-flush_before_read.ensures.no_fall in
     let fs = c.in_ok-batch_refused.ensures.no_fall in
@@ -127,8 +129,8 @@ returns-in_err-flush g c =
     let s : Ends (Told answers w) o (Err Write) = (at-nothing (Told answers w) o (written c.serve_batch.new.out) [] (r.0 ++ batch) (r.1 ++ served.0) (c.loop-count.refused || b) (inr all) report adds c.in_err-flush.ensures.same, omega (arith, risen, below, fb, fs)) in
     subst (Ended answers o w) (sym (p.1 ∙ ap Err p.2)) (stopped answers o w Write s)
 
-pub returns-then-came-eq0 : goal.returns-then-came-eq0
-returns-then-came-eq0 g c =
+pub returns-then-came-eq0-clause-ends : goal.returns-then-came-eq0-clause-ends
+returns-then-came-eq0-clause-ends g c =
     let w4 = Adds-same (g.O.Sink.written c.args.out.now) (g.O.Sink.written c.loop-count.out) (g.O.Sink.written c.flush_before_read.new.out) (concat c.loop-count.invariant.read.1) c.loop-count.invariant.read.4 c.in_ok-flush_before_read.ensures.same in
     let left = g.I.Source.left in
     let faults = g.I.Source.faults in
@@ -188,6 +190,12 @@ loop-count-preserved g c =
     let w = c.serve_batch.new.kept.wanting in
     let report = subst (AreTold answers 1 (r.0 ++ batch) (r.1 ++ served.0) (c.loop-count.refused || b)) (sym served.3) (AreTold-append answers 1 r.0 r.1 c.loop-count.refused c.loop-count.kept.wanting (c.loop-count.count + 1) batch served.0 b served.1 r.3 number served.2) in
     let adds = subst (Adds (written c.args.out.now) (written c.serve_batch.new.out)) (sym (concat-append r.1 served.0)) (Adds-more (written c.args.out.now) (written c.flush_before_read.new.out) (written c.serve_batch.new.out) (concat r.1) (concat served.0) w4 served.4) in
+    let notes = g.C.Answers.IsNote c.args.command.now in
+    let own = subst (λ l. (text : List ℕ) × AreNotes (OrNone w notes) (c.loop-count.count + 1) (map (λ l. l.items) l) text
+    × TellsMore c.loop-count.kept.failed c.serve_batch.new.kept.failed (g.X.Sink.written c.loop-count.err) (g.X.Sink.written c.serve_batch.new.err) (g.X.Sink.faults c.loop-count.err) (g.X.Sink.faults c.serve_batch.new.err) text)
+    c.deref.ensures.value c.in_ok-batch_refused.ensures.noted in
+    let more = noted-more notes c.loop-count.kept.wanting w c.in_ok-batch_refused.ensures.held (g.X.Sink.written c.args.err.now) (g.X.Sink.written c.loop-count.err) (g.X.Sink.written c.serve_batch.new.err)
+    (g.X.Sink.faults c.args.err.now) (g.X.Sink.faults c.loop-count.err) (g.X.Sink.faults c.serve_batch.new.err) c.loop-count.kept.failed c.serve_batch.new.kept.failed r.0 r.6 (c.loop-count.count + 1) batch own.0 r.7 r.8 own.1 number own.2 in
     let either : c.if-refused.refused ≡ (c.loop-count.refused || b) = elim c.if-refused.branch [
       | then-refused w ↦ w.refused-is ∙ w.if-refused.true ∙ sym (ap (λ a. a || b) w.if-refused.true)
       | else-refused w ↦ w.refused-is ∙ sym (ap (λ a. a || b) w.if-refused.false)
@@ -207,15 +215,127 @@ loop-count-preserved g c =
         subst (λ b. AreTold answers 1 (r.0 ++ batch) (r.1 ++ served.0) b w) (sym either) report,
         adds,
         omega (arith, len, same, count, n),
+        r.6 ++ own.0,
+        more.0,
+        more.1,
       );
       no_fall_in = omega (arith, ni, mi);
       no_fall_out = omega (arith, no, mo, fb);
     }
 
-pub returns : goal.returns
-returns g c =
+pub returns-clause-ends : goal.returns-clause-ends
+returns-clause-ends g c =
     let r = c.loop-count.invariant.read in
     let held = c.loop-count.held in
     let t = c.loop-count-test.false in
     let n = r.5 in
     (c.loop-count.kept.wanting, refl, record { lines = r.0; part = held.bytes; pieces = r.1; refused = c.loop-count.refused; reads = so_far-either (g.I.Source.left c.args.input.now) (g.I.Source.left c.loop-count.input) held.bytes held.ended r.0 r.2; report = r.3; writes = r.4; many = omega (arith, t, n) })
+
+-- ---- the notes
+
+abbrev NotedTo : (notes : ℕ → List ℕ → List ℕ → Type 0) → Bool → (old new : Option (List ℕ)) → Bool → (written_old written_new : Option (List ℕ)) → (faults_old faults_new : ℕ) → Result Bool Stop → Type 0
+NotedTo notes w old new failed written_old written_new faults_old faults_new end =
+    (text : List ℕ) × EndNotes (AreNotes (OrNone w notes) 1) old new text end × IsNotedSoFar failed written_old written_new faults_old faults_new text
+
+pub returns-in_err-flush_before_read-clause-noted : goal.returns-in_err-flush_before_read-clause-noted
+returns-in_err-flush_before_read-clause-noted g c =
+    let notes = g.C.Answers.IsNote c.args.command.now in
+    let r = c.loop-count.invariant.read in
+    let held = c.loop-count.held in
+    let p = err_from_is_err_and c.from_residual.result c.from_residual.ensures.1 in
+    subst (NotedTo notes c.loop-count.kept.wanting (g.I.Source.left c.args.input.now) (g.I.Source.left c.loop-count.input) c.loop-count.kept.failed (g.X.Sink.written c.args.err.now) (g.X.Sink.written c.loop-count.err) (g.X.Sink.faults c.args.err.now) (g.X.Sink.faults c.loop-count.err))
+    (sym (p.1 ∙ ap Err p.2)) (r.6, (r.0, held.bytes, so_far-either (g.I.Source.left c.args.input.now) (g.I.Source.left c.loop-count.input) held.bytes held.ended r.0 r.2, r.7), r.8)
+
+pub returns-in_err-batch_refused-clause-noted : goal.returns-in_err-batch_refused-clause-noted
+returns-in_err-batch_refused-clause-noted g c =
+    let notes = g.C.Answers.IsNote c.args.command.now in
+    let r = c.loop-count.invariant.read in
+    let held = c.loop-count.held in
+    let w = c.serve_batch.new.kept.wanting in
+    let old = g.I.Source.left c.args.input.now in
+    let new = g.I.Source.left c.read_batch-read.new.input in
+    let read = c.read_batch-read.ensures.before old r.0 (held.bytes, so_far-either old (g.I.Source.left c.loop-count.input) held.bytes held.ended r.0 r.2) in
+    let stop = c.in_err-batch_refused.field-0.0 in
+    let same = c.in_err-batch_refused.ensures.unnoted in
+    let are = notes-raised c.loop-count.kept.wanting w c.in_err-batch_refused.ensures.held notes 1 r.0 r.6 r.7 in
+    let told = subst (λ f. IsNotedSoFar f (g.X.Sink.written c.args.err.now) (g.X.Sink.written c.serve_batch.new.err) (g.X.Sink.faults c.args.err.now) (g.X.Sink.faults c.serve_batch.new.err) r.6) (sym same.1)
+    (subst (λ e. IsNotedSoFar c.loop-count.kept.failed (g.X.Sink.written c.args.err.now) (g.X.Sink.written e) (g.X.Sink.faults c.args.err.now) (g.X.Sink.faults e) r.6) (sym same.0) r.8) in
+    let p = err_from_is_err_and c.from_residual-in_err-batch_refused.result c.from_residual-in_err-batch_refused.ensures.1 in
+    let noted = NotedTo notes w old new c.serve_batch.new.kept.failed (g.X.Sink.written c.args.err.now) (g.X.Sink.written c.serve_batch.new.err) (g.X.Sink.faults c.args.err.now) (g.X.Sink.faults c.serve_batch.new.err) in
+    subst noted (sym p.1) (subst (λ e. noted (Err e)) (sym p.2) (r.6, stopped-noted (AreNotes (OrNone w notes) 1) (g.C.Answers.IsAnswer c.args.command.now) (c.loop-count.count + 1) (map (λ l. l.items) c.deref.result.now) (g.O.Sink.written c.flush_before_read.new.out) (g.O.Sink.written c.serve_batch.new.out) (g.O.Sink.faults c.flush_before_read.new.out) (g.O.Sink.faults c.serve_batch.new.out) c.loop-count.kept.wanting w stop c.in_err-batch_refused.ensures.outcome old new r.0 r.6 read are, told))
+
+pub returns-in_err-came-clause-noted : goal.returns-in_err-came-clause-noted
+returns-in_err-came-clause-noted g c =
+    let notes = g.C.Answers.IsNote c.args.command.now in
+    let r = c.loop-count.invariant.read in
+    let batch = map (λ l. l.items) c.read_batch-read.new.lines.items in
+    let w = c.serve_batch.new.kept.wanting in
+    let n = r.5 in
+    let number : c.loop-count.count + 1 ≡ 1 + length r.0 = omega (arith, n) in
+    let own = subst (λ l. (text : List ℕ) × AreNotes (OrNone w notes) (c.loop-count.count + 1) (map (λ l. l.items) l) text
+    × TellsMore c.loop-count.kept.failed c.serve_batch.new.kept.failed (g.X.Sink.written c.loop-count.err) (g.X.Sink.written c.serve_batch.new.err) (g.X.Sink.faults c.loop-count.err) (g.X.Sink.faults c.serve_batch.new.err) text)
+    c.deref.ensures.value c.in_ok-batch_refused.ensures.noted in
+    let more = noted-more notes c.loop-count.kept.wanting w c.in_ok-batch_refused.ensures.held (g.X.Sink.written c.args.err.now) (g.X.Sink.written c.loop-count.err) (g.X.Sink.written c.serve_batch.new.err)
+    (g.X.Sink.faults c.args.err.now) (g.X.Sink.faults c.loop-count.err) (g.X.Sink.faults c.serve_batch.new.err) c.loop-count.kept.failed c.serve_batch.new.kept.failed r.0 r.6 (c.loop-count.count + 1) batch own.0 r.7 r.8 own.1 number own.2 in
+    let left = g.I.Source.left in
+    let faults = g.I.Source.faults in
+    let old = left c.args.input.now in
+    let new = left c.read_batch-read.new.input in
+    let fault = c.in_err-came.field-0.0 in
+    let gathered = subst (Gathered old new (faults c.loop-count.input) (faults c.read_batch-read.new.input) c.read_batch-read.new.held (r.0 ++ batch)) c.in_err-came.was (c.read_batch-read.ensures.gathered old r.0 r.2) in
+    let p = err_from_is_err_and c.from_residual-in_err-came.result c.from_residual-in_err-came.ensures.1 in
+    subst (NotedTo notes w old new c.serve_batch.new.kept.failed (g.X.Sink.written c.args.err.now) (g.X.Sink.written c.serve_batch.new.err) (g.X.Sink.faults c.args.err.now) (g.X.Sink.faults c.serve_batch.new.err)) (sym (p.1 ∙ ap Err p.2))
+    (r.6 ++ own.0, fault-noted ℕ (AreNotes (OrNone w notes) 1) old new (faults c.loop-count.input) (faults c.read_batch-read.new.input) c.read_batch-read.new.held (r.0 ++ batch) (r.6 ++ own.0) fault gathered more.0, more.1)
+
+pub returns-in_err-flush-clause-noted : goal.returns-in_err-flush-clause-noted
+returns-in_err-flush-clause-noted g c =
+    let notes = g.C.Answers.IsNote c.args.command.now in
+    let r = c.loop-count.invariant.read in
+    let batch = map (λ l. l.items) c.read_batch-read.new.lines.items in
+    let w = c.serve_batch.new.kept.wanting in
+    let n = r.5 in
+    let number : c.loop-count.count + 1 ≡ 1 + length r.0 = omega (arith, n) in
+    let own = subst (λ l. (text : List ℕ) × AreNotes (OrNone w notes) (c.loop-count.count + 1) (map (λ l. l.items) l) text
+    × TellsMore c.loop-count.kept.failed c.serve_batch.new.kept.failed (g.X.Sink.written c.loop-count.err) (g.X.Sink.written c.serve_batch.new.err) (g.X.Sink.faults c.loop-count.err) (g.X.Sink.faults c.serve_batch.new.err) text)
+    c.deref.ensures.value c.in_ok-batch_refused.ensures.noted in
+    let more = noted-more notes c.loop-count.kept.wanting w c.in_ok-batch_refused.ensures.held (g.X.Sink.written c.args.err.now) (g.X.Sink.written c.loop-count.err) (g.X.Sink.written c.serve_batch.new.err)
+    (g.X.Sink.faults c.args.err.now) (g.X.Sink.faults c.loop-count.err) (g.X.Sink.faults c.serve_batch.new.err) c.loop-count.kept.failed c.serve_batch.new.kept.failed r.0 r.6 (c.loop-count.count + 1) batch own.0 r.7 r.8 own.1 number own.2 in
+    let left = g.I.Source.left in
+    let faults = g.I.Source.faults in
+    let old = left c.args.input.now in
+    let new = left c.read_batch-read.new.input in
+    let gathered = subst (Gathered old new (faults c.loop-count.input) (faults c.read_batch-read.new.input) c.read_batch-read.new.held (r.0 ++ batch)) c.in_ok-came.was (c.read_batch-read.ensures.gathered old r.0 r.2) in
+    let p = err_from_is_err_and c.from_residual-in_err-flush.result c.from_residual-in_err-flush.ensures.1 in
+    subst (NotedTo notes w old new c.serve_batch.new.kept.failed (g.X.Sink.written c.args.err.now) (g.X.Sink.written c.serve_batch.new.err) (g.X.Sink.faults c.args.err.now) (g.X.Sink.faults c.serve_batch.new.err)) (sym (p.1 ∙ ap Err p.2))
+    (r.6 ++ own.0, (r.0 ++ batch, c.read_batch-read.new.held.bytes, so_far-either old new c.read_batch-read.new.held.bytes c.read_batch-read.new.held.ended (r.0 ++ batch) gathered, more.0), more.1)
+
+pub returns-then-came-eq0-clause-noted : goal.returns-then-came-eq0-clause-noted
+returns-then-came-eq0-clause-noted g c =
+    let notes = g.C.Answers.IsNote c.args.command.now in
+    let r = c.loop-count.invariant.read in
+    let batch = map (λ l. l.items) c.read_batch-read.new.lines.items in
+    let w = c.serve_batch.new.kept.wanting in
+    let n = r.5 in
+    let number : c.loop-count.count + 1 ≡ 1 + length r.0 = omega (arith, n) in
+    let own = subst (λ l. (text : List ℕ) × AreNotes (OrNone w notes) (c.loop-count.count + 1) (map (λ l. l.items) l) text
+    × TellsMore c.loop-count.kept.failed c.serve_batch.new.kept.failed (g.X.Sink.written c.loop-count.err) (g.X.Sink.written c.serve_batch.new.err) (g.X.Sink.faults c.loop-count.err) (g.X.Sink.faults c.serve_batch.new.err) text)
+    c.deref.ensures.value c.in_ok-batch_refused.ensures.noted in
+    let more = noted-more notes c.loop-count.kept.wanting w c.in_ok-batch_refused.ensures.held (g.X.Sink.written c.args.err.now) (g.X.Sink.written c.loop-count.err) (g.X.Sink.written c.serve_batch.new.err)
+    (g.X.Sink.faults c.args.err.now) (g.X.Sink.faults c.loop-count.err) (g.X.Sink.faults c.serve_batch.new.err) c.loop-count.kept.failed c.serve_batch.new.kept.failed r.0 r.6 (c.loop-count.count + 1) batch own.0 r.7 r.8 own.1 number own.2 in
+    let left = g.I.Source.left in
+    let faults = g.I.Source.faults in
+    let old = left c.args.input.now in
+    let new = left c.read_batch-read.new.input in
+    let gathered = subst (Gathered old new (faults c.loop-count.input) (faults c.read_batch-read.new.input) c.read_batch-read.new.held (r.0 ++ batch)) c.in_ok-came.was (c.read_batch-read.ensures.gathered old r.0 r.2) in
+    let none : c.in_ok-came.came ≡ 0 = omega arith in
+    let ended = c.read_batch-read.ensures.end (c.in_ok-came.was ∙ ap Ok none) in
+    let all = subst (λ e. ReadsSoFar old new c.read_batch-read.new.held.bytes e (r.0 ++ batch)) ended gathered in
+    (r.6 ++ own.0, (r.0 ++ batch, all, more.0), more.1)
+
+pub returns-clause-noted : goal.returns-clause-noted
+returns-clause-noted g c =
+    let r = c.loop-count.invariant.read in
+    let held = c.loop-count.held in
+    let t = c.loop-count-test.false in
+    let n = r.5 in
+    (r.6, (r.0, held.bytes, so_far-either (g.I.Source.left c.args.input.now) (g.I.Source.left c.loop-count.input) held.bytes held.ended r.0 r.2, omega (arith, t, n), r.7), r.8)

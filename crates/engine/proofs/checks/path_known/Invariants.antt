@@ -1,5 +1,5 @@
 use Rattle.std.proofs.Common.{◌≡◌, map, drop, option_map}
-use Rattle.fs_paths.specs.Facts.{path_of}
+use Rattle.fs_graph.specs.Facts.{path_of}
 use Rattle.engine.specs.Checks.{path_known}
 use Rattle.engine.proofs.CheckLemmas.{after}
 use Rattle.engine.proofs.checks.path_known.Given as goal

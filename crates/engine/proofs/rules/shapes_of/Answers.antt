@@ -4,7 +4,7 @@ use Rattle.fs_graph.specs.GraphMap.{reader_of}
 use Rattle.fs_unify.specs.Entering.{IsWellFormed}
 use Rattle.fs_unify.specs.Rules.{Grammar, system_of}
 use Rattle.fs_trim.specs.Cutting.{cut_of}
-use Rattle.item_model.specs.Signs.{rule_system, placed_rules}
+use Rattle.tree_model.specs.Signs.{rule_system, placed_rules}
 use Rattle.book_signs.specs.Trees.{signs_of, rule_at}
 use Rattle.grammar_shapes.specs.Ruled.{rule_of, paths_in, IsRuleIn, AreClosed, system_in}
 use Rattle.engine.specs.Inner.Ruled.{IsPhraseRuleAt}

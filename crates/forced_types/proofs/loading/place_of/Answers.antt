@@ -1,7 +1,7 @@
 use Rattle.std.proofs.Common.{[], sym}
 use Rattle.std.proofs.lemmas.List.{get_or-map}
 use Rattle.fs_closing.proofs.HasLemmas.{Has-at}
-use Rattle.fs_paths.specs.Facts.{path_of}
+use Rattle.fs_graph.specs.Facts.{path_of}
 use Rattle.forced_types.specs.declared.placed.PlacedGraph.{PlacedGraph}
 use Rattle.forced_types.proofs.loading.place_of.Goals as goal
 

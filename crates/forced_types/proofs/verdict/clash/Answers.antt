@@ -1,7 +1,7 @@
 use Rattle.std.proofs.Common.{◌≡◌, Some, arith, sym, subst, ap, ◌∙◌}
 use Rattle.type_hierarchy.specs.Laws.{HasTypeLaws}
 use Rattle.fs_model.specs.Claims.{Has}
-use Rattle.fs_paths.specs.Facts.{path_of}
+use Rattle.fs_graph.specs.Facts.{path_of}
 use Rattle.forced_types.specs.Inner.Closed.{walk_in}
 use Rattle.forced_types.specs.Inner.Apart.{IsLeastApart}
 use Rattle.forced_types.proofs.SoundLemmas.{entry_count}

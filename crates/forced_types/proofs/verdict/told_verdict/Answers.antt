@@ -1,6 +1,6 @@
 use Rattle.std.proofs.Common.{◌≡◌, arith, sym, subst, ap, ◌∙◌}
 use Rattle.type_hierarchy.specs.Laws.{HasTypeLaws}
-use Rattle.fs_paths.specs.Facts.{path_of}
+use Rattle.fs_graph.specs.Facts.{path_of}
 use Rattle.forced_types.specs.declared.search.Aim.TheVariants.{Clash as ClashAim, Long as LongAim}
 use Rattle.forced_types.specs.Inner.Sound.{entry_in}
 use Rattle.forced_types.specs.Inner.Search.{AreMarked, mark_at}

@@ -1,5 +1,5 @@
 use Rattle.std.proofs.Common.{ap, sym, ◌∙◌, map, []}
-use Rattle.cover.specs.Tuples.{on_list}
+use Rattle.chart_model.specs.Tuples.{on_list}
 use Rattle.forest_unpack.specs.Plans.{row_of}
 use Rattle.forest_unpack.proofs.Grouping.{gains_put, gains_nothing}
 use Rattle.forest_unpack.proofs.groups.add_told.Goals as goal

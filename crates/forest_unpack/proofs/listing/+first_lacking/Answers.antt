@@ -1,6 +1,6 @@
 use Rattle.std.proofs.Common.{rules, ◌≡◌, ◌<◌, ◌+◌, ◌∷◌, arith, length}
 use Rattle.std.specs.Prelude.{ℕ}
-use Rattle.forest_model.specs.Lists as model
+use Rattle.tree_model.specs.Lists as model
 use Rattle.forest_unpack.proofs.Waiting.{first_low, rest_low, first_lacks, rest_lacks}
 use Rattle.forest_unpack.proofs.listing.+first_lacking.Goals as goal
 

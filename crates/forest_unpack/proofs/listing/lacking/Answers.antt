@@ -1,6 +1,6 @@
 use Rattle.std.proofs.Common.{ap, sym, subst, ◌∙◌}
 use Rattle.std.specs.Prelude.{MatchOption}
-use Rattle.forest_model.specs.Lists as model
+use Rattle.tree_model.specs.Lists as model
 use Rattle.forest_unpack.specs.Items.{AllListed}
 use Rattle.forest_unpack.specs.Plans.{row_of}
 use Rattle.forest_unpack.specs.Inner.Making.{daughters_in, IsLacked}

@@ -1,7 +1,7 @@
 use Rattle.std.proofs.Common.{◌<◌, map, rules, subst}
 use Rattle.chart_core.specs.CoreView.{chart_of, leaves_of, limits_of}
 use Rattle.chart_core.specs.Kept.{core_of, rows_in}
-use Rattle.forest_counts.specs.Counts as counts
+use Rattle.tree_model.specs.Counts as counts
 use Rattle.forest_unpack.specs.Keeping.{asked_of, cover_in, host_in}
 use Rattle.forest_unpack.specs.Inner.Classes.{classes_at}
 use Rattle.forest_unpack.proofs.Totals.{more_are}

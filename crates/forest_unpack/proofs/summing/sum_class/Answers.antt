@@ -1,5 +1,5 @@
 use Rattle.std.proofs.Common.{subst}
-use Rattle.forest_counts.specs.Counts as counts
+use Rattle.tree_model.specs.Counts as counts
 use Rattle.forest_unpack.specs.Inner.Classes.{class_of}
 use Rattle.forest_unpack.proofs.Totals.{one_asked}
 use Rattle.forest_unpack.proofs.summing.sum_class.Goals as goal

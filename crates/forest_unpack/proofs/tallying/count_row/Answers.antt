@@ -1,6 +1,6 @@
 use Rattle.std.proofs.Common.{All, Some, ◌∙◌, ap, subst, sym}
 use Rattle.std.specs.Arc.{arc_value}
-use Rattle.forest_counts.specs.Counts as counts
+use Rattle.tree_model.specs.Counts as counts
 use Rattle.forest_unpack.specs.Items.{full_values}
 use Rattle.forest_unpack.specs.Plans.{row_of}
 use Rattle.forest_unpack.specs.Inner.Classes.{IsFit, classes_at, classes_of}

@@ -1,6 +1,6 @@
 use Rattle.std.proofs.Common.{[], ◌∷◌, sym, ◌∙◌, ap, subst, true, false, arith}
 use Rattle.fs_model.specs.Table.{is_there, is_same, is_under, from}
-use Rattle.fs_paths.specs.Facts.{path_of, claim_of}
+use Rattle.fs_graph.specs.Facts.{path_of, claim_of}
 use Rattle.fs_closing.specs.Work.{work_of}
 use Rattle.fs_closing.specs.Keeps.{StepsTo}
 use Rattle.fs_closing.proofs.ClosingLemmas.{reaches_by, steps_by, apply_exists}

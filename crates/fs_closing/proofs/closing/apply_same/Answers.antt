@@ -1,6 +1,6 @@
 use Rattle.std.proofs.Common.{◌≡◌, None, [], ◌∷◌, ap, subst, arith}
 use Rattle.fs_model.specs.Table.{is_same}
-use Rattle.fs_paths.specs.Facts.{path_of}
+use Rattle.fs_graph.specs.Facts.{path_of}
 use Rattle.fs_closing.specs.Rules.{system_of}
 use Rattle.fs_closing.specs.Work.{work_of}
 use Rattle.fs_closing.specs.Keeps.{Reaches, deep_of}

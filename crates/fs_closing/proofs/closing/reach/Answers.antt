@@ -1,7 +1,7 @@
 use Rattle.std.proofs.Common.{◌≡◌, ◌+◌, [], ◌∷◌, drop, slice_index_or, subst, arith}
 use Rattle.std.proofs.lemmas.List.{drop_all, length-map}
-use Rattle.fs_paths.specs.declared.facts.Feat.{Feat}
-use Rattle.fs_paths.specs.Facts.{path_of}
+use Rattle.fs_graph.specs.declared.facts.Feat.{Feat}
+use Rattle.fs_graph.specs.Facts.{path_of}
 use Rattle.fs_closing.specs.Rules.{system_of}
 use Rattle.fs_closing.specs.Work.{work_of}
 use Rattle.fs_closing.specs.Keeps.{Turns, deep_of, begin}

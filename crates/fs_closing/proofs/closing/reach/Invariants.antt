@@ -1,6 +1,6 @@
 use Rattle.std.proofs.Common.{◌<◌, ◌≤◌, ◌∷◌, drop}
 use Rattle.fs_model.specs.Table.{NodeClaim}
-use Rattle.fs_paths.specs.Facts.{path_of}
+use Rattle.fs_graph.specs.Facts.{path_of}
 use Rattle.fs_closing.specs.Work.{work_of}
 use Rattle.fs_closing.specs.Keeps.{AreSound, Leads, begin}
 use Rattle.fs_closing.proofs.closing.reach.Given as goal

@@ -2,7 +2,7 @@ use Rattle.std.proofs.Common.{◌<◌, ◌≤◌, ◌+◌, ◌∷◌, ◌++◌, 
 use Rattle.std.proofs.lemmas.List.{length-map}
 use Rattle.fs_model.specs.Claims.{Claim, exists_at}
 use Rattle.fs_model.specs.Table.{from}
-use Rattle.fs_paths.specs.Facts.{claim_of}
+use Rattle.fs_graph.specs.Facts.{claim_of}
 use Rattle.fs_closing.specs.declared.tasks.Entry.{Entry}
 use Rattle.fs_closing.specs.Rules.{system_of, no_rule}
 use Rattle.fs_closing.specs.Work.{entry_claims, work_of}

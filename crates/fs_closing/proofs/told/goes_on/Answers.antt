@@ -1,7 +1,7 @@
 use Rattle.std.proofs.Common.{length, drop, ◌∙◌, ap}
 use Rattle.std.proofs.lemmas.List.{map-append}
 use Rattle.std.proofs.lemmas.Slice.Eq.{starts_is}
-use Rattle.fs_paths.specs.Facts.{path_of}
+use Rattle.fs_graph.specs.Facts.{path_of}
 use Rattle.fs_closing.proofs.ToldLemmas.{feat_eq, feat_eq-Decides}
 use Rattle.fs_closing.proofs.told.goes_on.Goals as goal
 

@@ -1,5 +1,5 @@
 use Rattle.std.proofs.Common.{◌++◌, None, Some, replicate, set, refl, ◌∙◌, ap}
-use Rattle.fs_paths.specs.Facts.{path_of}
+use Rattle.fs_graph.specs.Facts.{path_of}
 use Rattle.fs_graph.proofs.LineLemmas.{block, listed_begins}
 use Rattle.fs_graph.proofs.lines.begin.Goals as goal
 

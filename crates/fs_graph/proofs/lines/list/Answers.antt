@@ -1,5 +1,5 @@
 use Rattle.std.proofs.Common.{◌++◌, Some, refl, ◌∙◌, ap, arith}
-use Rattle.fs_paths.specs.Facts.{path_of}
+use Rattle.fs_graph.specs.Facts.{path_of}
 use Rattle.fs_graph.proofs.LineLemmas.{block, to_in, from_in, from_found, line_in, line_path, path_is, listed_again, listed_first, less_left}
 use Rattle.fs_graph.proofs.lines.list.Goals as goal
 

@@ -1,7 +1,7 @@
 use Rattle.std.proofs.Common.{sym, ◌∙◌}
 use Rattle.type_hierarchy.proofs.ListLemmas.{list_any-map, any_here, any_next, any_end}
-use Rattle.fs_paths.specs.declared.facts.Feat.{Feat}
-use Rattle.fs_paths.specs.Facts.{path_of}
+use Rattle.fs_graph.specs.declared.facts.Feat.{Feat}
+use Rattle.fs_graph.specs.Facts.{path_of}
 use Rattle.fs_unify.specs.Owing.{is_one_of}
 use Rattle.fs_unify.proofs.OwedRows.{no_feat}
 use Rattle.fs_unify.proofs.owed.holds_one.Goals as goal

@@ -1,4 +1,4 @@
-use Rattle.fs_paths.specs.Facts.{path_of}
+use Rattle.fs_graph.specs.Facts.{path_of}
 use Rattle.fs_unify.specs.Owing.{speaks_of}
 use Rattle.fs_unify.specs.Inner.Marks.{HaveMarks}
 use Rattle.fs_unify.proofs.owed.marks_of.Given as goal

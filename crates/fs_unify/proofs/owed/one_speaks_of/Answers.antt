@@ -1,7 +1,7 @@
 use Rattle.std.proofs.Common.{sym, ◌∙◌, ap}
 use Rattle.type_hierarchy.proofs.ListLemmas.{list_any-map, any_here, any_next, any_end}
-use Rattle.fs_paths.specs.declared.facts.Fact.{Fact}
-use Rattle.fs_paths.specs.Facts.{path_of, claim_of}
+use Rattle.fs_graph.specs.declared.facts.Fact.{Fact}
+use Rattle.fs_graph.specs.Facts.{path_of, claim_of}
 use Rattle.fs_unify.specs.Owing.{speaks_of}
 use Rattle.fs_unify.proofs.owed.one_speaks_of.Goals as goal
 

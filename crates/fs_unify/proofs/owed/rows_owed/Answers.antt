@@ -1,6 +1,6 @@
 use Rattle.std.proofs.Common.{[], ◌∷◌, length, map, sym, ◌∙◌, ap, subst}
 use Rattle.std.proofs.lemmas.List.{map-append}
-use Rattle.fs_paths.specs.Facts.{path_of}
+use Rattle.fs_graph.specs.Facts.{path_of}
 use Rattle.fs_unify.specs.Owing.{speaks_of}
 use Rattle.fs_unify.specs.Inner.Marks.{HaveMarks}
 use Rattle.fs_unify.proofs.OwedRows.{have_more}

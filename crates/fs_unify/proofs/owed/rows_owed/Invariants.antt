@@ -1,5 +1,5 @@
 use Rattle.std.proofs.Common.{map}
-use Rattle.fs_paths.specs.Facts.{path_of}
+use Rattle.fs_graph.specs.Facts.{path_of}
 use Rattle.fs_unify.specs.Owing.{speaks_of, HaveOwing}
 use Rattle.fs_unify.proofs.owed.rows_owed.Given as goal
 

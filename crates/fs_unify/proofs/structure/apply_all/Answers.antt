@@ -2,7 +2,7 @@ use Rattle.std.proofs.Common.{◌≡◌, ◌+◌, [], ◌∷◌, ◌++◌, map, 
 use Rattle.std.proofs.lemmas.List.{drop_all, length-map}
 use Rattle.fs_model.specs.Claims.{Claim, exists_at}
 use Rattle.fs_model.specs.Table.{from}
-use Rattle.fs_paths.specs.Facts.{claim_of, claims_of}
+use Rattle.fs_graph.specs.Facts.{claim_of, claims_of}
 use Rattle.fs_closing.specs.Rules.{system_of}
 use Rattle.fs_closing.specs.Work.{work_of}
 use Rattle.fs_closing.specs.Keeps.{Turns, StepsTo, deep_of}

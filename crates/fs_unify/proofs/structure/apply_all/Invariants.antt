@@ -1,6 +1,6 @@
 use Rattle.std.proofs.Common.{◌<◌, ◌++◌, map, drop}
 use Rattle.fs_model.specs.Table.{from}
-use Rattle.fs_paths.specs.Facts.{claims_of}
+use Rattle.fs_graph.specs.Facts.{claims_of}
 use Rattle.fs_closing.specs.Work.{work_of}
 use Rattle.fs_closing.specs.Keeps.{AreSound, Leads}
 use Rattle.fs_unify.proofs.structure.apply_all.Given as goal

@@ -2,7 +2,7 @@ use Rattle.std.proofs.Common.{◌<◌, [], ◌++◌, length, map, refl, arith}
 use Rattle.std.proofs.lemmas.List.{length-map}
 use Rattle.fs_model.specs.Sources.{Told}
 use Rattle.fs_model.specs.Table.{from}
-use Rattle.fs_paths.specs.Facts.{claim_of, claims_of}
+use Rattle.fs_graph.specs.Facts.{claim_of, claims_of}
 use Rattle.fs_closing.specs.NodeTable.{table_of}
 use Rattle.fs_closing.specs.Rules.{system_of}
 use Rattle.fs_closing.specs.Work.{work_of}

@@ -2,7 +2,7 @@ use Rattle.std.proofs.Common.{◌≡◌, option_map, inl, subst}
 use Rattle.grammar_load.specs.Views.{grammar_of}
 use Rattle.endings.specs.Meanings.{shelves}
 use Rattle.endings.specs.Reports.{streams}
-use Rattle.command_grammars.specs.Grammars.{never}
+use Rattle.command_files.specs.Grammars.{never}
 use Rattle.engine.proofs.Speeches.{book-whole}
 use Rattle.generate_commands.specs.Views.{bounds_with}
 use Rattle.generate_commands.specs.Inner.Contributing.{IsServedBy}
@@ -27,7 +27,7 @@ returns-in-Ok-Ok g c =
     let idle = c.with_engine.new.a ≡ c.args.input.now in
     let untouched = (c.with_engine.new.a ≡ c.args.input.now) × (c.with_engine.new.b ≡ c.args.out.now) in
     let given = c.in-Ok-Ok.ensures.given in
-    served-ended c.args.command.now.grammar.now settings (bounds_with c.args.command.now.limits) h (grammar_of c.in_ok-grammar.grammar) c.in_ok-grammar.ensures.grammar o idle untouched given.0 given.1 c.in-Ok-Ok.refused
+    served-ended c.args.command.now.grammar.now settings c.args.command.now.verbose (bounds_with c.args.command.now.limits) h (grammar_of c.in_ok-grammar.grammar) c.in_ok-grammar.ensures.grammar o idle untouched given.0 given.1 c.in-Ok-Ok.refused
     (subst (IsServedBy (grammar_of c.in_ok-grammar.grammar) given.0 (bounds_with c.args.command.now.limits) o) c.in-Ok-Ok.field-0-is given.2)
 
 pub returns-in-Ok-Err : goal.returns-in-Ok-Err
@@ -38,8 +38,8 @@ returns-in-Ok-Err g c =
     let idle = c.with_engine.new.a ≡ c.args.input.now in
     let untouched = (c.with_engine.new.a ≡ c.args.input.now) × (c.with_engine.new.b ≡ c.args.out.now) in
     let given = c.in-Ok-Err.ensures.given in
-    served-stopped c.args.command.now.grammar.now settings (bounds_with c.args.command.now.limits) h (grammar_of c.in_ok-grammar.grammar) c.in_ok-grammar.ensures.grammar o idle untouched given.0 given.1 c.in-Ok-Err.stop
+    served-stopped c.args.command.now.grammar.now settings c.args.command.now.verbose (bounds_with c.args.command.now.limits) h (grammar_of c.in_ok-grammar.grammar) c.in_ok-grammar.ensures.grammar o idle untouched given.0 given.1 c.in-Ok-Err.stop
     (subst (IsServedBy (grammar_of c.in_ok-grammar.grammar) given.0 (bounds_with c.args.command.now.limits) o) c.in-Ok-Err.field-0-is given.2)
 
 pub returns : goal.returns
-returns g c = inl c.in-Err.ensures.none
+returns g c = inl (c.in-Err.ensures.none.0, c.in-Err.ensures.none.1)

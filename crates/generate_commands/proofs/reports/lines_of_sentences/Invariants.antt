@@ -1,5 +1,5 @@
 use Rattle.std.proofs.Common.{◌≡◌, ◌++◌, map, drop}
-use Rattle.tree_sentences.specs.Views.{sentence_seen}
+use Rattle.realized_trees.specs.Views.{sentence_seen}
 use Rattle.generate_commands.specs.Reports.{sentence_line, sentences_lines}
 use Rattle.generate_commands.proofs.reports.lines_of_sentences.Given as goal
 

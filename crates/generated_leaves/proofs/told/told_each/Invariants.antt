@@ -2,7 +2,7 @@ use Rattle.std.proofs.Common.{map}
 use Rattle.book_signs.specs.Trees.{signs_of}
 use Rattle.mrs_places.specs.Paths.{paths_of}
 use Rattle.rule_trees.specs.Mothers.{view_in}
-use Rattle.inflected_trees.specs.Views.{tree_seen}
+use Rattle.lexical_items.specs.InflectedViews.{tree_seen}
 use Rattle.generated_leaves.specs.Views.{told_seen}
 use Rattle.generated_leaves.specs.Inner.Telling.{AreToldOf}
 use Rattle.generated_leaves.proofs.told.told_each.Given as goal

@@ -3,7 +3,7 @@ use Rattle.mrs_places.specs.Paths.{paths_of}
 use Rattle.book_signs.specs.Trees.{signs_of, entries_of, lexical_rules_of}
 use Rattle.lexical_items.specs.Said.{words_said}
 use Rattle.rule_trees.specs.Mothers.{view_in}
-use Rattle.inflected_trees.specs.Views.{tree_seen}
+use Rattle.lexical_items.specs.InflectedViews.{tree_seen}
 use Rattle.generated_leaves.specs.Views.{told_seen}
 use Rattle.generated_leaves.proofs.Telling.{all_told, fulls_in}
 use Rattle.generated_leaves.proofs.told.told_trees.Goals as goal

@@ -2,9 +2,9 @@ use Rattle.std.proofs.Common.{◌≡◌, ◌∙◌, ◌++◌, ℕ, List, [], sym
 use Rattle.std.specs.Vec.Iter.{into_iter_items}
 use Rattle.std.proofs.lemmas.List.{nil_from_length}
 use Rattle.type_hierarchy.specs.Table.{count_of}
-use Rattle.fs_paths.specs.declared.facts.PathLine.{PathLine}
-use Rattle.fs_paths.specs.Facts.{line_of, lines_of}
-use Rattle.fs_paths.specs.Text.{IsNamed, line_text}
+use Rattle.fs_graph.specs.declared.facts.PathLine.{PathLine}
+use Rattle.fs_graph.specs.Facts.{line_of, lines_of}
+use Rattle.fs_graph.specs.Text.{IsNamed, line_text}
 use Rattle.grammar_commands.proofs.LineTexts.{all-head, all-tail, text-more, text-all}
 use Rattle.grammar_commands.proofs.expansion.line_texts.Goals as goal
 

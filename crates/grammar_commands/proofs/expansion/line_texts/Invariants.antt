@@ -1,8 +1,8 @@
 use Rattle.std.proofs.Common.{◌≡◌, ◌++◌, length, map, All, string_bytes}
 use Rattle.std.specs.Vec.Iter.{into_iter_items}
 use Rattle.type_hierarchy.specs.Table.{count_of}
-use Rattle.fs_paths.specs.Facts.{line_of, lines_of}
-use Rattle.fs_paths.specs.Text.{IsNamed, line_text}
+use Rattle.fs_graph.specs.Facts.{line_of, lines_of}
+use Rattle.fs_graph.specs.Text.{IsNamed, line_text}
 use Rattle.grammar_commands.proofs.expansion.line_texts.Given as goal
 
 abbrev pub invariant-loop-line : goal.invariant-loop-line

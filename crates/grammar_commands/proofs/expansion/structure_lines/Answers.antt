@@ -1,8 +1,8 @@
 use Rattle.std.proofs.Common.{◌≡◌, ℕ, List, map, length, string_bytes, Vec, Global}
 use Rattle.std.proofs.lemmas.Result.{IfOk-weaker}
 use Rattle.type_hierarchy.specs.Table.{count_of}
-use Rattle.fs_paths.specs.Facts.{lines_of}
-use Rattle.fs_paths.specs.Text.{line_text}
+use Rattle.fs_graph.specs.Facts.{lines_of}
+use Rattle.fs_graph.specs.Text.{line_text}
 use Rattle.fs_graph.specs.GraphMap.{reader_of}
 use Rattle.grammar_commands.specs.Expansions.{AreLinesOf}
 use Rattle.grammar_commands.proofs.NamedLines.{lines-named}

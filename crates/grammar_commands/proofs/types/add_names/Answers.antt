@@ -1,8 +1,8 @@
 use Rattle.std.proofs.Common.{◌≡◌, ◌∙◌, ◌+◌, ◌++◌, ◌∷◌, sym, ap, subst, arith, map, take, append_assoc, add-one}
 use Rattle.type_hierarchy.specs.declared.types.Ty.{Ty}
 use Rattle.grammar_commands.specs.TypeReports.{name_at}
-use Rattle.fault_texts.specs.Texts.{spaced}
-use Rattle.fault_texts.proofs.Spaced.{word-more, take-whole}
+use Rattle.command_files.specs.FaultTexts.{spaced}
+use Rattle.command_files.proofs.Spaced.{word-more, take-whole}
 use Rattle.grammar_commands.proofs.TypeLines.{names-of}
 use Rattle.grammar_commands.proofs.types.add_names.Goals as goal
 

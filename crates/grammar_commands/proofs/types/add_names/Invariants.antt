@@ -1,6 +1,6 @@
 use Rattle.std.proofs.Common.{◌≡◌, ◌++◌, map, take}
 use Rattle.grammar_commands.specs.TypeReports.{name_at}
-use Rattle.fault_texts.specs.Texts.{spaced}
+use Rattle.command_files.specs.FaultTexts.{spaced}
 use Rattle.grammar_commands.proofs.types.add_names.Given as goal
 
 abbrev pub invariant-loop-t : goal.invariant-loop-t

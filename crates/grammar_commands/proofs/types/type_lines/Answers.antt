@@ -2,7 +2,7 @@ use Rattle.std.proofs.Common.{◌≡◌, ◌<◌, ◌+◌, ◌++◌, ◌∷◌, 
 use Rattle.std.proofs.lemmas.List.{map-append}
 use Rattle.std.specs.List.{range_with_len}
 use Rattle.type_hierarchy.specs.Table.{completed_count}
-use Rattle.fault_texts.proofs.Spaced.{take-whole}
+use Rattle.command_files.proofs.Spaced.{take-whole}
 use Rattle.grammar_commands.specs.TypeReports.{type_line, type_lines}
 use Rattle.grammar_commands.proofs.TypeLines.{range-at, range-length, lines-length, lines-more}
 use Rattle.grammar_commands.proofs.types.type_lines.Goals as goal

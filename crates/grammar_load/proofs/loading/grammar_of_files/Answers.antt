@@ -1,6 +1,6 @@
 use Rattle.std.proofs.Common.{Err}
 use Rattle.grammar_files.proofs.WalkLemmas.{at_exit}
-use Rattle.grammar_reading.specs.Views.{read_of}
+use Rattle.grammar_files.specs.Views.{read_of}
 use Rattle.grammar_load.specs.Loads.{Makes, misshapen}
 use Rattle.grammar_load.proofs.ShapeLemmas.{fault_to}
 use Rattle.grammar_load.proofs.loading.grammar_of_files.Goals as goal

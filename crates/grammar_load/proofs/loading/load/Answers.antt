@@ -2,8 +2,8 @@ use Rattle.std.proofs.Common.{option_map, Ok, Err}
 use Rattle.grammar_files.specs.Faults.{FoundFault, IsFaultBy}
 use Rattle.grammar_files.specs.Walks.{has_failed}
 use Rattle.grammar_files.proofs.WalkLemmas.{at_exit, on_err}
-use Rattle.grammar_reading.specs.Reads.{ReadsTo}
-use Rattle.grammar_reading.specs.Views.{read_of}
+use Rattle.grammar_files.specs.Reads.{ReadsTo}
+use Rattle.grammar_files.specs.Views.{read_of}
 use Rattle.grammar_load.specs.Loaded.{IsGrammarOf}
 use Rattle.grammar_load.specs.Loads.{Makes, makes, Loads, unread, loads}
 use Rattle.grammar_load.specs.Conditions.{IsLoaded}

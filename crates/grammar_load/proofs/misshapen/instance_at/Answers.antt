@@ -1,8 +1,8 @@
 use Rattle.std.proofs.Common.{◌<◌, ◌≤◌, ◌∙◌, true, false, length, map, filter, sym, ap, arith}
 use Rattle.std.specs.Prelude.{slice_get}
 use Rattle.std.proofs.lemmas.List.{length-map}
-use Rattle.placed_statements.specs.Placings.{placed_of}
-use Rattle.placed_statements.specs.Statements.{defines_instance}
+use Rattle.grammar_files.specs.Placings.{placed_of}
+use Rattle.grammar_files.specs.Statements.{defines_instance}
 use Rattle.book_shapes.proofs.PlaceLemmas.{seen_at}
 use Rattle.grammar_load.proofs.InstanceLemmas.{kept_at, count_next, none_there}
 use Rattle.grammar_load.proofs.misshapen.instance_at.Goals as goal

@@ -1,6 +1,6 @@
 use Rattle.std.proofs.Common.{◌≡◌, ◌≤◌, length, map, filter, take}
-use Rattle.placed_statements.specs.Placings.{placed_of}
-use Rattle.placed_statements.specs.Statements.{defines_instance}
+use Rattle.grammar_files.specs.Placings.{placed_of}
+use Rattle.grammar_files.specs.Statements.{defines_instance}
 use Rattle.grammar_load.proofs.misshapen.instance_at.Given as goal
 
 abbrev pub invariant-loop-i : goal.invariant-loop-i

@@ -1,5 +1,5 @@
 use Rattle.std.proofs.Common.{◌∙◌, map, ap, string_bytes}
-use Rattle.placed_statements.specs.Placings.{placed_of}
+use Rattle.grammar_files.specs.Placings.{placed_of}
 use Rattle.spelling_rules.specs.Views.{rule_of, line_of}
 use Rattle.grammar_load.proofs.ShapeLemmas.{spelling_is}
 use Rattle.grammar_load.proofs.spelling.spelling_of.Goals as goal

@@ -1,8 +1,8 @@
 use Rattle.std.proofs.Common.{All, [], map, take, sym, subst, arith}
 use Rattle.chart_core.specs.Leaves.{LeafBelongs}
 use Rattle.fs_model.specs.Closure.{AreConsistent}
-use Rattle.rule_model.specs.Mothers.{Meant}
-use Rattle.item_model.specs.Signs.{rule_system}
+use Rattle.tree_model.specs.Mothers.{Meant}
+use Rattle.tree_model.specs.Signs.{rule_system}
 use Rattle.book_signs.specs.Trees.{signs_of}
 use Rattle.grammar_shapes.specs.Systems.{rules_of, meaning_of, Belongs}
 use Rattle.grammar_shapes.specs.Spanned.{span_calculus}

@@ -1,7 +1,7 @@
 use Rattle.std.proofs.Common.{◌≡◌, ◌<◌, map, sym, subst}
 use Rattle.fs_model.specs.Closure.{AreConsistent}
-use Rattle.rule_model.specs.Mothers.{Meant}
-use Rattle.item_model.specs.Signs.{rule_system}
+use Rattle.tree_model.specs.Mothers.{Meant}
+use Rattle.tree_model.specs.Signs.{rule_system}
 use Rattle.morph_analysis.specs.LatticeViews.{lattice_of}
 use Rattle.book_signs.specs.Trees.{signs_of}
 use Rattle.grammar_shapes.specs.Systems.{meaning_of}

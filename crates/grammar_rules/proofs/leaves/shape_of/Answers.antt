@@ -3,8 +3,8 @@ use Rattle.fs_model.specs.Closure.{IsConsistent}
 use Rattle.fs_model.specs.Sources.{Told}
 use Rattle.fs_graph.specs.GraphMap.{reader_of}
 use Rattle.fs_unify.specs.Rules.{system_of}
-use Rattle.rule_model.specs.Mothers.{Meant, IsAbstract}
-use Rattle.rule_model.specs.Views.{view, source_alone}
+use Rattle.tree_model.specs.Mothers.{Meant, IsAbstract}
+use Rattle.tree_model.specs.Views.{view, source_alone}
 use Rattle.grammar_shapes.specs.Ruled.{paths_in}
 use Rattle.grammar_shapes.specs.Systems.{grammar_of, rules_of, meaning_of}
 use Rattle.grammar_rules.proofs.Calls.{shape_sound, shape_is}

@@ -1,6 +1,6 @@
 use Rattle.std.proofs.Common.{sym, subst}
-use Rattle.rule_model.specs.Mothers.{Meant, IsAbstract}
-use Rattle.item_model.specs.Signs.{rule_system}
+use Rattle.tree_model.specs.Mothers.{Meant, IsAbstract}
+use Rattle.tree_model.specs.Signs.{rule_system}
 use Rattle.book_signs.specs.Trees.{signs_of}
 use Rattle.grammar_rules.proofs.remembered.shape_again.Goals as goal
 

@@ -1,7 +1,7 @@
 use Rattle.std.proofs.Common.{◌≡◌, drop}
 use Rattle.std.specs.List.{list_all}
-use Rattle.fs_paths.specs.Facts.{path_of}
-use Rattle.rule_model.specs.Cuts.{has_feature}
+use Rattle.fs_graph.specs.Facts.{path_of}
+use Rattle.tree_model.specs.Cuts.{has_feature}
 use Rattle.grammar_shapes.proofs.cuts.are_among.Given as goal
 
 abbrev pub invariant-loop-feat : goal.invariant-loop-feat

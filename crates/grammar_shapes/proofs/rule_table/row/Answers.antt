@@ -1,5 +1,5 @@
 use Rattle.std.proofs.Common.{◌∙◌, ap}
-use Rattle.fs_paths.specs.Facts.{path_of}
+use Rattle.fs_graph.specs.Facts.{path_of}
 use Rattle.grammar_shapes.specs.Inner.Tables.{sketch_at}
 use Rattle.grammar_shapes.proofs.TableLemmas.{one_place_more}
 use Rattle.grammar_shapes.proofs.rule_table.row.Goals as goal

@@ -1,7 +1,7 @@
 use Rattle.std.proofs.Common.{◌≡◌, ◌≤◌, ◌∙◌, length, ap, arith}
 use Rattle.std.specs.List.{flat_map}
 use Rattle.std.proofs.lemmas.List.{take_all}
-use Rattle.placed_statements.specs.Placings.{placed_of}
+use Rattle.grammar_files.specs.Placings.{placed_of}
 use Rattle.grammar_types.specs.SettleViews.{parents_by}
 use Rattle.grammar_types.proofs.SettleDecls.{added_are}
 use Rattle.grammar_types.proofs.declarations.added_parents.Goals as goal

@@ -1,6 +1,6 @@
 use Rattle.std.proofs.Common.{◌≡◌, take}
 use Rattle.std.specs.List.{flat_map}
-use Rattle.placed_statements.specs.Placings.{placed_of}
+use Rattle.grammar_files.specs.Placings.{placed_of}
 use Rattle.grammar_settings.specs.Forms.{Name}
 use Rattle.grammar_types.specs.SettleViews.{parents_noted, parents_by}
 use Rattle.grammar_types.proofs.declarations.added_parents.Given as goal

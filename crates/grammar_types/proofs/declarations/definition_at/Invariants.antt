@@ -1,5 +1,5 @@
 use Rattle.std.proofs.Common.{◌≡◌, map, drop, slice_get}
-use Rattle.placed_statements.specs.Placings.{placed_of}
+use Rattle.grammar_files.specs.Placings.{placed_of}
 use Rattle.grammar_types.specs.Typings.{type_definitions}
 use Rattle.grammar_types.proofs.declarations.definition_at.Given as goal
 

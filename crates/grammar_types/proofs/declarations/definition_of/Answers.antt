@@ -1,5 +1,5 @@
 use Rattle.std.proofs.Common.{◌≡◌, ◌<◌, ◌≤◌, ◌∙◌, length, map, sym, arith}
-use Rattle.placed_statements.specs.Placings.{placed_of}
+use Rattle.grammar_files.specs.Placings.{placed_of}
 use Rattle.grammar_types.proofs.SettleDecls.{found_here, found_nowhere, find_named}
 use Rattle.grammar_types.proofs.declarations.definition_of.Goals as goal
 

@@ -1,6 +1,6 @@
 use Rattle.std.proofs.Common.{◌≡◌, ◌<◌, ◌≤◌, ◌∙◌, length, map, ap, sym, subst, arith}
 use Rattle.std.proofs.lemmas.List.{length-map}
-use Rattle.placed_statements.specs.Placings.{placed_of}
+use Rattle.grammar_files.specs.Placings.{placed_of}
 use Rattle.type_hierarchy.specs.Decls.{texts}
 use Rattle.grammar_types.specs.SettleViews.{is_again, IsEntered}
 use Rattle.grammar_types.specs.Typings.{statement_at}

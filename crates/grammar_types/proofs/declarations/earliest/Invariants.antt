@@ -1,5 +1,5 @@
 use Rattle.std.proofs.Common.{map}
-use Rattle.placed_statements.specs.Placings.{placed_of}
+use Rattle.grammar_files.specs.Placings.{placed_of}
 use Rattle.type_hierarchy.specs.Decls.{texts}
 use Rattle.grammar_types.proofs.SettleRepeats.{Met}
 use Rattle.grammar_types.proofs.declarations.earliest.Given as goal

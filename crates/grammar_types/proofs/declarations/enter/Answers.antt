@@ -1,5 +1,5 @@
 use Rattle.std.proofs.Common.{◌∙◌}
-use Rattle.placed_statements.specs.Placings.{placed_of}
+use Rattle.grammar_files.specs.Placings.{placed_of}
 use Rattle.grammar_types.proofs.SettleRepeats.{entered}
 use Rattle.grammar_types.proofs.declarations.enter.Goals as goal
 

@@ -1,6 +1,6 @@
 use Rattle.std.proofs.Common.{◌≡◌, length, map, arith}
 use Rattle.std.proofs.lemmas.List.{length-map}
-use Rattle.placed_statements.specs.Placings.{placed_of}
+use Rattle.grammar_files.specs.Placings.{placed_of}
 use Rattle.grammar_types.proofs.SettleRepeats.{earliest_of_all}
 use Rattle.grammar_types.proofs.declarations.first_repeat.Goals as goal
 

@@ -1,6 +1,6 @@
 use Rattle.std.proofs.Common.{map, MatchOption, sym, subst}
 use Rattle.std.specs.String.{string_bytes}
-use Rattle.placed_statements.specs.Placings.{PlacedTree, placed_of}
+use Rattle.grammar_files.specs.Placings.{PlacedTree, placed_of}
 use Rattle.grammar_types.specs.Typings.{type_definitions, StandsAt}
 use Rattle.grammar_types.proofs.SettleFaults.{named_with}
 use Rattle.grammar_types.proofs.settle.definition_with.Goals as goal

@@ -1,5 +1,5 @@
 use Rattle.std.proofs.Common.{◌∙◌}
-use Rattle.placed_statements.specs.Placings.{placed_of}
+use Rattle.grammar_files.specs.Placings.{placed_of}
 use Rattle.grammar_files.specs.WalkViews.{walked_of}
 use Rattle.grammar_types.proofs.SettleFaults.{repeat_is}
 use Rattle.grammar_types.proofs.SettleRepeats.{at_placed}

@@ -1,6 +1,6 @@
 use Rattle.std.proofs.Common.{◌<◌, length, map, subst, arith}
 use Rattle.std.proofs.lemmas.List.{length-map}
-use Rattle.placed_statements.specs.Placings.{placed_of}
+use Rattle.grammar_files.specs.Placings.{placed_of}
 use Rattle.grammar_types.specs.SettleViews.{IsEarliestOfAll}
 use Rattle.grammar_types.proofs.settle.settle_types.Goals as goal
 

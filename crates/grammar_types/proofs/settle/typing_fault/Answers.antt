@@ -1,5 +1,5 @@
 use Rattle.std.proofs.Common.{map, sym, subst}
-use Rattle.placed_statements.specs.Placings.{placed_of}
+use Rattle.grammar_files.specs.Placings.{placed_of}
 use Rattle.grammar_types.specs.Typings.{type_definitions, StandsAt}
 use Rattle.grammar_files.specs.WalkViews.{walked_of}
 use Rattle.grammar_types.proofs.SettleFaults.{typing_is}

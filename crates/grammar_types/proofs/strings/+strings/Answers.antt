@@ -6,7 +6,7 @@ use Rattle.tdl_reader.specs.Trees.{items_of}
 use Rattle.tdl_reader.specs.Views.{term_of, body_in, rest_of}
 use Rattle.tdl_reader.proofs.Rows.{view_of_text, view_of_avm, view_of_list, view_of_diff, view_of_tail}
 use Rattle.type_hierarchy.specs.Decls.{texts}
-use Rattle.placed_statements.specs.BodyStrings.{strings_of_term, strings_of_items, strings_of_rest}
+use Rattle.grammar_files.specs.BodyStrings.{strings_of_term, strings_of_items, strings_of_rest}
 use Rattle.grammar_types.specs.SettleViews.{with_each}
 use Rattle.grammar_types.proofs.SettleBodies.{term_strings, attr_strings, item_strings, body_flat, attrs_flat, items_flat, no_rest, no_string}
 use Rattle.grammar_types.proofs.SettleLists.{on_moved, on_two, each_step}

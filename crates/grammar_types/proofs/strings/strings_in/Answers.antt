@@ -1,9 +1,9 @@
 use Rattle.std.proofs.Common.{◌≡◌, ◌<◌, ◌≤◌, ◌∙◌, [], length, map, sym, ap, arith}
 use Rattle.std.specs.List.{flat_map}
 use Rattle.std.proofs.lemmas.List.{take_all}
-use Rattle.placed_statements.specs.Placings.{placed_of}
+use Rattle.grammar_files.specs.Placings.{placed_of}
 use Rattle.type_hierarchy.specs.Decls.{texts}
-use Rattle.placed_statements.specs.BodyStrings.{strings_of_body}
+use Rattle.grammar_files.specs.BodyStrings.{strings_of_body}
 use Rattle.grammar_types.specs.Typings.{is_heeded}
 use Rattle.grammar_types.specs.SettleViews.{with_each, strings_written}
 use Rattle.grammar_types.specs.Typings.{body_written}

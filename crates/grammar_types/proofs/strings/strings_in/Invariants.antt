@@ -1,6 +1,6 @@
 use Rattle.std.proofs.Common.{◌≡◌, [], take}
 use Rattle.std.specs.List.{flat_map}
-use Rattle.placed_statements.specs.Placings.{placed_of}
+use Rattle.grammar_files.specs.Placings.{placed_of}
 use Rattle.type_hierarchy.specs.Decls.{texts}
 use Rattle.grammar_types.specs.SettleViews.{with_each, strings_written}
 use Rattle.grammar_types.proofs.strings.strings_in.Given as goal

@@ -3,8 +3,8 @@ use Rattle.chart_model.specs.Limits.{IsLimitAnswer, Within, UnaryChain, Edges}
 use Rattle.chart_core.specs.Kept.{limits_seen}
 use Rattle.chart_core.specs.Leaves.{leaf_seen}
 use Rattle.chart_core.specs.Passed.{IsPassFault}
-use Rattle.rule_model.specs.Mothers.{RuleSystem}
-use Rattle.item_model.specs.Items.{leaves_from}
+use Rattle.tree_model.specs.Mothers.{RuleSystem}
+use Rattle.tree_model.specs.Items.{leaves_from}
 use Rattle.book_signs.specs.Trees.{signs_of}
 use Rattle.rule_trees.specs.Mothers.{view_in}
 use Rattle.grammar_shapes.specs.Spanned.{span_calculus}

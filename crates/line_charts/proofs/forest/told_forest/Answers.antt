@@ -1,12 +1,12 @@
 use Rattle.std.proofs.Common.{◌≡◌, ◌<◌, ◌∙◌, All, List, ℕ, length, map, sym, ap, subst}
 use Rattle.std.specs.Prelude.{string_bytes}
 use Rattle.std.proofs.lemmas.List.{length-map}
-use Rattle.cover.specs.Calculus.{Along}
+use Rattle.chart_model.specs.Calculus.{Along}
 use Rattle.chart_core.specs.Kept.{core_of, rows_in}
 use Rattle.derivation.specs.Views.{derivation_of}
 use Rattle.fs_unify.specs.Rules.{Grammar}
-use Rattle.rule_model.specs.Mothers.{RuleSystem}
-use Rattle.item_model.specs.Signs.{rule_system}
+use Rattle.tree_model.specs.Mothers.{RuleSystem}
+use Rattle.tree_model.specs.Signs.{rule_system}
 use Rattle.book_signs.specs.Trees.{signs_of}
 use Rattle.rule_trees.specs.Mothers.{IsShortIn}
 use Rattle.lexical_items.specs.declared.lexeme.LexTree.{LexTree}

@@ -1,6 +1,6 @@
 use Rattle.std.proofs.Common.{length}
 use Rattle.type_hierarchy.specs.Table.{count_of}
-use Rattle.fs_paths.specs.Facts.{lines_of}
+use Rattle.fs_graph.specs.Facts.{lines_of}
 use Rattle.line_charts.proofs.NamedLines.{lines-named}
 use Rattle.line_charts.proofs.keys.structure_text.Goals as goal
 

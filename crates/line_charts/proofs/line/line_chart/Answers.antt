@@ -2,7 +2,7 @@ use Rattle.std.proofs.Common.{length, map, sym, subst}
 use Rattle.std.specs.Prelude.{string_bytes}
 use Rattle.derivation.specs.Trees.{Derivation}
 use Rattle.morph_analysis.specs.LatticeViews.{lattice_of, step_of}
-use Rattle.parse_items.specs.Licensed.{parse_item}
+use Rattle.tree_model.specs.Licensed.{parse_item}
 use Rattle.book_signs.specs.Trees.{signs_of}
 use Rattle.grammar_shapes.specs.Systems.{meaning_of}
 use Rattle.rule_trees.specs.Mothers.{view_in}

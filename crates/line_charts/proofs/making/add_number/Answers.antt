@@ -1,7 +1,7 @@
 use Rattle.std.proofs.Common.{◌<◌, ◌++◌, Option, length, sym, subst}
 use Rattle.std.specs.Prelude.{IfSome}
 use Rattle.std.proofs.lemmas.Option.{slice_get-get_or}
-use Rattle.cover.specs.Calculus.{Along}
+use Rattle.chart_model.specs.Calculus.{Along}
 use Rattle.chart_core.specs.declared.RowId.{RowId}
 use Rattle.chart_core.specs.View.{one_of}
 use Rattle.line_charts.specs.Inner.Stages.{IsNumber}

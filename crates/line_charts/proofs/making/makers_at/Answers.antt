@@ -1,5 +1,5 @@
 use Rattle.std.proofs.Common.{[], map, get_or, sym, subst}
-use Rattle.cover.specs.Calculus.{Along, along_none}
+use Rattle.chart_model.specs.Calculus.{Along, along_none}
 use Rattle.chart_model.specs.At.{at_below, from_get}
 use Rattle.chart_core.specs.Kept.{core_of, rows_in}
 use Rattle.book_signs.specs.Trees.{signs_of}

@@ -1,5 +1,5 @@
 use Rattle.std.proofs.Common.{map, take}
-use Rattle.cover.specs.Calculus.{Along}
+use Rattle.chart_model.specs.Calculus.{Along}
 use Rattle.chart_core.specs.Kept.{core_of, rows_in}
 use Rattle.book_signs.specs.Trees.{signs_of}
 use Rattle.line_charts.specs.Views.{maker_of}

@@ -1,5 +1,5 @@
 use Rattle.std.proofs.Common.{◌<◌, [], length, sym, subst}
-use Rattle.cover.specs.Calculus.{Along, along_none}
+use Rattle.chart_model.specs.Calculus.{Along, along_none}
 use Rattle.line_charts.specs.Inner.Stages.{IsNumber}
 use Rattle.line_charts.proofs.Steps.{in_turn}
 use Rattle.line_charts.proofs.RowSteps.{of_second, of_third}

@@ -1,9 +1,9 @@
 use Rattle.std.proofs.Common.{◌<◌, All, List, [], length, map, sym, subst, arith}
 use Rattle.type_hierarchy.specs.Table.{count_of}
-use Rattle.cover.specs.Calculus.{Along, along_none}
+use Rattle.chart_model.specs.Calculus.{Along, along_none}
 use Rattle.chart_core.specs.Kept.{core_of, rows_in}
 use Rattle.chart_core.proofs.Grows.{all_snoc}
-use Rattle.item_model.specs.Signs.{rule_system}
+use Rattle.tree_model.specs.Signs.{rule_system}
 use Rattle.book_signs.specs.Trees.{signs_of}
 use Rattle.rule_trees.specs.Mothers.{IsShortIn}
 use Rattle.line_charts.specs.Views.{class_of}

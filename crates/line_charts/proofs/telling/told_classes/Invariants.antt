@@ -1,6 +1,6 @@
 use Rattle.std.proofs.Common.{◌<◌, All, map, take}
 use Rattle.type_hierarchy.specs.Table.{count_of}
-use Rattle.cover.specs.Calculus.{Along}
+use Rattle.chart_model.specs.Calculus.{Along}
 use Rattle.chart_core.specs.Kept.{core_of, rows_in}
 use Rattle.book_signs.specs.Trees.{signs_of}
 use Rattle.line_charts.specs.Views.{class_of}

@@ -1,7 +1,7 @@
 use Rattle.std.proofs.Common.{true, map, sym, ap, ◌∙◌, subst, rules}
 use Rattle.std.proofs.lemmas.List.Sorted.{IsNonDecreasingBy-from_sort_by_key}
 use Rattle.std.specs.List.Sorted.{IsNonDecreasingBy}
-use Rattle.word_lists.specs.Words.{Has}
+use Rattle.lexicon.specs.Words.{Has}
 use Rattle.morph_analysis.specs.Lattices.{HaveSame}
 use Rattle.morph_analysis.specs.LatticeViews.{lattice_of, step_of}
 use Rattle.lexical_items.specs.Seen.{lattice_seen, step_seen}

@@ -1,7 +1,7 @@
 use Rattle.std.proofs.Common.{option_map}
 use Rattle.grammar_load.specs.Views.{grammar_of}
 use Rattle.endings.specs.Meanings.{shelves}
-use Rattle.command_grammars.specs.Grammars.{never}
+use Rattle.command_files.specs.Grammars.{never}
 use Rattle.engine.proofs.Speeches.{book-whole}
 use Rattle.line_commands.proofs.charting.chart_lines.Goals as goal
 

@@ -19,7 +19,7 @@ returns-in-Ok-Ok g c = λ h has.
     let idle = input ≡ c.args.input.now in
     let untouched = (input ≡ c.args.input.now) × (out ≡ c.args.out.now) in
     let given = c.in-Ok-Ok.ensures.given in
-    served-ended by command.grammar.now (option_map (λ s. s.now) command.settings) h tree has o idle untouched given.0 given.1 c.in-Ok-Ok.refused
+    served-ended by command.grammar.now (option_map (λ s. s.now) command.settings) command.verbose h tree has o idle untouched given.0 given.1 c.in-Ok-Ok.refused
     (subst (Served (AreAnswers (by tree given.0) 1) (AreAnswers (OrNoMemory (by tree given.0)) 1) o) c.in-Ok-Ok.field-0-is given.2)
 
 pub returns-in-Ok-Err : goal.returns-in-Ok-Err
@@ -33,5 +33,5 @@ returns-in-Ok-Err g c = λ h has.
     let idle = input ≡ c.args.input.now in
     let untouched = (input ≡ c.args.input.now) × (out ≡ c.args.out.now) in
     let given = c.in-Ok-Err.ensures.given in
-    served-stopped by command.grammar.now (option_map (λ s. s.now) command.settings) h tree has o idle untouched given.0 given.1 c.in-Ok-Err.stop
+    served-stopped by command.grammar.now (option_map (λ s. s.now) command.settings) command.verbose h tree has o idle untouched given.0 given.1 c.in-Ok-Err.stop
     (subst (Served (AreAnswers (by tree given.0) 1) (AreAnswers (OrNoMemory (by tree given.0)) 1) o) c.in-Ok-Err.field-0-is given.2)

@@ -1,8 +1,8 @@
 use Rattle.std.proofs.Common.{All, length, subst, sym}
 use Rattle.derivation.specs.Text.{IsNamed}
 use Rattle.derivation.specs.Views.{derivation_of}
-use Rattle.rule_model.specs.Structures.{Structure}
-use Rattle.item_model.specs.Trees.{Full}
+use Rattle.tree_model.specs.Structures.{Structure}
+use Rattle.tree_model.specs.Trees.{Full}
 use Rattle.book_signs.specs.Trees.{signs_of}
 use Rattle.grammar_rules.specs.Views.{item_answer}
 use Rattle.engine.specs.Named.{AreNamed, AreFull}

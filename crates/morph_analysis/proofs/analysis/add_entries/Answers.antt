@@ -1,6 +1,6 @@
 use Rattle.std.proofs.Common.{◌≡◌, ◌∙◌, ◌+◌, ◌++◌, [], ◌∷◌, map, take, get_or, string_bytes, refl, sym, subst}
 use Rattle.morph_analysis.specs.Inner.Adding.{AddsThose, OfSome, IsOf}
-use Rattle.word_lists.specs.Words.{Has}
+use Rattle.lexicon.specs.Words.{Has}
 use Rattle.morph_analysis.specs.Views.{made_of}
 use Rattle.std.proofs.lemmas.List.{take_more}
 use Rattle.morph_analysis.proofs.Lists.{all_taken, empty_list, has_nat}

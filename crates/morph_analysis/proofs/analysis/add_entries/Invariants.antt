@@ -1,6 +1,6 @@
 use Rattle.std.proofs.Common.{◌≡◌, ◌++◌, [], ◌∷◌, map, take, string_bytes}
 use Rattle.morph_analysis.specs.Inner.Adding.{AddsThose, OfSome, IsOf}
-use Rattle.word_lists.specs.Words.{Has}
+use Rattle.lexicon.specs.Words.{Has}
 use Rattle.morph_analysis.specs.Views.{made_of}
 use Rattle.morph_analysis.specs.Inner.Routes.{IsRouteOf}
 use Rattle.morph_analysis.proofs.analysis.add_entries.Given as goal

@@ -5,7 +5,7 @@ use Rattle.morph_analysis.specs.Views.{made_of}
 use Rattle.std.proofs.lemmas.List.{take_more}
 use Rattle.morph_analysis.proofs.Lists.{all_taken, has_nat}
 use Rattle.morph_analysis.proofs.AddLemmas.{some_none, some_more, of_froms}
-use Rattle.word_lists.specs.Words.{Has}
+use Rattle.lexicon.specs.Words.{Has}
 use Rattle.morph_analysis.proofs.EnoughLemmas.{at_exit, from_is}
 use Rattle.morph_analysis.proofs.analysis.add_entry.Goals as goal
 

@@ -1,6 +1,6 @@
 use Rattle.std.proofs.Common.{◌∙◌, ◌-◌, ◌<◌, length, map, take, string_bytes, sym, ap, subst}
 use Rattle.morph_analysis.specs.Inner.Adding.{AddsThose, OfGroup}
-use Rattle.word_lists.specs.Words.{Has}
+use Rattle.lexicon.specs.Words.{Has}
 use Rattle.morph_analysis.specs.Views.{made_of}
 use Rattle.morph_analysis.proofs.Lists.{empty_list, filled}
 use Rattle.morph_analysis.specs.LatticeViews.{step_of}

@@ -5,7 +5,7 @@ use Rattle.morph_analysis.proofs.Lists.{all_taken}
 use denote.Ref.{Bor}
 use Rattle.morph_analysis.specs.declared.lattice.Step.{Step}
 use Rattle.morph_analysis.specs.Inner.Adding.{AddsThose}
-use Rattle.word_lists.specs.Words.{Has}
+use Rattle.lexicon.specs.Words.{Has}
 use Rattle.std.proofs.Common.{leb, leb-true}
 use Rattle.std.proofs.lemmas.List.Sorted.{IsPartitionPoint-from_clause, IsPartitionedBy-leb}
 use Rattle.morph_analysis.proofs.arrivals.add_before.Goals as goal

@@ -6,7 +6,7 @@ use Rattle.morph_analysis.proofs.Lists.{all_taken}
 use denote.Ref.{Bor}
 use Rattle.morph_analysis.specs.declared.lattice.Step.{Step}
 use Rattle.morph_analysis.specs.Inner.Adding.{AddsThose, OfSome, Precedes}
-use Rattle.word_lists.specs.Words.{Has}
+use Rattle.lexicon.specs.Words.{Has}
 use Rattle.morph_analysis.proofs.AddLemmas.{some_none, some_more}
 use Rattle.std.proofs.lemmas.List.Filters.{dedup_is}
 use Rattle.std.proofs.lemmas.List.Kept.{Contains-dedup_nat, Contains-from_dedup}

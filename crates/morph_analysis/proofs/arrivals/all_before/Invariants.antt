@@ -1,6 +1,6 @@
 use Rattle.std.proofs.Common.{[], map, take}
 use Rattle.morph_analysis.specs.Inner.Adding.{AddsThose, OfSome}
-use Rattle.word_lists.specs.Words.{Has}
+use Rattle.lexicon.specs.Words.{Has}
 use Rattle.morph_analysis.specs.LatticeViews.{step_of}
 use Rattle.morph_analysis.proofs.arrivals.all_before.Given as goal
 

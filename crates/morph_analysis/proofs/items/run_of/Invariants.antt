@@ -1,5 +1,5 @@
 use Rattle.std.proofs.Common.{◌≡◌, take}
-use Rattle.word_lists.specs.Words.{Each}
+use Rattle.lexicon.specs.Words.{Each}
 use Rattle.std.specs.Char.{is_whitespace}
 use Rattle.morph_analysis.proofs.items.run_of.Given as goal
 

@@ -5,7 +5,7 @@ use Rattle.morph_analysis.specs.Inner.Growing.{IsGrown, IsNodeOf, HasEdge}
 use Rattle.morph_analysis.specs.Spelled.{node_at}
 use Rattle.std.proofs.lemmas.List.{length-map}
 use Rattle.morph_analysis.proofs.Lists.{all_taken}
-use Rattle.word_lists.specs.Words.{Has}
+use Rattle.lexicon.specs.Words.{Has}
 use Rattle.spelling_rules.specs.Views.{stem_of}
 use Rattle.spelling_rules.specs.Forms.{StemTree, HasForm}
 use Rattle.morph_analysis.proofs.Lists.{Has-at, Has-next}

@@ -3,7 +3,7 @@ use Rattle.morph_analysis.specs.Inner.Growing.{Adds, HasEdge}
 use Rattle.morph_analysis.specs.Views.{node_of}
 use Rattle.spelling_rules.specs.Views.{stem_of}
 use Rattle.spelling_rules.specs.Forms.{StemTree}
-use Rattle.word_lists.specs.Words.{Has}
+use Rattle.lexicon.specs.Words.{Has}
 use Rattle.morph_analysis.proofs.nodes.add_stems.Given as goal
 
 abbrev pub invariant-loop-stem : goal.invariant-loop-stem

@@ -1,6 +1,6 @@
 use Rattle.std.proofs.Common.{◌≡◌, ◌<◌, ◌∙◌, ◌+◌, ◌++◌, [], ◌∷◌, length, map, take, get_or, string_bytes, refl, sym, ap, subst, arith, length-append}
 use Rattle.std.proofs.lemmas.List.{map-append, take_more, get_or_default}
-use Rattle.word_lists.specs.Words.{Has}
+use Rattle.lexicon.specs.Words.{Has}
 use Rattle.morph_analysis.specs.Inner.Adding.{AddsThose, OfSome, IsOf}
 use Rattle.morph_analysis.specs.Inner.Routes.{IsAlong}
 use Rattle.morph_analysis.specs.Views.{edge_of, made_of}

@@ -1,5 +1,5 @@
 use Rattle.std.proofs.Common.{take}
-use Rattle.word_lists.specs.Words.{Has}
+use Rattle.lexicon.specs.Words.{Has}
 use Rattle.morph_analysis.proofs.written.at_colon.Given as goal
 
 abbrev pub invariant-loop-i : goal.invariant-loop-i

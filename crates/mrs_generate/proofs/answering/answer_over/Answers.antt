@@ -1,13 +1,13 @@
 use Rattle.std.proofs.Common.{◌<◌, ◌^◌, ◌∙◌, length, map, sym, ap, subst}
-use Rattle.cover.specs.Sums.{counts_size}
+use Rattle.chart_model.specs.Sums.{counts_size}
 use Rattle.mrs_model.specs.Views.{meaning_of}
 use Rattle.mrs_places.specs.Paths.{feature_of, paths_of}
-use Rattle.rule_model.specs.Mothers.{RuleSystem}
+use Rattle.tree_model.specs.Mothers.{RuleSystem}
 use Rattle.packed_items.specs.Answers.{limits_in}
-use Rattle.counted_shapes.proofs.SumLemmas.{if_ok}
+use Rattle.generated_leaves.proofs.SumLemmas.{if_ok}
 use Rattle.book_signs.specs.Trees.{signs_of}
 use Rattle.generated_leaves.specs.Views.{leaf_seen}
-use Rattle.rule_contributions.specs.Given.{input_of}
+use Rattle.generated_leaves.specs.Given.{input_of}
 use Rattle.mrs_generate.specs.Answers.{words_by, IsSentenceAnswer}
 use Rattle.mrs_generate.specs.Inner.Put.{IsPut}
 use Rattle.mrs_generate.specs.Views.{answer_seen}

@@ -1,12 +1,12 @@
 use Rattle.std.proofs.Common.{◌∙◌, map, sym, ap, subst}
-use Rattle.cover.specs.declared.counts.Counts.{Counts}
+use Rattle.chart_model.specs.declared.counts.Counts.{Counts}
 use Rattle.mrs_model.specs.Views.{meaning_of}
 use Rattle.mrs_places.specs.Paths.{feature_of, paths_of}
-use Rattle.contributions.specs.Bags.{BagTree, distinct, preds_of}
+use Rattle.generate_model.specs.Bags.{BagTree, distinct, preds_of}
 use Rattle.book_signs.specs.Trees.{signs_of}
 use Rattle.generated_leaves.specs.Views.{leaf_seen, leaves_seen}
-use Rattle.rule_contributions.specs.Given.{input_of, own_counts}
-use Rattle.rule_contributions.specs.Placed.{own_by_place}
+use Rattle.generated_leaves.specs.Given.{input_of, own_counts}
+use Rattle.generated_leaves.specs.Placed.{own_by_place}
 use Rattle.mrs_generate.specs.Answers.{words_by}
 use Rattle.mrs_generate.specs.Inner.Known.{IsKnown}
 use Rattle.mrs_generate.proofs.Known.{asks, deep_answer, leaves_known}

@@ -1,7 +1,7 @@
 use Rattle.std.proofs.Common.{All, [], map, take, sym, subst, arith}
 use Rattle.fs_model.specs.Closure.{AreConsistent}
-use Rattle.rule_model.specs.Mothers.{Meant}
-use Rattle.item_model.specs.Signs.{rule_system}
+use Rattle.tree_model.specs.Mothers.{Meant}
+use Rattle.tree_model.specs.Signs.{rule_system}
 use Rattle.book_signs.specs.Trees.{signs_of}
 use Rattle.generate_model.specs.Covers.{IsCount}
 use Rattle.generated_leaves.specs.Views.{leaf_seen}

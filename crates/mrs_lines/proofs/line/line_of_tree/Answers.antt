@@ -2,9 +2,9 @@ use Rattle.std.proofs.Common.{◌≡◌, sym, subst}
 use Rattle.std.specs.Arc.{arc_value}
 use Rattle.fs_model.specs.Closure.{AreConsistent}
 use Rattle.derivation.specs.Views.{derivation_of}
-use Rattle.rule_model.specs.Mothers.{Meant}
-use Rattle.item_model.specs.Signs.{rule_system}
-use Rattle.item_model.specs.Trees.{Full}
+use Rattle.tree_model.specs.Mothers.{Meant}
+use Rattle.tree_model.specs.Signs.{rule_system}
+use Rattle.tree_model.specs.Trees.{Full}
 use Rattle.book_signs.specs.Trees.{signs_of}
 use Rattle.rule_trees.specs.Fulls.{FullTree}
 use Rattle.rule_trees.specs.Mothers.{IsMade, view_in}

@@ -1,8 +1,8 @@
 use Rattle.std.proofs.Common.{ℕ, ◌≡◌, ◌∙◌, ◌∷◌, [], ◌++◌, List, length, map, string_bytes, sym, subst, rules}
 use Rattle.derivation.specs.Views.{derivation_of}
 use Rattle.derivation.specs.declared.Tree.{Tree}
-use Rattle.rule_model.specs.Structures.{Structure}
-use Rattle.item_model.specs.Trees.{Full}
+use Rattle.tree_model.specs.Structures.{Structure}
+use Rattle.tree_model.specs.Trees.{Full}
 use Rattle.book_signs.specs.Trees.{signs_of}
 use Rattle.item_reports.specs.Reports.{item_line, counts, tree_line}
 use Rattle.mrs_places.specs.Paths.{paths_of}

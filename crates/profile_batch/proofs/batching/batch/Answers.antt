@@ -3,7 +3,7 @@ use Rattle.packed_items.specs.Answers.{limits_in}
 use Rattle.grammar_load.specs.Views.{grammar_of}
 use Rattle.engine.specs.Speeches.{Speech, IsSpeechOf}
 use Rattle.engine.proofs.Results.{if-ok}
-use Rattle.profile_items.specs.Views.{item_kept}
+use Rattle.profile_reports.specs.ItemsViews.{item_kept}
 use Rattle.profile_batch.specs.Results.{AreResultsOrGaps}
 use Rattle.profile_batch.proofs.batching.batch.Goals as goal
 

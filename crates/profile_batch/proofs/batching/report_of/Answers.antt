@@ -3,7 +3,7 @@ use Rattle.packed_items.specs.Answers.{limits_in}
 use Rattle.grammar_files.specs.Walks.{IsText}
 use Rattle.grammar_load.specs.Views.{grammar_of}
 use Rattle.endings.specs.Meanings.{Files, Shelves, shelves}
-use Rattle.command_grammars.specs.Grammars.{never}
+use Rattle.command_files.specs.Grammars.{never}
 use Rattle.engine.proofs.Speeches.{book-whole}
 use Rattle.profile_batch.specs.Batches.{batch_meaning}
 use Rattle.profile_batch.proofs.NotCome.{at-fault, no-grammar, no-profile}
@@ -15,8 +15,8 @@ returns-in_err-grammar g c =
     let b = c.args.command.now in
     let settings = option_map (λ s. s.now) b.settings in
     let h : Shelves = shelves g.S.Shelf.files g.S.Shelf.faults g.S.Shelf.asked c.args.shelf.now c.load_grammar.new.shelf in
-    at-fault _ (batch_meaning b.grammar.now settings b.profile.now (limits_in b.limits) b.limits.lexical) h c.from_residual.result c.in_err-grammar.field-0.0 c.from_residual.ensures.1
-    (no-grammar b.grammar.now settings b.profile.now (limits_in b.limits) b.limits.lexical h c.in_err-grammar.field-0.0 c.in_err-grammar.ensures.fault)
+    at-fault _ (batch_meaning b.grammar.now settings b.verbose b.profile.now (limits_in b.limits) b.limits.lexical) h c.from_residual.result c.in_err-grammar.field-0.0 c.from_residual.ensures.1
+    (no-grammar b.grammar.now settings b.verbose b.profile.now (limits_in b.limits) b.limits.lexical h c.in_err-grammar.field-0.0 c.in_err-grammar.ensures.fault)
 
 pub returns-in_err-text : goal.returns-in_err-text
 returns-in_err-text g c =
@@ -25,9 +25,9 @@ returns-in_err-text g c =
     let fault = c.in_err-text.field-0.0 in
     let part : Shelves = shelves g.S.Shelf.files g.S.Shelf.faults g.S.Shelf.asked c.load_grammar.new.shelf c.load_text.new.shelf in
     let h : Shelves = shelves g.S.Shelf.files g.S.Shelf.faults g.S.Shelf.asked c.args.shelf.now c.load_text.new.shelf in
-    let lacks = c.late_text.ensures part h b.profile.now fault c.load_grammar.ensures.same c.load_grammar.ensures.no_fall refl refl c.in_err-text.ensures.fault in
-    at-fault _ (batch_meaning b.grammar.now settings b.profile.now (limits_in b.limits) b.limits.lexical) h c.from_residual-in_err-text.result fault c.from_residual-in_err-text.ensures.1
-    (no-profile b.grammar.now settings b.profile.now (limits_in b.limits) b.limits.lexical h (grammar_of c.in_ok-grammar.grammar) c.in_ok-grammar.ensures.grammar fault lacks)
+    let lacks = c.late_text.ensures part h b.profile.now b.verbose fault c.load_grammar.ensures.same c.load_grammar.ensures.no_fall refl refl c.in_err-text.ensures.fault in
+    at-fault _ (batch_meaning b.grammar.now settings b.verbose b.profile.now (limits_in b.limits) b.limits.lexical) h c.from_residual-in_err-text.result fault c.from_residual-in_err-text.ensures.1
+    (no-profile b.grammar.now settings b.verbose b.profile.now (limits_in b.limits) b.limits.lexical h (grammar_of c.in_ok-grammar.grammar) c.in_ok-grammar.ensures.grammar fault lacks)
 
 pub report_with-requires-clause-whole : goal.report_with-requires-clause-whole
 report_with-requires-clause-whole g c κs within =
@@ -51,5 +51,5 @@ returns-in-Ok g c = λ lines.
     let h : Shelves = shelves g.S.Shelf.files g.S.Shelf.faults g.S.Shelf.asked c.args.shelf.now c.load_text.new.shelf in
     let made = c.in-Ok.ensures in
     let is = subst (λ (there : Files). IsText there b.profile.now c.in_ok-text.text.items) c.load_grammar.ensures.same c.in_ok-text.ensures.text in
-    told-report b.grammar.now settings b.profile.now (limits_in b.limits) b.limits.lexical h lines made.0 (grammar_of c.in_ok-grammar.grammar, c.in_ok-grammar.ensures.grammar, made.1)
+    told-report b.grammar.now settings b.verbose b.profile.now (limits_in b.limits) b.limits.lexical h lines made.0 (grammar_of c.in_ok-grammar.grammar, c.in_ok-grammar.ensures.grammar, made.1)
     c.deref.result.now (subst (IsText (g.S.Shelf.files c.args.shelf.now) b.profile.now) (sym c.deref.ensures.value) is) c.in-Ok.report made.2

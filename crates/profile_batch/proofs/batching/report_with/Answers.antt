@@ -1,7 +1,7 @@
 use Rattle.std.proofs.Common.{◌∙◌, ◌<◌, ◌^◌, length, map, All, ap, sym, subst, arith}
 use Rattle.packed_items.specs.Answers.{limits_in}
 use Rattle.grammar_load.specs.Views.{grammar_of}
-use Rattle.profile_items.specs.Views.{item_kept}
+use Rattle.profile_reports.specs.ItemsViews.{item_kept}
 use Rattle.profile_reports.specs.Comparing.{is_some_lacking}
 use Rattle.profile_reports.specs.Lines.{report_lines, is_refused}
 use Rattle.profile_batch.specs.Results.{AreResultsOrGaps}

@@ -1,7 +1,7 @@
 use Rattle.std.proofs.Common.{ℕ, ◌<◌, ◌^◌, All, map, length, string_bytes, sym, subst}
 use Rattle.derivation.specs.Text.{IsNamed}
 use Rattle.derivation.specs.Views.{derivation_of}
-use Rattle.item_model.specs.Items.{Trees}
+use Rattle.tree_model.specs.Items.{Trees}
 use Rattle.grammar_rules.specs.Views.{item_answer}
 use Rattle.profile_reports.specs.Views.{Keeps}
 use Rattle.engine.proofs.Results.{if-ok}

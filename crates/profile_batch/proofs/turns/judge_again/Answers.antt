@@ -2,8 +2,8 @@ use Rattle.std.proofs.Common.{ℕ, sym, subst, Vec, Global, arith}
 use Rattle.packed_items.specs.Answers.{limits_in}
 use Rattle.engine.specs.Views.{speech_of}
 use Rattle.side_by_side.specs.Works.{AreGiven}
-use Rattle.profile_items.specs.declared.ProfileItem.{ProfileItem}
-use Rattle.profile_items.specs.Views.{item_kept}
+use Rattle.profile_reports.specs.declared.profiles.ProfileItem.{ProfileItem}
+use Rattle.profile_reports.specs.ItemsViews.{item_kept}
 use Rattle.profile_reports.specs.declared.ItemResult.{ItemResult}
 use Rattle.profile_batch.specs.Results.{IsResultOrGap}
 use Rattle.profile_batch.proofs.GivenAt.{within, set-at}

@@ -1,7 +1,7 @@
 use Rattle.packed_items.specs.Answers.{limits_in}
 use Rattle.engine.specs.Views.{speech_of}
 use Rattle.side_by_side.specs.Works.{AreGiven}
-use Rattle.profile_items.specs.Views.{item_kept}
+use Rattle.profile_reports.specs.ItemsViews.{item_kept}
 use Rattle.profile_batch.specs.Results.{IsResultOrGap}
 use Rattle.profile_batch.proofs.turns.judge_again.Given as goal
 

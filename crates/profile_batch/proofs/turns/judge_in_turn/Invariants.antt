@@ -3,7 +3,7 @@ use Rattle.std.specs.Vec.{vec_capacity}
 use Rattle.packed_items.specs.Answers.{limits_in}
 use Rattle.engine.specs.Views.{speech_of}
 use Rattle.side_by_side.specs.Works.{AreGiven}
-use Rattle.profile_items.specs.Views.{item_kept}
+use Rattle.profile_reports.specs.ItemsViews.{item_kept}
 use Rattle.profile_batch.specs.Results.{IsResultOrGap}
 use Rattle.profile_batch.proofs.turns.judge_in_turn.Given as goal
 

@@ -1,5 +1,5 @@
 use Rattle.std.proofs.Common.{◌≡◌, ◌+◌, ◌++◌, ◌≤◌, map, drop}
-use Rattle.profile_items.specs.Views.{item_kept}
+use Rattle.profile_reports.specs.ItemsViews.{item_kept}
 use Rattle.profile_reports.specs.Lines.{lines_from, counts_of}
 use Rattle.profile_reports.specs.Inner.{sum_counts}
 use Rattle.profile_reports.proofs.report.report_on.Given as goal

@@ -1,5 +1,5 @@
 use Rattle.std.proofs.Common.{◌↔◌, IsTrue, sym, subst}
-use Rattle.item_model.specs.Trees.{IsRooted}
+use Rattle.tree_model.specs.Trees.{IsRooted}
 use Rattle.mrs_model.specs.Views.{meaning_of}
 use Rattle.mrs_places.specs.Paths.{paths_of}
 use Rattle.book_signs.specs.Trees.{signs_of}

@@ -1,6 +1,6 @@
 use Rattle.std.proofs.Common.{◌≡◌, ◌∙◌, Some, sym, ap, subst}
 use Rattle.fs_graph.specs.GraphMap.{node_at}
-use Rattle.fs_paths.specs.Facts.{path_of}
+use Rattle.fs_graph.specs.Facts.{path_of}
 use Rattle.relation_fit.specs.Lists.{list_seen}
 use Rattle.relation_fit.specs.Inner.Cells.{nodes_of}
 use Rattle.relation_fit.proofs.Nodes.{node_inside}

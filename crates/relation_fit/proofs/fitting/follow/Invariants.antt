@@ -1,5 +1,5 @@
 use Rattle.std.proofs.Common.{◌≡◌, ◌<◌, drop, length}
-use Rattle.fs_paths.specs.Facts.{path_of}
+use Rattle.fs_graph.specs.Facts.{path_of}
 use Rattle.fs_model.specs.Table.{walk}
 use Rattle.fs_graph.specs.GraphMap.{table_of}
 use Rattle.relation_fit.proofs.fitting.follow.Given as goal

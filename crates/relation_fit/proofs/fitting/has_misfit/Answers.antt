@@ -1,6 +1,6 @@
 use Rattle.std.proofs.Common.{◌≡◌, ◌∙◌, Some, false, length, sym, ap}
 use Rattle.fs_graph.specs.GraphMap.{node_at}
-use Rattle.fs_paths.specs.Facts.{path_of}
+use Rattle.fs_graph.specs.Facts.{path_of}
 use Rattle.mrs_places.specs.Paths.{paths_of}
 use Rattle.relation_fit.specs.Lists.{list_seen}
 use Rattle.relation_fit.specs.Tests.{misfits}

@@ -2,8 +2,8 @@ use Rattle.std.proofs.Common.{◌≡◌, ◌∙◌, Some, length, map, sym, ap, 
 use Rattle.std.specs.List.{remove}
 use Rattle.std.proofs.lemmas.Bool.{eqb-true}
 use Rattle.fs_graph.specs.GraphMap.{node_at}
-use Rattle.fs_paths.specs.declared.facts.Feat.{Feat}
-use Rattle.fs_paths.specs.Facts.{path_of}
+use Rattle.fs_graph.specs.declared.facts.Feat.{Feat}
+use Rattle.fs_graph.specs.Facts.{path_of}
 use Rattle.relation_fit.specs.declared.links.DaughterList.{DaughterList}
 use Rattle.relation_fit.specs.Lists.{list_seen, places_seen}
 use Rattle.relation_fit.specs.Inner.Links.{open_seen, BeginsAt, Linked}

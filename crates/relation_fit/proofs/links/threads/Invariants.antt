@@ -1,6 +1,6 @@
 use Rattle.std.proofs.Common.{ℕ, ◌≡◌, map, Some}
 use Rattle.fs_graph.specs.GraphMap.{node_at}
-use Rattle.fs_paths.specs.Facts.{path_of}
+use Rattle.fs_graph.specs.Facts.{path_of}
 use Rattle.relation_fit.specs.Lists.{list_seen, places_seen}
 use Rattle.relation_fit.specs.Inner.Links.{open_seen, Linked}
 use Rattle.relation_fit.proofs.links.threads.Given as goal

@@ -1,6 +1,6 @@
 use Rattle.std.proofs.Common.{◌≡◌, drop}
-use Rattle.fs_paths.specs.Facts.{path_of}
-use Rattle.rule_model.specs.Cuts.{has_feature}
+use Rattle.fs_graph.specs.Facts.{path_of}
+use Rattle.tree_model.specs.Cuts.{has_feature}
 use Rattle.relation_fit.proofs.list.is_among.Given as goal
 
 abbrev pub invariant-loop-k : goal.invariant-loop-k

@@ -1,5 +1,5 @@
 use Rattle.std.proofs.Common.{◌≡◌, ◌∙◌, true, sym, ap}
-use Rattle.fs_paths.specs.Facts.{path_of}
+use Rattle.fs_graph.specs.Facts.{path_of}
 use Rattle.relation_fit.specs.Lists.{list_seen}
 use Rattle.relation_fit.specs.Inner.Lists.{begins_apart}
 use Rattle.relation_fit.proofs.Features.{apart_outside}

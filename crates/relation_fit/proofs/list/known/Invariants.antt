@@ -1,5 +1,5 @@
 use Rattle.std.proofs.Common.{◌≡◌, map, drop}
-use Rattle.fs_paths.specs.Facts.{path_of}
+use Rattle.fs_graph.specs.Facts.{path_of}
 use Rattle.mrs_places.specs.Paths.{feature_of}
 use Rattle.relation_fit.specs.Lists.{numbers}
 use Rattle.relation_fit.proofs.Features.{behind}

@@ -1,6 +1,6 @@
 use Rattle.fs_graph.specs.GraphMap.{reader_of}
 use Rattle.fs_unify.specs.Rules.{system_of}
-use Rattle.fs_paths.specs.Facts.{path_of}
+use Rattle.fs_graph.specs.Facts.{path_of}
 use Rattle.book_signs.specs.Trees.{signs_of}
 use Rattle.rule_trees.proofs.CopyLemmas.{same_kept, same_view}
 use Rattle.rule_trees.proofs.copies.copied.Goals as goal

@@ -3,7 +3,7 @@ use Rattle.fs_graph.specs.GraphMap.{reader_of}
 use Rattle.fs_unify.specs.Rules.{system_of}
 use Rattle.fs_unify.specs.Owing.{IsWellFormedBut}
 use Rattle.fs_trim.specs.Cutting.{owed_of}
-use Rattle.rule_model.specs.Views.{IsKeptOf}
+use Rattle.tree_model.specs.Views.{IsKeptOf}
 use Rattle.rule_trees.proofs.FollowLemmas.{own_is}
 use Rattle.rule_trees.proofs.following.own_of.Goals as goal
 

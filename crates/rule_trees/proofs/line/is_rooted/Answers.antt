@@ -1,6 +1,6 @@
 use Rattle.std.proofs.Common.{sym, subst}
 use Rattle.std.specs.Prelude.{◌↔◌, IsTrue}
-use Rattle.item_model.specs.Trees.{IsRooted}
+use Rattle.tree_model.specs.Trees.{IsRooted}
 use Rattle.book_signs.specs.Trees.{signs_of}
 use Rattle.rule_trees.specs.Mothers.{IsMade, view_in}
 use Rattle.rule_trees.proofs.line.is_rooted.Goals as goal

@@ -4,11 +4,11 @@ use Rattle.std.proofs.lemmas.List.{length-map}
 use Rattle.fs_model.specs.Claims.{Has, IsBare}
 use Rattle.fs_graph.specs.GraphMap.{reader_of}
 use Rattle.fs_unify.specs.Rules.{Grammar, system_of}
-use Rattle.rule_model.specs.Mothers.{daughters_cut}
-use Rattle.item_model.specs.Signs.{rule_system}
+use Rattle.tree_model.specs.Mothers.{daughters_cut}
+use Rattle.tree_model.specs.Signs.{rule_system}
 use Rattle.fs_unify.specs.Placing.{PlacedGraph, IsPlacedIn, source_of}
 use Rattle.fs_trim.specs.Cutting.{cut_of, owed_of, IsShort}
-use Rattle.rule_model.specs.Views.{IsTrimmed}
+use Rattle.tree_model.specs.Views.{IsTrimmed}
 use Rattle.book_signs.specs.Trees.{signs_of, paths_of}
 use Rattle.rule_trees.proofs.MakingLemmas.{made, placed_in, has_place, has_places}
 use Rattle.rule_trees.proofs.making.made.Goals as goal

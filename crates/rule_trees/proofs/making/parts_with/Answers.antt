@@ -1,7 +1,7 @@
 use Rattle.std.proofs.Common.{◌<◌, ◌∙◌, length, map, Vec, Global, Bor, sym, ap, arith}
 use Rattle.std.proofs.lemmas.List.{length-map, get_or-map}
-use Rattle.fs_paths.specs.declared.facts.Feat.{Feat}
-use Rattle.fs_paths.specs.Facts.{path_of}
+use Rattle.fs_graph.specs.declared.facts.Feat.{Feat}
+use Rattle.fs_graph.specs.Facts.{path_of}
 use Rattle.fs_graph.specs.GraphMap.{GraphMap}
 use Rattle.book_signs.specs.Trees.{paths_of}
 use Rattle.rule_trees.proofs.MakingLemmas.{daughters_next}

@@ -5,8 +5,8 @@ use Rattle.fs_model.specs.Closure.{IsConsistent}
 use Rattle.fs_model.specs.Sources.{Told}
 use Rattle.fs_unify.specs.Rules.{Grammar, system_of}
 use Rattle.fs_trim.specs.Cutting.{owed_of}
-use Rattle.rule_model.specs.Mothers.{daughters_cut}
-use Rattle.item_model.specs.Signs.{rule_system}
+use Rattle.tree_model.specs.Mothers.{daughters_cut}
+use Rattle.tree_model.specs.Signs.{rule_system}
 use Rattle.fs_unify.specs.Placing.{IsPlacedIn, source_of}
 use Rattle.book_signs.specs.Trees.{signs_of}
 use Rattle.rule_trees.specs.Inner.Placed.{placed_both}

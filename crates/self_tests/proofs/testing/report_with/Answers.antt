@@ -1,7 +1,7 @@
 use Rattle.std.proofs.Common.{◌∙◌, ap, subst, length, None}
 use Rattle.packed_items.specs.Answers.{limits_in}
 use Rattle.grammar_load.specs.Views.{grammar_of}
-use Rattle.command_grammars.specs.Grammars.{never}
+use Rattle.command_files.specs.Grammars.{never}
 use Rattle.engine.proofs.Results.{if-ok}
 use Rattle.engine.proofs.Speeches.{book-whole}
 use Rattle.engine.specs.Speeches.{Speech, IsSpeechOf}

@@ -1,6 +1,6 @@
 use Rattle.std.proofs.Common.{◌≡◌, ◌++◌, map}
 use Rattle.lkb_io.specs.Named.{named_files}
-use Rattle.workload.specs.Made.{file_of}
+use Rattle.self_tests.specs.Made.{file_of}
 use Rattle.self_tests.specs.SelfTests.{shelved}
 use Rattle.self_tests.proofs.testing.shelf_of.Given as goal
 

@@ -3,7 +3,7 @@ use Rattle.std.specs.Str.{IsUtf8}
 use Rattle.packed_items.specs.Answers.{limits_in}
 use Rattle.engine.specs.Views.{speech_of}
 use Rattle.side_by_side.specs.Works.{AreGiven}
-use Rattle.item_counts.specs.declared.Count.{Count}
+use Rattle.self_tests.specs.declared.counts.Count.{Count}
 use Rattle.self_tests.specs.Inner.Counts.{MayBeCounted}
 use Rattle.self_tests.proofs.GivenAt.{within, set-at}
 use Rattle.self_tests.proofs.turns.count_again.Goals as goal

@@ -1,5 +1,5 @@
 use Rattle.std.proofs.Common.{◌≡◌, ◌+◌, ◌-◌, ◌≤◌, [], All, length}
-use Rattle.place_draws.specs.Plays.{all_hands}
+use Rattle.side_by_side.specs.Plays.{all_hands}
 use Rattle.side_by_side.specs.Inner.Posts.{IsFresh}
 use Rattle.side_by_side.proofs.posts.posts_of.Given as goal
 

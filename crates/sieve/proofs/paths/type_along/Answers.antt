@@ -1,6 +1,6 @@
 use Rattle.std.proofs.Common.{sym}
 use Rattle.fs_model.proofs.TableLemmas.{walk_ends}
-use Rattle.fs_paths.specs.Facts.{path_of}
+use Rattle.fs_graph.specs.Facts.{path_of}
 use Rattle.fs_graph.specs.GraphMap.{table_of}
 use Rattle.sieve.proofs.paths.type_along.Goals as goal
 

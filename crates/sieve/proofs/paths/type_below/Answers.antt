@@ -1,6 +1,6 @@
 use Rattle.std.proofs.Common.{◌∙◌, ap}
 use Rattle.fs_graph.specs.GraphMap.{reader_of}
-use Rattle.fs_paths.specs.Facts.{path_of}
+use Rattle.fs_graph.specs.Facts.{path_of}
 use Rattle.sieve.specs.Sketches.{type_along}
 use Rattle.sieve.proofs.paths.type_below.Goals as goal
 

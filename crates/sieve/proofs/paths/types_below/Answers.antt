@@ -1,6 +1,6 @@
 use Rattle.std.proofs.Common.{◌∙◌, ap}
 use Rattle.fs_graph.specs.GraphMap.{reader_of}
-use Rattle.fs_paths.specs.Facts.{path_of}
+use Rattle.fs_graph.specs.Facts.{path_of}
 use Rattle.sieve.specs.Sketches.{type_along, below_place}
 use Rattle.sieve.proofs.Lines.{one_more}
 use Rattle.sieve.proofs.paths.types_below.Goals as goal

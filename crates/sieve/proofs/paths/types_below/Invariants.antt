@@ -1,5 +1,5 @@
 use Rattle.std.proofs.Common.{◌≡◌, map, take}
-use Rattle.fs_paths.specs.Facts.{path_of}
+use Rattle.fs_graph.specs.Facts.{path_of}
 use Rattle.fs_graph.specs.GraphMap.{reader_of}
 use Rattle.sieve.specs.Sketches.{paths_of, type_along, below_place}
 use Rattle.sieve.specs.Inner.{numbers_of}

@@ -1,6 +1,6 @@
 use Rattle.std.proofs.Common.{nat_eq, ◌∙◌, sym}
 use Rattle.std.specs.Cmp.Derive.Mapped.{pointwise-map}
-use Rattle.fs_paths.specs.declared.facts.Feat.{Feat}
+use Rattle.fs_graph.specs.declared.facts.Feat.{Feat}
 use Rattle.sieve.proofs.quick.is_one.Goals as goal
 
 pub returns : goal.returns

@@ -1,5 +1,5 @@
 use Rattle.std.proofs.Common.{map, take}
-use Rattle.word_lists.specs.Words.{Each}
+use Rattle.lexicon.specs.Words.{Each}
 use Rattle.spelling_rules.specs.Trees.{IsBound}
 use Rattle.spelling_rules.specs.Views.{group_of}
 use Rattle.spelling_rules.proofs.bound.all_bound.Given as goal

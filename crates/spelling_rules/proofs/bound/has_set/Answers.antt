@@ -1,5 +1,5 @@
 use Rattle.std.proofs.Common.{◌≡◌, ◌∙◌, inl, inr, Bool, true, false, List, [], ◌∷◌, length, map, take, refl, sym, ap, subst}
-use Rattle.word_lists.specs.Words.{Has}
+use Rattle.lexicon.specs.Words.{Has}
 use Rattle.spelling_rules.specs.Trees.{variable}
 use Rattle.spelling_rules.specs.Views.{sign_of}
 use Rattle.spelling_rules.proofs.Lists.{Has-at, Has-next, all_taken, true_not_false}

@@ -1,5 +1,5 @@
 use Rattle.std.proofs.Common.{map, take}
-use Rattle.word_lists.specs.Words.{Has}
+use Rattle.lexicon.specs.Words.{Has}
 use Rattle.spelling_rules.specs.Trees.{variable}
 use Rattle.spelling_rules.specs.Views.{sign_of}
 use Rattle.spelling_rules.specs.Inner.Keeping.{Empty}

@@ -1,5 +1,5 @@
 use Rattle.std.proofs.Common.{◌≡◌, ◌∙◌, inl, inr, Bool, true, false, List, [], ◌∷◌, length, map, take, refl, sym, ap, subst}
-use Rattle.word_lists.specs.Words.{Each}
+use Rattle.lexicon.specs.Words.{Each}
 use Rattle.spelling_rules.specs.Views.{sign_of}
 use Rattle.spelling_rules.specs.Inner.Keeping.{IsFound}
 use Rattle.spelling_rules.proofs.Lists.{Each-next, Each-all, Each-mapped, true_not_false}

@@ -1,5 +1,5 @@
 use Rattle.std.proofs.Common.{map, take}
-use Rattle.word_lists.specs.Words.{Each}
+use Rattle.lexicon.specs.Words.{Each}
 use Rattle.spelling_rules.specs.Views.{sign_of}
 use Rattle.spelling_rules.specs.Inner.Keeping.{IsFound}
 use Rattle.spelling_rules.proofs.bound.is_bound.Given as goal

@@ -4,7 +4,7 @@ use Rattle.spelling_rules.proofs.UndoLemmas.{regular_stem, group_kept, bound_gro
 use Rattle.spelling_rules.specs.Views.{sign_of, group_of, rule_of, line_of, words_in, letters_in}
 use Rattle.std.specs.Prelude.{encode_utf8_all}
 use Rattle.std.proofs.lemmas.List.{map-append, length-map}
-use Rattle.word_lists.specs.Words.{Word, Has, Each}
+use Rattle.lexicon.specs.Words.{Word, Has, Each}
 use Rattle.spelling_rules.specs.Forms.{Rewrites}
 use Rattle.spelling_rules.specs.Trees.{IsBound}
 use Rattle.spelling_rules.specs.Inner.Keeping.{group_at}

@@ -2,8 +2,8 @@ use Rattle.std.proofs.Common.{arith, ◌≡◌, ◌∙◌, ◌<◌, ◌==◌, []
 use Rattle.std.specs.Prelude.{encode_utf8_all}
 use Rattle.std.specs.Option.{option_map}
 use Rattle.std.proofs.lemmas.List.{length-map}
-use Rattle.word_lists.specs.Words.{Has}
-use Rattle.word_lists.proofs.WordLemmas.{bytes_eq-same, bytes_eq-refl}
+use Rattle.lexicon.specs.Words.{Has}
+use Rattle.lexicon.proofs.WordLemmas.{bytes_eq-same, bytes_eq-refl}
 use Rattle.spelling_rules.specs.Inner.Rewriting.{by_groups, words_made, regular_forms}
 use Rattle.spelling_rules.specs.Views.{group_of, letters_in}
 use Rattle.spelling_rules.proofs.Lists.{empty_list, filled, true_not_false}

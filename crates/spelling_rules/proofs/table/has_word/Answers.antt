@@ -1,7 +1,7 @@
 use Rattle.std.proofs.Common.{◌∙◌, inl, inr, false, map, string_bytes, refl, sym, ap, subst}
 use Rattle.std.specs.Str.{bytes_eq}
-use Rattle.word_lists.proofs.WordLemmas.{bytes_eq-same, bytes_eq-refl}
-use Rattle.word_lists.specs.Words.{Has}
+use Rattle.lexicon.proofs.WordLemmas.{bytes_eq-same, bytes_eq-refl}
+use Rattle.lexicon.specs.Words.{Has}
 use Rattle.spelling_rules.proofs.Lists.{Has-at, Has-next, all_taken, true_not_false}
 use Rattle.spelling_rules.proofs.table.has_word.Goals as goal
 

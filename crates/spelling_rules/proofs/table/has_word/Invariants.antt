@@ -1,5 +1,5 @@
 use Rattle.std.proofs.Common.{map, take, string_bytes}
-use Rattle.word_lists.specs.Words.{Has}
+use Rattle.lexicon.specs.Words.{Has}
 use Rattle.spelling_rules.specs.Inner.Keeping.{Empty}
 use Rattle.spelling_rules.proofs.table.has_word.Given as goal
 

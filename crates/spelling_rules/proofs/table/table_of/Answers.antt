@@ -3,7 +3,7 @@ use Rattle.spelling_rules.proofs.Lists.{map_take_next}
 use Rattle.spelling_rules.proofs.TableLemmas.{noted_more, table_step}
 use Rattle.spelling_rules.specs.Views.{sign_of, group_of, rule_of, line_of, words_in, letters_in}
 use Rattle.std.specs.Str.{bytes_eq}
-use Rattle.word_lists.specs.Words.{noted}
+use Rattle.lexicon.specs.Words.{noted}
 use Rattle.spelling_rules.specs.Inner.Tables.{Pair, pair_of, form_pair, stem_pair}
 use Rattle.spelling_rules.proofs.table.table_of.Goals as goal
 

@@ -5,7 +5,7 @@ use Rattle.spelling_rules.specs.Forms.{stands_for, joined, Rewrites, HasForm}
 use Rattle.spelling_rules.specs.Inner.Undoing.{occurs, longer, fillings}
 use Rattle.std.specs.List.{flat_map}
 use Rattle.std.specs.Prelude.{encode_utf8_all}
-use Rattle.word_lists.specs.Words.{Word, Has, Rises, noted}
+use Rattle.lexicon.specs.Words.{Word, Has, Rises, noted}
 use Rattle.spelling_rules.specs.Inner.Tables.{IsTable, pair_of, words_of_rule, with_each}
 use Rattle.spelling_rules.specs.Inner.Keeping.{IsStem}
 use Rattle.spelling_rules.proofs.undo.add_words.Given as goal

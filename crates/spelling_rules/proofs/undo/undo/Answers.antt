@@ -3,7 +3,7 @@ use Rattle.spelling_rules.proofs.UndoLemmas.{undone}
 use Rattle.spelling_rules.proofs.Lists.{true_not_false}
 use Rattle.spelling_rules.specs.Views.{sign_of, group_of, rule_of, line_of, words_in, letters_in}
 use Rattle.std.specs.Prelude.{encode_utf8_all}
-use Rattle.word_lists.specs.Words.{Word, Has}
+use Rattle.lexicon.specs.Words.{Word, Has}
 use Rattle.spelling_rules.specs.Forms.{joined}
 use Rattle.spelling_rules.specs.Inner.Rewriting.{fits_by, value_in, part_of, rest_of}
 use Rattle.std.proofs.lemmas.List.{length-map}

@@ -1,6 +1,6 @@
 use Rattle.std.proofs.Common.{refl, subst, arith}
 use Rattle.std.proofs.lemmas.List.Elements.{All-more}
-use Rattle.fs_paths.specs.Facts.{claim_of}
+use Rattle.fs_graph.specs.Facts.{claim_of}
 use Rattle.fs_closing.specs.Rules.{IsClaimIn}
 use Rattle.fs_unify.proofs.SampleLemmas.{at_end, claims_in}
 use Rattle.structure_rows.proofs.facts.facts_in.Goals as goal

@@ -1,5 +1,5 @@
 use Rattle.std.proofs.Common.{All, take}
-use Rattle.fs_paths.specs.Facts.{claim_of}
+use Rattle.fs_graph.specs.Facts.{claim_of}
 use Rattle.fs_closing.specs.Rules.{IsClaimIn}
 use Rattle.structure_rows.proofs.facts.facts_in.Given as goal
 

@@ -1,5 +1,5 @@
 use Rattle.std.proofs.Common.{◌<◌, All, refl, sym, ap, subst}
-use Rattle.fs_paths.specs.Facts.{path_of}
+use Rattle.fs_graph.specs.Facts.{path_of}
 use Rattle.fs_unify.proofs.SampleLemmas.{two_placed}
 use Rattle.structure_rows.proofs.structures.joined.Goals as goal
 

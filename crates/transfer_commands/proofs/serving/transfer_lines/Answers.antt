@@ -11,7 +11,7 @@ use Rattle.transfer_commands.proofs.serving.transfer_lines.Goals as goal
 
 pub returns-in_err-transferrer : goal.returns-in_err-transferrer
 returns-in_err-transferrer g c =
-    let m = transfer_meaning c.args.command.now.rules.now (option_map (λ s. s.now) c.args.command.now.settings) in
+    let m = transfer_meaning c.args.command.now.rules.now (option_map (λ s. s.now) c.args.command.now.settings) c.args.command.now.verbose in
     let h : Shelves = shelves g.S.Shelf.files g.S.Shelf.faults g.S.Shelf.asked c.args.shelf.now c.load.new.shelf in
     let o : Streams = streams g.I.Source.left g.I.Source.faults g.O.Sink.written g.O.Sink.flushed g.O.Sink.faults c.args.input.now c.args.input.now c.args.out.now c.args.out.now in
     let idle = c.args.input.now ≡ c.args.input.now in
@@ -21,7 +21,7 @@ returns-in_err-transferrer g c =
 
 pub returns-in_err-refused : goal.returns-in_err-refused
 returns-in_err-refused g c =
-    let m = transfer_meaning c.args.command.now.rules.now (option_map (λ s. s.now) c.args.command.now.settings) in
+    let m = transfer_meaning c.args.command.now.rules.now (option_map (λ s. s.now) c.args.command.now.settings) c.args.command.now.verbose in
     let h : Shelves = shelves g.S.Shelf.files g.S.Shelf.faults g.S.Shelf.asked c.args.shelf.now c.load.new.shelf in
     let o : Streams = streams g.I.Source.left g.I.Source.faults g.O.Sink.written g.O.Sink.flushed g.O.Sink.faults c.args.input.now c.serve.new.input c.args.out.now c.serve.new.out in
     let idle = c.serve.new.input ≡ c.args.input.now in
@@ -33,7 +33,7 @@ returns-in_err-refused g c =
 
 pub returns : goal.returns
 returns g c =
-    let m = transfer_meaning c.args.command.now.rules.now (option_map (λ s. s.now) c.args.command.now.settings) in
+    let m = transfer_meaning c.args.command.now.rules.now (option_map (λ s. s.now) c.args.command.now.settings) c.args.command.now.verbose in
     let h : Shelves = shelves g.S.Shelf.files g.S.Shelf.faults g.S.Shelf.asked c.args.shelf.now c.load.new.shelf in
     let o : Streams = streams g.I.Source.left g.I.Source.faults g.O.Sink.written g.O.Sink.flushed g.O.Sink.faults c.args.input.now c.serve.new.input c.args.out.now c.serve.new.out in
     let idle = c.serve.new.input ≡ c.args.input.now in

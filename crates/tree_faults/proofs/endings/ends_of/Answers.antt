@@ -1,6 +1,6 @@
 use Rattle.std.proofs.Common.{◌≡◌, ◌<◌, ◌+◌, length, map, take, string_bytes, subst, arith, get_or}
 use Rattle.std.proofs.lemmas.List.{length-map}
-use Rattle.inflected_trees.specs.Forms.{AreFormsOf}
+use Rattle.lexical_items.specs.Forms.{AreFormsOf}
 use Rattle.tree_faults.specs.WordBooks.{said_by}
 use Rattle.tree_faults.specs.Inner.Ends.{front_of}
 use Rattle.tree_faults.proofs.Ends.{ends_step, has_forms, no_forms}

@@ -1,5 +1,5 @@
 use Rattle.std.proofs.Common.{◌↔◌, IsTrue, sym, subst}
-use Rattle.item_model.specs.Trees.{IsRooted}
+use Rattle.tree_model.specs.Trees.{IsRooted}
 use Rattle.book_signs.specs.Trees.{signs_of}
 use Rattle.rule_trees.specs.Mothers.{IsMade, view_in}
 use Rattle.tree_faults.proofs.explaining.is_rooted.Goals as goal

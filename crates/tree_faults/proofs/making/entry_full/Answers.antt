@@ -1,6 +1,6 @@
 use Rattle.std.proofs.Common.{refl}
-use Rattle.rule_model.specs.Structures.{Structure}
-use Rattle.item_model.specs.Lexical.{IsEntry}
+use Rattle.tree_model.specs.Structures.{Structure}
+use Rattle.tree_model.specs.Lexical.{IsEntry}
 use Rattle.book_signs.specs.Trees.{signs_of, entries_of}
 use Rattle.rule_trees.specs.Mothers.{view_in}
 use Rattle.rule_trees.proofs.PlaceLemmas.{has_at, entry_places}

@@ -1,7 +1,7 @@
 use Rattle.std.proofs.Common.{◌≡◌, ◌+◌, ◌-◌, length, take, refl, subst, arith}
 use Rattle.std.proofs.lemmas.List.{take_all}
-use Rattle.item_model.specs.Lexical.{FullLexical}
-use Rattle.item_model.specs.Trees.{full_lexical}
+use Rattle.tree_model.specs.Lexical.{FullLexical}
+use Rattle.tree_model.specs.Trees.{full_lexical}
 use Rattle.book_signs.specs.Trees.{signs_of}
 use Rattle.tree_structures.specs.Known.{view_of}
 use Rattle.tree_faults.proofs.Climbed.{one_part, climb_first, climb_made, climb_has, climb_next, climb_lacks}

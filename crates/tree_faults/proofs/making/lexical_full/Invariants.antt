@@ -1,5 +1,5 @@
 use Rattle.std.proofs.Common.{take}
-use Rattle.item_model.specs.Lexical.{FullLexical}
+use Rattle.tree_model.specs.Lexical.{FullLexical}
 use Rattle.book_signs.specs.Trees.{signs_of}
 use Rattle.tree_structures.specs.Known.{view_of}
 use Rattle.tree_faults.proofs.making.lexical_full.Given as goal

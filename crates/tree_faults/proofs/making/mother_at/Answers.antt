@@ -1,7 +1,7 @@
 use Rattle.std.proofs.Common.{◌≡◌, Some, refl, ap}
 use Rattle.std.specs.Prelude.{option_map}
-use Rattle.item_model.specs.Signs.{Instance}
-use Rattle.rule_model.specs.Structures.{Structure}
+use Rattle.tree_model.specs.Signs.{Instance}
+use Rattle.tree_model.specs.Structures.{Structure}
 use Rattle.book_signs.specs.Trees.{signs_of, rule_at}
 use Rattle.rule_trees.specs.Mothers.{IsMother}
 use Rattle.forced_types.specs.Views.{verdict_of}

@@ -2,7 +2,7 @@ use Rattle.std.proofs.Common.{rules, ℕ, ◌≡◌, ◌∙◌, All, Vec, Global
 use Rattle.std.specs.Prelude.{IfOk, MatchOption, None}
 use Rattle.chart_model.specs.At.{At}
 use Rattle.derivation.specs.declared.Tree.{Tree}
-use Rattle.item_model.specs.Trees.{LeavesAre}
+use Rattle.tree_model.specs.Trees.{LeavesAre}
 use Rattle.tree_faults.specs.Spelled.{AreSpelled, IsFirstMisspelled}
 use Rattle.tree_faults.specs.WordBooks.{IsNumbered, said_by}
 use Rattle.tree_faults.proofs.Items.{leaf_has, leaf_spelled, leaf_misspelled, within_new, phrase_is}

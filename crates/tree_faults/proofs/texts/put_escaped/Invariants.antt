@@ -1,6 +1,6 @@
 use Rattle.std.proofs.Common.{◌≡◌, ◌++◌, take}
 use Rattle.std.specs.List.{flat_map}
-use Rattle.fs_paths.specs.Text.{escaped}
+use Rattle.fs_graph.specs.Text.{escaped}
 use Rattle.tree_faults.proofs.texts.put_escaped.Given as goal
 
 abbrev pub invariant-loop-byte : goal.invariant-loop-byte

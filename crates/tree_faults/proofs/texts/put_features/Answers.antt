@@ -1,7 +1,7 @@
 use Rattle.std.proofs.Common.{◌<◌, length, subst, arith}
 use Rattle.std.proofs.lemmas.List.{get_or-map, length-map}
 use Rattle.std.proofs.lemmas.List.Elements.{All-get_or}
-use Rattle.fs_paths.specs.Facts.{path_of}
+use Rattle.fs_graph.specs.Facts.{path_of}
 use Rattle.tree_faults.proofs.texts.put_features.Goals as goal
 
 pub put_feature-requires : goal.put_feature-requires

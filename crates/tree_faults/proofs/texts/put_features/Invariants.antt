@@ -1,7 +1,7 @@
 use Rattle.std.proofs.Common.{◌≡◌, ◌++◌, map, take, string_bytes}
 use Rattle.std.specs.List.{flat_map}
-use Rattle.fs_paths.specs.Facts.{path_of}
-use Rattle.fs_paths.specs.Text.{feature_text}
+use Rattle.fs_graph.specs.Facts.{path_of}
+use Rattle.fs_graph.specs.Text.{feature_text}
 use Rattle.tree_faults.proofs.texts.put_features.Given as goal
 
 abbrev pub invariant-loop-feat : goal.invariant-loop-feat

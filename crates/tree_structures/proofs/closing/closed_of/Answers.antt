@@ -4,8 +4,8 @@ use Rattle.fs_model.specs.Claims.{Has}
 use Rattle.fs_model.specs.Sources.{IsUnified}
 use Rattle.fs_graph.specs.GraphMap.{reader_of}
 use Rattle.fs_trim.specs.Cutting.{owed_of}
-use Rattle.rule_model.specs.Mothers.{daughters_cut}
-use Rattle.item_model.specs.Signs.{rule_system}
+use Rattle.tree_model.specs.Mothers.{daughters_cut}
+use Rattle.tree_model.specs.Signs.{rule_system}
 use Rattle.book_signs.specs.Trees.{signs_of}
 use Rattle.rule_trees.proofs.OweLemmas.{made_owes}
 use Rattle.fs_unify.specs.Rules.{Grammar, system_of}

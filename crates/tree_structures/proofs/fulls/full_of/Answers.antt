@@ -1,7 +1,7 @@
 use Rattle.std.proofs.Common.{◌≡◌, refl, sym, subst}
 use Rattle.std.specs.Arc.{arc_value}
 use Rattle.derivation.specs.Views.{derivation_of}
-use Rattle.item_model.specs.Trees.{Full}
+use Rattle.tree_model.specs.Trees.{Full}
 use Rattle.book_signs.specs.Trees.{signs_of}
 use Rattle.tree_structures.specs.Known.{view_of}
 use Rattle.tree_structures.proofs.Keeping.{kept_below, kept_full}

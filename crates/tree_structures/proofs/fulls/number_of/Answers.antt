@@ -4,8 +4,8 @@ use Rattle.derivation.specs.declared.Tree.{Tree}
 use Rattle.derivation.specs.Trees.{phrase}
 use Rattle.derivation.specs.Views.{derivation_of, in_order}
 use Rattle.derivation.proofs.Rows.{derivation_of-Phrase}
-use Rattle.item_model.specs.Lexical.{FullLexical}
-use Rattle.item_model.specs.Trees.{Full}
+use Rattle.tree_model.specs.Lexical.{FullLexical}
+use Rattle.tree_model.specs.Trees.{Full}
 use Rattle.book_signs.specs.Trees.{signs_of}
 use Rattle.tree_structures.specs.Formed.{IsFormed}
 use Rattle.tree_structures.specs.Inner.Stays.{IsNumbered}

@@ -1,5 +1,5 @@
 use Rattle.book_signs.specs.Trees.{signs_of}
-use Rattle.item_model.specs.Lexical.{IsEntry}
+use Rattle.tree_model.specs.Lexical.{IsEntry}
 use Rattle.rule_trees.specs.Mothers.{view_in}
 use Rattle.tree_structures.specs.declared.question.Question.TheVariants.{Entry}
 use Rattle.tree_structures.proofs.Keeping.{stays_same}

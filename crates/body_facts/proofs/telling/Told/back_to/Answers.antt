@@ -1,6 +1,6 @@
 use Rattle.std.proofs.Common.{◌∙◌, ap, sym}
 use Rattle.std.proofs.lemmas.List.{take-map}
-use Rattle.fs_paths.specs.Facts.{path_of}
+use Rattle.fs_graph.specs.Facts.{path_of}
 use Rattle.body_facts.specs.Running.{running_of, moved}
 use Rattle.body_facts.proofs.telling.Told.back_to.Goals as goal
 

@@ -1,6 +1,6 @@
 use Rattle.std.proofs.Common.{◌∙◌, Some, ap, sym}
 use Rattle.std.specs.Option.{option_map}
-use Rattle.fs_paths.specs.Facts.{path_of}
+use Rattle.fs_graph.specs.Facts.{path_of}
 use Rattle.body_facts.proofs.CarrierLemmas.{entry_in}
 use Rattle.body_facts.proofs.telling.Told.carrier.Goals as goal
 

@@ -1,6 +1,6 @@
 use Rattle.std.proofs.Common.{◌≡◌, ◌++◌, map, take}
 use Rattle.type_hierarchy.specs.Decls.{texts, number_of}
-use Rattle.fs_paths.specs.Facts.{path_of}
+use Rattle.fs_graph.specs.Facts.{path_of}
 use Rattle.body_facts.specs.Running.{running_of, moved}
 use Rattle.body_facts.proofs.telling.Told.enter_all.Given as goal
 

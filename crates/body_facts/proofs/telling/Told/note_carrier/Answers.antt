@@ -4,7 +4,7 @@ use Rattle.std.specs.Map.{lookup}
 use Rattle.std.specs.Str.{bytes_eq}
 use Rattle.std.specs.String.{string_bytes, string_eq}
 use Rattle.indexmap.proofs.CallerLemmas.{insert_entry-new}
-use Rattle.fs_paths.specs.Facts.{path_of}
+use Rattle.fs_graph.specs.Facts.{path_of}
 use Rattle.body_facts.specs.Running.{carrier_of}
 use Rattle.body_facts.proofs.CarrierLemmas.{no_entry, same_carrier}
 use Rattle.body_facts.proofs.telling.Told.note_carrier.Goals as goal

@@ -1,8 +1,8 @@
 use Rattle.std.proofs.Common.{subst}
 use Rattle.fs_unify.specs.Owing.{ListsOwed}
 use Rattle.fs_trim.specs.Cutting.{owed_of}
-use Rattle.rule_model.specs.Mothers.{daughters_cut}
-use Rattle.item_model.specs.Signs.{rule_system}
+use Rattle.tree_model.specs.Mothers.{daughters_cut}
+use Rattle.tree_model.specs.Signs.{rule_system}
 use Rattle.book_signs.specs.Trees.{SignTree, signs_of}
 use Rattle.book_signs.proofs.signs.SignBook.owed.Goals as goal
 

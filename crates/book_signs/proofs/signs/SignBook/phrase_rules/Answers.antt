@@ -1,5 +1,5 @@
 use Rattle.std.proofs.Common.{◌∙◌, ap, map}
-use Rattle.item_model.specs.Signs.{is_phrase_rule}
+use Rattle.tree_model.specs.Signs.{is_phrase_rule}
 use Rattle.book_signs.specs.Trees.{signs_of, places_where, phrase_rules_of}
 use Rattle.book_signs.specs.Trees.{SignTree, paths_of}
 use Rattle.book_signs.proofs.SignLemmas.{kinds_kept}

@@ -1,5 +1,5 @@
 use Rattle.forced_types.proofs.SoundLemmas.{added_sound}
-use Rattle.fs_paths.specs.Facts.{path_of}
+use Rattle.fs_graph.specs.Facts.{path_of}
 use Rattle.forced_types.proofs.nodes.Nodes.add_node.Goals as goal
 
 pub returns-clause-sound : goal.returns-clause-sound

@@ -1,7 +1,7 @@
 use Rattle.std.proofs.Common.{◌<◌, length, arith, sym, subst}
 use Rattle.fs_model.specs.Claims.{Has}
-use Rattle.fs_paths.specs.declared.facts.Fact.{Fact}
-use Rattle.fs_paths.specs.Facts.{claim_of, claims_of}
+use Rattle.fs_graph.specs.declared.facts.Fact.{Fact}
+use Rattle.fs_graph.specs.Facts.{claim_of, claims_of}
 use Rattle.fs_closing.specs.Rules.{facts_in}
 use Rattle.fs_closing.proofs.HasLemmas.{Has-at, Has-map}
 use Rattle.fs_closing.proofs.StepLemmas.{rule_of_fact}

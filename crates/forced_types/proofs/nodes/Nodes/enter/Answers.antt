@@ -1,6 +1,6 @@
 use Rattle.std.proofs.Common.{◌≡◌, [], ◌++◌, refl, sym, subst, ap, ◌∙◌, append-nil}
 use Rattle.fs_model.specs.Claims.{exists_at, same}
-use Rattle.fs_paths.specs.Facts.{path_of}
+use Rattle.fs_graph.specs.Facts.{path_of}
 use Rattle.forced_types.specs.declared.nodes.Image.{Image}
 use Rattle.forced_types.specs.Forced.{same_exists, same_sym}
 use Rattle.forced_types.specs.Inner.Sound.{Forces, AreFronts, IsImage, path_in, place_at}

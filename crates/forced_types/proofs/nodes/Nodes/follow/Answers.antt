@@ -1,6 +1,6 @@
 use Rattle.std.proofs.Common.{◌≡◌, ◌+◌, Some, None, drop, slice_index_or, sym, ap, ◌∙◌}
-use Rattle.fs_paths.specs.declared.facts.Feat.{Feat}
-use Rattle.fs_paths.specs.Facts.{path_of}
+use Rattle.fs_graph.specs.declared.facts.Feat.{Feat}
+use Rattle.fs_graph.specs.Facts.{path_of}
 use Rattle.fs_graph.specs.GraphMap.{arc_to}
 use Rattle.fs_model.proofs.TableLemmas.{walk-step}
 use Rattle.fs_closing.proofs.StepLemmas.{path_step}

@@ -1,5 +1,5 @@
 use Rattle.std.proofs.Common.{◌≡◌, ◌<◌, drop}
-use Rattle.fs_paths.specs.Facts.{path_of}
+use Rattle.fs_graph.specs.Facts.{path_of}
 use Rattle.forced_types.specs.Inner.Sound.{size_of}
 use Rattle.forced_types.specs.Inner.Closed.{walk_in}
 use Rattle.forced_types.proofs.nodes.Nodes.follow.Given as goal

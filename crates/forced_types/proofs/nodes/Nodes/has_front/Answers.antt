@@ -1,7 +1,7 @@
 use Rattle.std.proofs.Common.{◌≡◌, Some, arith, sym, subst}
 use Rattle.std.proofs.lemmas.List.{take-map}
-use Rattle.fs_paths.specs.declared.facts.Feat.{Feat}
-use Rattle.fs_paths.specs.Facts.{path_of}
+use Rattle.fs_graph.specs.declared.facts.Feat.{Feat}
+use Rattle.fs_graph.specs.Facts.{path_of}
 use Rattle.std.proofs.lemmas.List.{length-map}
 use Rattle.forced_types.specs.Inner.Closed.{walk_in}
 use Rattle.forced_types.proofs.ClosedSteps.{front, front_whole}

@@ -1,8 +1,8 @@
 use Rattle.std.proofs.Common.{slice_index_or, arith, subst, sym}
 use Rattle.std.proofs.lemmas.List.{get_or_read}
 use Rattle.fs_model.specs.Claims.{Has}
-use Rattle.fs_paths.specs.declared.facts.Fact.{Fact}
-use Rattle.fs_paths.specs.Facts.{claim_of}
+use Rattle.fs_graph.specs.declared.facts.Fact.{Fact}
+use Rattle.fs_graph.specs.Facts.{claim_of}
 use Rattle.fs_closing.proofs.HasLemmas.{Has-at, Has-map, Has-of_map}
 use Rattle.forced_types.specs.Inner.Closed.{HoldsAt}
 use Rattle.forced_types.proofs.TypeLemmas.{at_every, one_more}

@@ -1,6 +1,6 @@
 use Rattle.std.proofs.Common.{ℕ, ◌<◌, slice_index_or}
-use Rattle.fs_paths.specs.Facts.{claim_of}
-use Rattle.fs_paths.specs.declared.facts.Fact.{Fact}
+use Rattle.fs_graph.specs.Facts.{claim_of}
+use Rattle.fs_graph.specs.declared.facts.Fact.{Fact}
 use Rattle.forced_types.specs.Inner.Closed.{HoldsAt}
 use Rattle.forced_types.proofs.nodes.Nodes.holds_rule.Given as goal
 

@@ -1,4 +1,4 @@
-use Rattle.fs_paths.specs.Facts.{path_of}
+use Rattle.fs_graph.specs.Facts.{path_of}
 use Rattle.forced_types.proofs.ClosedSteps.{holds_same}
 use Rattle.forced_types.proofs.nodes.Nodes.holds_same.Goals as goal
 

@@ -1,6 +1,6 @@
 use Rattle.std.proofs.Common.{◌≡◌, [], ◌∷◌, ◌++◌, sym, subst, ap, ◌∙◌}
 use Rattle.fs_model.specs.Claims.{exists_at}
-use Rattle.fs_paths.specs.Facts.{path_of}
+use Rattle.fs_graph.specs.Facts.{path_of}
 use Rattle.forced_types.specs.declared.nodes.Image.{Image}
 use Rattle.forced_types.specs.Inner.Sound.{Forces, IsImage}
 use Rattle.forced_types.proofs.nodes.Nodes.image_node.Goals as goal

@@ -1,5 +1,5 @@
 use Rattle.std.proofs.Common.{sym, ◌∙◌}
-use Rattle.fs_paths.specs.Facts.{path_of}
+use Rattle.fs_graph.specs.Facts.{path_of}
 use Rattle.forced_types.proofs.ClosedLemmas.{walk-ends}
 use Rattle.forced_types.proofs.nodes.Nodes.is_under.Goals as goal
 

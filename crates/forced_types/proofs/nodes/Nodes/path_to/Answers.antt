@@ -1,7 +1,7 @@
 use Rattle.std.proofs.Common.{◌≡◌, ◌<◌, ◌+◌, inl, Some, [], ◌∷◌, ◌++◌, length, arith, subst, sym, ap, ◌∙◌, length-append}
 use Rattle.std.proofs.lemmas.List.{map-append}
-use Rattle.fs_paths.specs.declared.facts.Feat.{Feat}
-use Rattle.fs_paths.specs.Facts.{path_of}
+use Rattle.fs_graph.specs.declared.facts.Feat.{Feat}
+use Rattle.fs_graph.specs.Facts.{path_of}
 use Rattle.forced_types.specs.Inner.Sound.{most_of, size_of, entry_in}
 use Rattle.forced_types.specs.Inner.Closed.{walk_in}
 use Rattle.forced_types.specs.Inner.Search.{IsGoal, IsNear, mark_at}

@@ -1,5 +1,5 @@
 use Rattle.std.proofs.Common.{◌≡◌, ◌<◌, Some, length}
-use Rattle.fs_paths.specs.Facts.{path_of}
+use Rattle.fs_graph.specs.Facts.{path_of}
 use Rattle.forced_types.specs.Inner.Sound.{size_of}
 use Rattle.forced_types.specs.Inner.Closed.{walk_in, IsFlat}
 use Rattle.forced_types.proofs.SearchLemmas.{IsOnTheWay}

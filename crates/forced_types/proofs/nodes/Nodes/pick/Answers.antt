@@ -1,6 +1,6 @@
 use Rattle.std.proofs.Common.{◌≡◌, ◌≤◌, Option, Some, slice_index_or, arith, subst, sym, ap, ◌∙◌}
 use Rattle.fs_model.specs.Claims.{Has}
-use Rattle.fs_paths.specs.declared.facts.Feat.{Feat}
+use Rattle.fs_graph.specs.declared.facts.Feat.{Feat}
 use Rattle.fs_graph.specs.declared.graph.GraphArc.{GraphArc}
 use Rattle.fs_closing.proofs.HasLemmas.{Has-at}
 use Rattle.forced_types.specs.Inner.Sound.{most_of, entry_in}

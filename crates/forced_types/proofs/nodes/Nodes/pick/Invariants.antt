@@ -1,5 +1,5 @@
 use Rattle.std.proofs.Common.{ℕ, ◌≡◌, ◌<◌, ◌≤◌, Some, slice_index_or}
-use Rattle.fs_paths.specs.declared.facts.Feat.{Feat}
+use Rattle.fs_graph.specs.declared.facts.Feat.{Feat}
 use Rattle.forced_types.specs.Inner.Sound.{most_of, entry_in}
 use Rattle.forced_types.specs.Inner.Search.{IsNear, mark_at}
 use Rattle.forced_types.proofs.nodes.Nodes.pick.Given as goal

@@ -1,12 +1,11 @@
 use Rattle.std.proofs.Common.{◌≤◌, ◌++◌, length, refl, sym, subst}
 use Rattle.fs_model.specs.Claims.{same}
 use Rattle.fs_model.specs.Sources.{Told}
-use Rattle.fs_paths.specs.declared.facts.Fact.{Fact}
-use Rattle.fs_paths.specs.Facts.{path_of, claim_of}
+use Rattle.fs_graph.specs.declared.facts.Fact.{Fact}
+use Rattle.fs_graph.specs.Facts.{path_of, claim_of}
 use Rattle.fs_closing.specs.Rules.{system_of}
 use Rattle.forced_types.specs.Forced.{same_type}
-use Rattle.forced_types.specs.Views.{source_of}
-use Rattle.forced_types.specs.Inner.Sound.{Forces, AreFronts, MayPut, most_of, path_in}
+use Rattle.forced_types.specs.Inner.Sound.{Forces, AreFronts, MayPut, most_of, path_in, source_in}
 use Rattle.forced_types.proofs.ForcedLemmas.{forced_within}
 use Rattle.forced_types.proofs.nodes.Nodes.put.Goals as goal
 
@@ -27,5 +26,5 @@ add_type-requires-clause-forced c =
     let put = subst (λ (x : Fact). MayPut c.args.given P (claim_of x)) c.in-Below.is c.requires.put in
     let end = rw c.in-Some.is at c.in_ok-end-in-Below.ensures.end in
     let equal = subst (λ x. Forces g (same (P ++ path_of x) (path_in c.reach-in-Below.new.self c.in-Some.end))) c.deref-in-Below.ensures.value end.equal in
-    let w : length (P ++ path_of c.in-Below.path.items) ≤ most_of g = (forced_within (system_of g.system.now) (most_of g) (Told (source_of g.parts.now)) _ equal).0 in
+    let w : length (P ++ path_of c.in-Below.path.items) ≤ most_of g = (forced_within (system_of g.system.now) (most_of g) (Told (source_in g)) _ equal).0 in
     same_type _ _ c.in-Below.ty.0 equal (put.claim w)

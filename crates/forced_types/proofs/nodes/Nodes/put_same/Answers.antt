@@ -1,11 +1,10 @@
 use Rattle.std.proofs.Common.{◌≡◌, ◌≤◌, ◌++◌, inl, inr, length, refl, sym, subst}
 use Rattle.fs_model.specs.Claims.{same}
 use Rattle.fs_model.specs.Sources.{Told}
-use Rattle.fs_paths.specs.Facts.{path_of}
+use Rattle.fs_graph.specs.Facts.{path_of}
 use Rattle.fs_closing.specs.Rules.{system_of}
 use Rattle.forced_types.specs.Forced.{same_sym, same_trans}
-use Rattle.forced_types.specs.Views.{source_of}
-use Rattle.forced_types.specs.Inner.Sound.{Forces, AreFronts, most_of, path_in}
+use Rattle.forced_types.specs.Inner.Sound.{Forces, AreFronts, most_of, path_in, source_in}
 use Rattle.forced_types.proofs.ForcedLemmas.{forced_within}
 use Rattle.forced_types.proofs.nodes.Nodes.put_same.Goals as goal
 
@@ -27,7 +26,7 @@ add_pair-requires-clause-forced c =
     let second : Forces g (same (P ++ path_of c.args.b.now) (path_in c.reach-2.new.self c.in-Some-2.second)) =
     subst (λ x. Forces g (same (x ++ path_of c.args.b.now) (path_in c.reach-2.new.self c.in-Some-2.second))) kept two.equal in
     let moved : path_in c.reach-2.new.self c.in-Some.first ≡ path_in c.reach.new.self c.in-Some.first = c.in_ok-second.ensures.keeps.same_at c.in-Some.first one.inside in
-    let w1 : length (P ++ path_of c.args.a.now) ≤ most_of g = (forced_within (system_of g.system.now) (most_of g) (Told (source_of g.parts.now)) _ one.equal).0 in
-    let w2 : length (P ++ path_of c.args.b.now) ≤ most_of g = (forced_within (system_of g.system.now) (most_of g) (Told (source_of g.parts.now)) _ second).0 in
+    let w1 : length (P ++ path_of c.args.a.now) ≤ most_of g = (forced_within (system_of g.system.now) (most_of g) (Told (source_in g)) _ one.equal).0 in
+    let w2 : length (P ++ path_of c.args.b.now) ≤ most_of g = (forced_within (system_of g.system.now) (most_of g) (Told (source_in g)) _ second).0 in
     subst (λ x. Forces g (same x (path_in c.reach-2.new.self c.in-Some-2.second))) (sym moved)
     (same_trans _ _ _ (same_sym _ _ one.equal) (same_trans _ _ _ (c.requires.put.claim (w1, w2)) second))

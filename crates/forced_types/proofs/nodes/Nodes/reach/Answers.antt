@@ -2,13 +2,12 @@ use Rattle.std.proofs.Common.{◌≡◌, ◌≤◌, ◌+◌, [], ◌∷◌, ◌+
 use Rattle.std.proofs.lemmas.List.{length-map, length-take-le, take_all}
 use Rattle.fs_model.specs.Claims.{exists_at, same}
 use Rattle.fs_model.specs.Sources.{Told}
-use Rattle.fs_paths.specs.declared.facts.Feat.{Feat}
-use Rattle.fs_paths.specs.Facts.{path_of}
+use Rattle.fs_graph.specs.declared.facts.Feat.{Feat}
+use Rattle.fs_graph.specs.Facts.{path_of}
 use Rattle.fs_closing.specs.Rules.{system_of}
 use Rattle.fs_closing.proofs.StepLemmas.{path_feature}
 use Rattle.forced_types.specs.Forced.{same_refl, same_trans}
-use Rattle.forced_types.specs.Views.{source_of}
-use Rattle.forced_types.specs.Inner.Sound.{Forces, IsEnd, most_of, path_in}
+use Rattle.forced_types.specs.Inner.Sound.{Forces, IsEnd, most_of, path_in, source_in}
 use Rattle.forced_types.proofs.ForcedLemmas.{forced_within}
 use Rattle.forced_types.proofs.SoundLemmas.{entry_count}
 use Rattle.forced_types.proofs.StepLemmas.{keeps_on, path_more, path_split}
@@ -19,7 +18,7 @@ loop-feat-init c =
     let t = c.args.self.now in
     let P = path_in t c.args.n in
     let there = (c.requires.sound.entries.each c.args.n (omega (arith, entry_count t, c.requires.node))).there in
-    let short : length P ≤ most_of c.args.given = forced_within (system_of c.args.given.system.now) (most_of c.args.given) (Told (source_of c.args.given.parts.now)) (exists_at P) there in
+    let short : length P ≤ most_of c.args.given = forced_within (system_of c.args.given.system.now) (most_of c.args.given) (Told (source_in c.args.given)) (exists_at P) there in
     record {
       sound = c.requires.sound;
       keeps = record { more = omega arith; same_at = λ _ _. refl };

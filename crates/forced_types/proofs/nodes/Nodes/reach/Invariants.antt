@@ -1,5 +1,5 @@
 use Rattle.std.proofs.Common.{◌≡◌, ◌+◌, ◌++◌, take, length}
-use Rattle.fs_paths.specs.Facts.{path_of}
+use Rattle.fs_graph.specs.Facts.{path_of}
 use Rattle.forced_types.specs.Inner.Sound.{AreSound, KeepPaths, IsEnd, most_of, path_in}
 use Rattle.forced_types.proofs.nodes.Nodes.reach.Given as goal
 

@@ -1,7 +1,7 @@
 use Rattle.std.proofs.Common.{◌≡◌, slice_index_or, subst, arith}
 use Rattle.std.proofs.lemmas.Grind.{common_steps}
 use Rattle.fs_model.specs.Claims.{Has}
-use Rattle.fs_paths.specs.Facts.{claims_of}
+use Rattle.fs_graph.specs.Facts.{claims_of}
 use Rattle.fs_closing.specs.Rules.{IsGrammar, no_rule}
 use Rattle.fs_closing.proofs.system.TypeSystem.facts.Goals as goal
 

@@ -1,6 +1,6 @@
 use Rattle.std.proofs.Common.{◌≡◌, ◌<◌, length, drop}
 use Rattle.fs_model.specs.Table.{walk}
-use Rattle.fs_paths.specs.Facts.{path_of}
+use Rattle.fs_graph.specs.Facts.{path_of}
 use Rattle.fs_graph.specs.GraphMap.{table_of, node_at, IsGraph}
 use Rattle.fs_graph.proofs.graph.Graph.at.Given as goal
 

@@ -1,6 +1,6 @@
 use Rattle.std.proofs.Common.{map, ◌∙◌, subst}
 use Rattle.type_hierarchy.specs.Table.{count_of}
-use Rattle.fs_paths.specs.Facts.{path_of}
+use Rattle.fs_graph.specs.Facts.{path_of}
 use Rattle.fs_unify.specs.Owing.{speaks_of, HaveOwing}
 use Rattle.fs_unify.proofs.owed.Owed.new.Goals as goal
 

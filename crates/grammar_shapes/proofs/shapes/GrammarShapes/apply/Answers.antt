@@ -1,6 +1,6 @@
 use Rattle.std.proofs.Common.{sym, subst, [], ◌∷◌}
 use Rattle.std.specs.Prelude.{IfSome, option_map}
-use Rattle.cover.specs.Tuples.{shapes_of}
+use Rattle.chart_model.specs.Tuples.{shapes_of}
 use Rattle.fs_model.specs.Claims.{Has}
 use Rattle.fs_model.specs.Closure.{IsConsistent}
 use Rattle.fs_model.specs.Sources.{Told}
@@ -9,7 +9,7 @@ use Rattle.fs_closing.specs.Rules.{system_of}
 use Rattle.fs_unify.specs.Owing.{IsWellFormedBut}
 use Rattle.fs_unify.specs.Placing.{source_of}
 use Rattle.fs_trim.specs.Cutting.{cut_of, owed_of, IsShort}
-use Rattle.rule_model.specs.Views.{IsTrimmed}
+use Rattle.tree_model.specs.Views.{IsTrimmed}
 use Rattle.grammar_shapes.specs.Ruled.{IsRuleIn}
 use Rattle.grammar_shapes.proofs.CallLemmas.{placed_in, rule_at, whole}
 use Rattle.grammar_shapes.proofs.OwedLemmas.{lists_from}

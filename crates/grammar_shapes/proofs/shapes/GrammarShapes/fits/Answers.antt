@@ -1,5 +1,5 @@
 use Rattle.std.proofs.Common.{sym, subst}
-use Rattle.cover.specs.Tuples.{shapes_of}
+use Rattle.chart_model.specs.Tuples.{shapes_of}
 use Rattle.fs_model.specs.Claims.{IsBare, Has}
 use Rattle.fs_model.specs.Closure.{IsConsistent}
 use Rattle.fs_model.specs.Sources.{Told}

@@ -4,7 +4,7 @@ use Rattle.std.proofs.lemmas.Grind.{merely}
 use Rattle.fs_model.specs.Claims.{IsBare}
 use Rattle.fs_closing.specs.Rules.{system_of}
 use Rattle.fs_unify.specs.Owing.{ListsOwed}
-use Rattle.rule_model.specs.Structures.{IsPartialOrder}
+use Rattle.tree_model.specs.Structures.{IsPartialOrder}
 use Rattle.grammar_shapes.specs.Ruled.{IsRuleIn}
 use Rattle.fs_trim.specs.Cutting.{cut_of, owed_of}
 use Rattle.grammar_shapes.proofs.TableLemmas.{ordered}

@@ -9,9 +9,9 @@ use Rattle.fs_unify.specs.Owing.{IsWellFormedBut}
 use Rattle.fs_unify.specs.Placing.{source_of, IsPlacedIn}
 use Rattle.fs_trim.specs.Cutting.{cut_of, owed_of, IsShort}
 use Rattle.fs_trim.proofs.TrimLemmas.{alone_in}
-use Rattle.rule_model.specs.Mothers.{IsAbstract, Meant}
-use Rattle.rule_model.specs.Views.{view, IsTrimmed, source_alone}
-use Rattle.rule_model.proofs.AllLaws.{leaves_are_made}
+use Rattle.tree_model.specs.Mothers.{IsAbstract, Meant}
+use Rattle.tree_model.specs.Views.{view, IsTrimmed, source_alone}
+use Rattle.tree_model.proofs.AllLaws.{leaves_are_made}
 use Rattle.grammar_shapes.specs.Ruled.{paths_in}
 use Rattle.grammar_shapes.specs.Systems.{rules_of}
 use Rattle.grammar_shapes.proofs.RangeLemmas.{short_where}

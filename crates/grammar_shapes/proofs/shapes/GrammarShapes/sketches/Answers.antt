@@ -1,9 +1,9 @@
 use Rattle.std.proofs.Common.{◌≡◌, ◌<◌, ◌-◌, ◌∙◌, ap, sym, subst, length, Some, arith}
-use Rattle.cover.specs.Tuples.{parts_of, shapes_of}
+use Rattle.chart_model.specs.Tuples.{parts_of, shapes_of}
 use Rattle.type_hierarchy.specs.Table.{count_of}
 use Rattle.fs_graph.specs.GraphMap.{IsGraph, reader_of}
 use Rattle.fs_trim.specs.Cutting.{cut_of}
-use Rattle.rule_model.specs.Mothers.{arity_at}
+use Rattle.tree_model.specs.Mothers.{arity_at}
 use Rattle.sieve.specs.Sketches.{AreTypesIn, sketch_of, below_place}
 use Rattle.sieve.specs.Unifying.{NoneUnify}
 use Rattle.grammar_shapes.specs.Ruled.{places_of, rule_of, IsRuleIn}

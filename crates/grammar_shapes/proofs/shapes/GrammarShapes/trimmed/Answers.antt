@@ -6,7 +6,7 @@ use Rattle.fs_closing.specs.Rules.{system_of}
 use Rattle.fs_unify.specs.Owing.{IsWellFormedBut, ListsOwed}
 use Rattle.fs_unify.specs.Placing.{source_of}
 use Rattle.fs_trim.specs.Cutting.{cut_of, owed_of}
-use Rattle.rule_model.specs.Views.{IsTrimmed}
+use Rattle.tree_model.specs.Views.{IsTrimmed}
 use Rattle.grammar_shapes.proofs.CutLemmas.{one_cut}
 use Rattle.grammar_shapes.proofs.OwedLemmas.{lists_from}
 use Rattle.grammar_shapes.proofs.shapes.GrammarShapes.trimmed.Goals as goal

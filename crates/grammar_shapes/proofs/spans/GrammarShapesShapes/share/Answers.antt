@@ -3,7 +3,7 @@ use Rattle.fs_graph.specs.GraphMap.{reader_of}
 use Rattle.fs_closing.specs.Rules.{system_of}
 use Rattle.fs_unify.specs.Owing.{IsWellFormedBut}
 use Rattle.fs_trim.specs.Cutting.{cut_of, owed_of, IsShort}
-use Rattle.rule_model.specs.Views.{view}
+use Rattle.tree_model.specs.Views.{view}
 use Rattle.sieve.specs.Sketches.{sketch_of}
 use Rattle.grammar_shapes.specs.Ruled.{paths_in}
 use Rattle.grammar_shapes.proofs.spans.GrammarShapesShapes.share.Goals as goal

@@ -1,7 +1,7 @@
 use Rattle.std.proofs.Common.{◌∙◌, map, string_bytes, refl, sym, ap}
 use Rattle.lexicon.specs.Groups.{group_of, found}
 use Rattle.lexicon.specs.Entries.{last_word, with_words}
-use Rattle.word_lists.specs.Words.{noted}
+use Rattle.lexicon.specs.Words.{noted}
 use Rattle.lexicon.proofs.lexicon.Lexicon.by_words.Goals as goal
 
 pub returns-in-None : goal.returns-in-None

@@ -2,7 +2,7 @@ use Rattle.std.proofs.Common.{arith, ◌≡◌, ◌∙◌, ◌<◌, inl, inr, le
 use Rattle.lexicon.proofs.GroupLemmas.{Has-at, number_next, same_at}
 use Rattle.lexicon.specs.Inner.Index.{entry_of}
 use Rattle.lexicon.specs.Entries.{EntryTree}
-use Rattle.word_lists.specs.Words.{Has}
+use Rattle.lexicon.specs.Words.{Has}
 use Rattle.lexicon.proofs.lexicon.Lexicon.words.Goals as goal
 
 pub returns-then-index-entry : goal.returns-then-index-entry

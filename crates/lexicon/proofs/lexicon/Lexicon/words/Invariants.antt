@@ -1,6 +1,6 @@
 use Rattle.std.proofs.Common.{map, take}
 use Rattle.lexicon.specs.Inner.Index.{entry_of}
-use Rattle.word_lists.specs.Words.{Has}
+use Rattle.lexicon.specs.Words.{Has}
 use Rattle.lexicon.specs.Inner.Empty.{Empty}
 use Rattle.lexicon.proofs.lexicon.Lexicon.words.Given as goal
 

@@ -1,6 +1,6 @@
 use Rattle.std.proofs.Common.{map, string_bytes, subst}
 use Rattle.derivation.specs.Views.{derivation_of}
-use Rattle.item_model.specs.Lexical.{Words}
+use Rattle.tree_model.specs.Lexical.{Words}
 use Rattle.book_signs.specs.Trees.{signs_of}
 use Rattle.tree_reading.specs.Grammars.{IsOver}
 use Rattle.tree_faults.specs.Explained.{IsExplained}

@@ -2,7 +2,7 @@ use Rattle.std.proofs.Common.{arith, ◌≡◌, ◌∙◌, ◌+◌, ◌<◌, ◌
 use Rattle.morph_analysis.proofs.LatticeLemmas.{of_words_next, steps_valid}
 use Rattle.morph_analysis.specs.Lattices.{steps_from}
 use Rattle.morph_analysis.specs.LatticeViews.{step_of}
-use Rattle.word_lists.specs.Words.{Each}
+use Rattle.lexicon.specs.Words.{Each}
 use Rattle.std.proofs.lemmas.List.{map-append, length-map, take_all}
 use Rattle.morph_analysis.proofs.lattice.Lattice.of_words.Goals as goal
 

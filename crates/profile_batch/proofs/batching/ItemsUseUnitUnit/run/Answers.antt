@@ -3,7 +3,7 @@ use Rattle.packed_items.specs.Answers.{limits_in}
 use Rattle.side_by_side.specs.Works.{AreGiven}
 use Rattle.engine.specs.Views.{speech_of}
 use Rattle.engine.proofs.Results.{if-ok}
-use Rattle.profile_items.specs.Views.{item_kept}
+use Rattle.profile_reports.specs.ItemsViews.{item_kept}
 use Rattle.profile_batch.specs.Results.{IsResultOrGap, AreResultsOrGaps}
 use Rattle.profile_batch.proofs.Kept.{kept-given}
 use Rattle.profile_batch.proofs.batching.ItemsUseUnitUnit.run.Goals as goal

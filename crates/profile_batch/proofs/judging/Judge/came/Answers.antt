@@ -1,7 +1,7 @@
 use Rattle.std.proofs.Common.{List, length, map, string_bytes, sym, subst}
 use Rattle.std.specs.Str.{chars}
-use Rattle.item_model.specs.Items.{Answer}
-use Rattle.parse_items.specs.Answers.{IsParseAnswer}
+use Rattle.tree_model.specs.Items.{Answer}
+use Rattle.tree_model.specs.Answers.{IsParseAnswer}
 use Rattle.lexical_items.specs.Seen.{lattice_seen}
 use Rattle.packed_items.specs.Answers.{limits_in}
 use Rattle.grammar_rules.specs.Views.{item_answer}

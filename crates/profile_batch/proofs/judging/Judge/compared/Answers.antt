@@ -2,8 +2,8 @@ use Rattle.std.proofs.Common.{◌≡◌, map}
 use Rattle.packed_items.specs.Answers.{limits_in}
 use Rattle.engine.specs.Views.{speech_of}
 use Rattle.engine.proofs.Results.{if-ok}
-use Rattle.profile_items.specs.declared.Expected.{Expected}
-use Rattle.profile_items.specs.Profiles.{an_item}
+use Rattle.profile_reports.specs.declared.profiles.Expected.{Expected}
+use Rattle.profile_reports.specs.Profiles.{an_item}
 use Rattle.profile_reports.specs.Outcomes.{Outcome}
 use Rattle.profile_reports.specs.Views.{Keeps}
 use Rattle.profile_reports.specs.Comparing.{result_of}

@@ -1,7 +1,7 @@
 use Rattle.std.proofs.Common.{map}
 use Rattle.packed_items.specs.Answers.{limits_in}
 use Rattle.engine.specs.Views.{speech_of}
-use Rattle.profile_items.specs.Profiles.{an_item}
+use Rattle.profile_reports.specs.Profiles.{an_item}
 use Rattle.profile_batch.specs.Results.{a_result}
 use Rattle.profile_batch.proofs.Judged.{gap-is}
 use Rattle.profile_batch.proofs.judging.Judge.found.Goals as goal

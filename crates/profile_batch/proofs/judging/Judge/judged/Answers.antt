@@ -1,8 +1,8 @@
 use Rattle.std.proofs.Common.{◌<◌, ◌^◌, length, map, string_bytes, sym, subst}
 use Rattle.packed_items.specs.Answers.{limits_in}
 use Rattle.engine.specs.Views.{speech_of}
-use Rattle.profile_items.specs.Profiles.{an_item}
-use Rattle.profile_items.specs.Views.{item_kept}
+use Rattle.profile_reports.specs.Profiles.{an_item}
+use Rattle.profile_reports.specs.ItemsViews.{item_kept}
 use Rattle.profile_batch.specs.Results.{IsResultOrGap}
 use Rattle.profile_batch.specs.Views.{trees_of}
 use Rattle.profile_batch.proofs.Judged.{long-is, bytes-is, line-is}

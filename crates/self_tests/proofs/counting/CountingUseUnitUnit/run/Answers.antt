@@ -5,7 +5,7 @@ use Rattle.engine.specs.Views.{speech_of}
 use Rattle.engine.proofs.NamedTrees.{unmap}
 use Rattle.engine.proofs.Results.{if-ok}
 use Rattle.side_by_side.specs.Works.{AreGiven}
-use Rattle.workload.specs.Lines.{lines}
+use Rattle.self_tests.specs.Lines.{lines}
 use Rattle.self_tests.specs.Items.{AreCountsOrGaps}
 use Rattle.self_tests.specs.Inner.Counts.{MayBeCounted}
 use Rattle.self_tests.proofs.CountedLines.{given-counted}

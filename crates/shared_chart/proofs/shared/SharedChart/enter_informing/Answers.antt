@@ -1,11 +1,11 @@
 use Rattle.std.proofs.Common.{◌≡◌, ◌∙◌, OnOk, is_some, length, ap, sym, refl, subst, arith, length-append, [], ◌∷◌, ◌++◌}
 use lib.ListN.{get_elem?}
-use Rattle.turn_lock.specs.Seats.{own_calls}
-use Rattle.turn_lock.proofs.Knowing.{knows_of, sole_is, present_same}
+use Rattle.shared_chart.specs.TurnSeats.{own_calls}
+use Rattle.shared_chart.proofs.Knowing.{knows_of, sole_is, present_same}
 use Rattle.shared_chart.proofs.Counts.{calls_bound, nothing_added, one_added}
 use Rattle.chart_core.specs.Grammar.{grammar_of}
 use Rattle.chart_core.specs.Kept.{IsCore}
-use Rattle.cover.specs.Tuples.{on_list}
+use Rattle.chart_model.specs.Tuples.{on_list}
 use Rattle.chart_core.specs.Later.{IsLater}
 use Rattle.chart_core.specs.Calls.{IsAnswer, Changes}
 use Rattle.chart_core.proofs.Later.{tasks_later}

@@ -3,8 +3,8 @@ use Rattle.chart_core.specs.CoreView.{chart_of, history_of}
 use Rattle.chart_core.specs.Steps.{IsDoneAt}
 use Rattle.chart_core.specs.Grammar.{grammar_of}
 use Rattle.chart_core.specs.Kept.{IsCore}
-use Rattle.turn_lock.specs.Seats.{own_calls}
-use Rattle.turn_lock.proofs.Knowing.{knows_of, sole_is, present_same}
+use Rattle.shared_chart.specs.TurnSeats.{own_calls}
+use Rattle.shared_chart.proofs.Knowing.{knows_of, sole_is, present_same}
 use Rattle.shared_chart.specs.Seats.{state_of}
 use Rattle.shared_chart.specs.Told.{Sees, IsUnready}
 use Rattle.shared_chart.specs.Times.{after_itself}

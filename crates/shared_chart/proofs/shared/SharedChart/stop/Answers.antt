@@ -1,6 +1,6 @@
 use Rattle.std.proofs.Common.{◌∙◌, ◌||◌, ◌==◌, ap, sym, refl, subst}
 use Rattle.chart_core.specs.Grammar.{grammar_of}
-use Rattle.turn_lock.proofs.Knowing.{knows_of, sole_is, present_same}
+use Rattle.shared_chart.proofs.Knowing.{knows_of, sole_is, present_same}
 use Rattle.shared_chart.specs.Seats.{shapes_of, state_of}
 use Rattle.shared_chart.specs.Told.{Sees}
 use Rattle.shared_chart.specs.Times.{after_itself}

@@ -1,6 +1,6 @@
 use Rattle.std.proofs.Common.{◌∙◌, ap, map}
 use Rattle.fs_graph.specs.GraphMap.{reader_of}
-use Rattle.fs_paths.specs.Facts.{path_of}
+use Rattle.fs_graph.specs.Facts.{path_of}
 use Rattle.sieve.specs.Sketches.{type_along, below_place}
 use Rattle.sieve.specs.Inner.{lines_of, numbers_of}
 use Rattle.sieve.proofs.Lines.{lines_along}

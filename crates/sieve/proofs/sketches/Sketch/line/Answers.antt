@@ -1,6 +1,6 @@
 use Rattle.std.proofs.Common.{◌≡◌, ◌∙◌, ap, subst, length, slice_get, Some, arith}
 use Rattle.std.specs.Prelude.{option_map}
-use Rattle.fs_paths.specs.Facts.{path_of}
+use Rattle.fs_graph.specs.Facts.{path_of}
 use Rattle.sieve.specs.Inner.{numbers_of, line_seen}
 use Rattle.sieve.proofs.Lines.{same_length, lines_even, line_at, map_get, got}
 use Rattle.sieve.proofs.sketches.Sketch.line.Goals as goal

@@ -3,7 +3,7 @@ use Rattle.spelling_rules.proofs.FormLemmas.{rule_kept, bound_at, forms_one}
 use Rattle.spelling_rules.proofs.TableLemmas.{candidates_there, inflect_there, kept_put}
 use Rattle.spelling_rules.specs.Views.{sign_of, group_of, rule_of, line_of, words_in, letters_in}
 use Rattle.std.proofs.lemmas.List.{length-map}
-use Rattle.word_lists.specs.Words.{Word, Has, Each}
+use Rattle.lexicon.specs.Words.{Word, Has, Each}
 use Rattle.spelling_rules.specs.Trees.{IsBound}
 use Rattle.spelling_rules.specs.Forms.{rule_at, HasForm, AreForms}
 use Rattle.spelling_rules.specs.Inner.Tables.{pair_of}

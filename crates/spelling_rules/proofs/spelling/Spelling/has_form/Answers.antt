@@ -1,7 +1,7 @@
 use Rattle.std.proofs.Common.{rules, arith, ◌≡◌, ◌∙◌, ◌+◌, ◌<◌, ◌≤◌, ◌++◌, ◌==◌, ◌↔◌, IsTrue, inl, inr, ℕ, Bool, true, false, List, [], ◌∷◌, length, map, take, get_or, Option, Some, None, string_bytes, refl, sym, ap, subst}
 use Rattle.std.specs.Prelude.{encode_utf8_all}
 use Rattle.std.proofs.lemmas.List.{length-map}
-use Rattle.word_lists.specs.Words.{Has, Each}
+use Rattle.lexicon.specs.Words.{Has, Each}
 use Rattle.spelling_rules.specs.Trees.{IsBound, SpellingTree}
 use Rattle.spelling_rules.specs.Forms.{rule_at, HasForm}
 use Rattle.spelling_rules.specs.Views.{rule_of, line_of, words_in}

@@ -1,5 +1,5 @@
 use Rattle.std.proofs.Common.{map, string_bytes}
-use Rattle.inflected_trees.proofs.Chains.{some_words}
+use Rattle.lexical_items.proofs.Chains.{some_words}
 use Rattle.tree_faults.proofs.Numbered.{has_number, words_are}
 use Rattle.tree_faults.proofs.word_book.WordBook.words_of.Goals as goal
 

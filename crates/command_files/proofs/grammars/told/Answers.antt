@@ -1,0 +1,14 @@
+use Rattle.std.proofs.Common.{option_map, subst}
+use Rattle.command_files.specs.Shown.{IsFollowed}
+use Rattle.command_files.proofs.FaultLemmas.{told_plain, told_followed}
+use Rattle.command_files.proofs.grammars.told.Goals as goal
+
+pub returns-then-not-verbose-clause-told : goal.returns-then-not-verbose-clause-told
+returns-then-not-verbose-clause-told g c =
+    told_plain (g.S.Shelf.files c.args.shelf.now) c.args.name.now (option_map (λ s. s.now) c.args.settings) c.args.verbose c.args.fault.now c.fault_of-line.result c.fault_of-line.ensures
+
+pub returns-clause-told : goal.returns-clause-told
+returns-clause-told g c =
+    told_followed (g.S.Shelf.files c.args.shelf.now) c.args.name.now (option_map (λ s. s.now) c.args.settings) c.args.verbose c.args.fault.now c.fault_of-line.result c.followed.result
+    c.details_of-details.result.items c.if-not-verbose.false c.fault_of-line.ensures c.details_of-details.ensures.details
+    (subst (λ l. IsFollowed c.fault_of-line.result l c.followed.result) c.deref.ensures.value c.followed.ensures)

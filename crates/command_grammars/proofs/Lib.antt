@@ -1,2 +1,0 @@
-pub mod LoadLemmas
-pub mod FaultLemmas

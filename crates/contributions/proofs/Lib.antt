@@ -1,3 +1,0 @@
-pub mod OneList
-pub mod ReadLemmas
-pub mod ListLemmas

@@ -1,6 +1,0 @@
-use Rattle.std.proofs.Common.{◌≡◌, map, drop, string_bytes}
-use Rattle.contributions.specs.Bags.{all_noted, distinct}
-use Rattle.contributions.proofs.bags.distinct.Given as goal
-
-abbrev pub invariant-loop-pred : goal.invariant-loop-pred
-invariant-loop-pred l = all_noted (map string_bytes l.places.items) (map string_bytes (drop l.pred-index l.preds)) ≡ distinct (map string_bytes l.preds)

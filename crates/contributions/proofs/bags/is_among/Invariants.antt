@@ -1,6 +1,0 @@
-use Rattle.std.proofs.Common.{◌≡◌, map, drop, string_bytes}
-use Rattle.contributions.specs.Bags.{is_among}
-use Rattle.contributions.proofs.bags.is_among.Given as goal
-
-abbrev pub invariant-loop-other : goal.invariant-loop-other
-invariant-loop-other l = is_among l.pred (map string_bytes (drop l.other-index l.preds)) ≡ is_among l.pred (map string_bytes l.preds)

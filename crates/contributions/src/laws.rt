@@ -1,8 +1,0 @@
-//! Laws of predicates.
-
-ghost use Rattle.contributions.specs.Contributing.{PredicatesAreOne};
-
-/// A law: a structure has one list of predicates at a path. It does nothing.
-pub fn predicates_are_one()
-    ensures { PredicatesAreOne }
-{}

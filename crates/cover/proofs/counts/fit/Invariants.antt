@@ -1,8 +1,0 @@
-use Rattle.std.proofs.Common.{◌≡◌, drop}
-use Rattle.cover.specs.Lists.{add_all, all_within}
-use Rattle.cover.proofs.counts.fit.Given as goal
-
-abbrev pub invariant-loop-place : goal.invariant-loop-place
-invariant-loop-place l = record {
-  within : all_within (add_all l.left l.right) l.bound ≡ all_within (add_all (drop l.place l.left) (drop l.place l.right)) (drop l.place l.bound);
-}

@@ -1,8 +1,0 @@
-use Rattle.std.proofs.Common.{◌≡◌, ◌++◌, drop}
-use Rattle.cover.specs.Lists.{add_all}
-use Rattle.cover.proofs.counts.sums.Given as goal
-
-abbrev pub invariant-loop-place : goal.invariant-loop-place
-invariant-loop-place l = record {
-  added : l.sums.items ++ add_all (drop l.place l.left) (drop l.place l.right) ≡ add_all l.left l.right;
-}

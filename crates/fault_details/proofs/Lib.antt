@@ -1,0 +1,4 @@
+mod Definitions
+mod Systems
+mod Reading
+mod OneLine

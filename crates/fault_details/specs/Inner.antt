@@ -1,0 +1,38 @@
+-- What the parts of the program see.
+use Rattle.std.specs.Prelude.{ℕ, String}
+use Rattle.std.specs.Global.{Global}
+use Rattle.type_hierarchy.specs.Decls.{texts}
+use Rattle.type_hierarchy.specs.Table.{TypeTable}
+use Rattle.fs_model.specs.Sources.{Told}
+use Rattle.fs_unify.specs.Rules.{system_of}
+use Rattle.fs_unify.specs.Given.{facts_source}
+use Rattle.forced_types.specs.Verdicts.{Verdict, IsVerdict}
+use Rattle.grammar_files.specs.declared.expand_fault.ExpandFault.TheVariants.{NoStructure}
+use Rattle.constraint_expand.specs.declared.definitions.Typed.{Typed}
+use Rattle.constraint_expand.specs.Statements.{statement_at}
+use Rattle.constraint_expand.specs.Conditions.{AreTypesFor}
+use Rattle.constraint_expand.specs.Systems.{Settled, IsSystemOf}
+use Rattle.constraint_expand.specs.Faults.{IsFaultOf, claims_of_definition}
+use Rattle.grammar_files.specs.Walks.{WalkedTree}
+use Rattle.grammar_types.specs.Typings.{AreTypesOf}
+
+-- the type system of what was walked
+pub record IsTypedBy (w : WalkedTree) (s : Settled) (t : Typed) : Type 0 where
+  pub types : TypeTable
+  pub typed : AreTypesOf w types
+  pub types_for : AreTypesFor types w.statements
+  pub system : IsSystemOf types s w.statements (texts t.feats.items) t.system
+
+-- the verdict on what the structure of a definition is the closure of
+abbrev pub IsVerdictAt : WalkedTree → Settled → Typed → ℕ → Verdict → Type 0
+IsVerdictAt w s t k v = IsVerdict (system_of t.system) (Told (facts_source (claims_of_definition t.system s (texts t.feats.items) (statement_at w.statements k)))) v
+
+-- The first fault of these statements is that the definition at this place has no structure.
+pub record IsNoStructureAt (w : WalkedTree) (s : Settled) (types : TypeTable) (k : ℕ) : Type 0 where
+  pub name : String Global
+  pub fault : IsFaultOf types s w.statements (NoStructure name k)
+
+-- Some definition has none.
+pub record LacksStructure (w : WalkedTree) (s : Settled) (types : TypeTable) : Type 0 where
+  pub place : ℕ
+  pub lacks : IsNoStructureAt w s types place

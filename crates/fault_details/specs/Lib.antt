@@ -1,0 +1,3 @@
+pub mod Further
+pub mod Views
+pub mod Inner

@@ -1,6 +1,0 @@
-use Rattle.std.proofs.Common.{◌≡◌, ◌++◌, map, take}
-use Rattle.fault_texts.specs.Texts.{spaced}
-use Rattle.fault_texts.proofs.add_words.Given as goal
-
-abbrev pub invariant-loop-word : goal.invariant-loop-word
-invariant-loop-word l = l.line.items ≡ l.fn.line.items ++ spaced (map (λ w. w.now) (take l.word-index l.words))

@@ -1,0 +1,23 @@
+use Rattle.std.proofs.Common.{◌<◌, length, map, sym, subst, arith}
+use Rattle.std.proofs.lemmas.List.{get_or-map, length-map}
+use Rattle.std.proofs.lemmas.List.Elements.{All-get_or}
+use Rattle.std.specs.String.{string_bytes}
+use Rattle.fs_graph.specs.Facts.{path_of}
+use Rattle.fs_graph.specs.Text.{feature_text}
+use Rattle.fs_graph.proofs.TextLemmas.{piece_more}
+use Rattle.fs_graph.proofs.text.put_features.Goals as goal
+
+pub put_feature-requires : goal.put_feature-requires
+put_feature-requires c =
+    let size = length-map c.args.path.now (λ f. f.0) in
+    let low = c.loop-feat-test.true in
+    subst (λ z. z < length c.args.feats.now) (get_or-map (λ f. f.0) c.args.path.now c.loop-feat.feat-index (record { 0 = 0 }) 0 low)
+    (All-get_or (λ f. f < length c.args.feats.now) (path_of c.args.path.now) c.loop-feat.feat-index 0 (omega arith) c.requires)
+
+pub loop-feat-preserved : goal.loop-feat-preserved
+loop-feat-preserved c =
+    let size = length-map c.args.path.now (λ f. f.0) in
+    let low = c.loop-feat-test.true in
+    piece_more (feature_text (map string_bytes c.args.feats.now)) (path_of c.args.path.now) c.loop-feat.feat-index _ c.args.into.now.items c.loop-feat.into.items
+    c.put_feature.new.into.items (omega arith) (sym (get_or-map (λ f. f.0) c.args.path.now c.loop-feat.feat-index (record { 0 = 0 }) _ low)) c.loop-feat.invariant
+    c.in_ok-put_feature.ensures

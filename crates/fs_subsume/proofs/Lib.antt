@@ -1,3 +1,0 @@
-pub mod MeetLemmas
-pub mod MarkLemmas
-pub mod ArcLemmas

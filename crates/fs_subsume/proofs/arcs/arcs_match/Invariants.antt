@@ -1,5 +1,0 @@
-use Rattle.fs_subsume.specs.Matching.{AreArcsMet}
-use Rattle.fs_subsume.proofs.arcs.arcs_match.Given as goal
-
-abbrev pub invariant-loop-arc : goal.invariant-loop-arc
-invariant-loop-arc l = AreArcsMet l.general l.special l.arcs l.others l.fn.marks l.marks l.arc-index l.place

@@ -1,3 +1,0 @@
-pub mod ExpandLists
-pub mod ExpandTypes
-pub mod ExpandFits

@@ -1,7 +1,0 @@
--- What contracts see of what was read.
-use Rattle.grammar_files.specs.WalkViews.{walked_of}
-use Rattle.grammar_reading.specs.declared.Read.{Read}
-use Rattle.grammar_reading.specs.Reads.{ReadTree}
-
-abbrev pub read_of : Read → ReadTree
-read_of r = record { walked = walked_of r.walked; irregular = r.irregular.items }

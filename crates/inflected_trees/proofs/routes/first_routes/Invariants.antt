@@ -1,8 +1,0 @@
-use Rattle.std.proofs.Common.{map}
-use Rattle.inflected_trees.specs.Inner.Routes.{IsFirst, AreRoutes, route_seen}
-use Rattle.inflected_trees.proofs.routes.first_routes.Given as goal
-
-abbrev pub invariant-loop-entry : goal.invariant-loop-entry
-invariant-loop-entry g l =
-    AreRoutes l.lexicon l.spelling (g.F.LexicalFulls.signs l.fulls) (g.F.LexicalFulls.entries_of l.fulls) (g.F.LexicalFulls.rules_of l.fulls)
-    (IsFirst l.lexicon l.spelling (g.F.LexicalFulls.signs l.fulls) (g.F.LexicalFulls.entries_of l.fulls) (g.F.LexicalFulls.rules_of l.fulls) l.entry) (map (route_seen (g.F.LexicalFulls.value l.fulls)) l.routes.items)

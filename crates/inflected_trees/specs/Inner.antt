@@ -1,3 +1,0 @@
--- Words between one function and the next; no public clause cites them.
-pub mod Keyed
-pub mod Routes

@@ -1,4 +1,0 @@
-pub mod Inflected
-pub mod Forms
-pub mod Views
-pub mod Inner

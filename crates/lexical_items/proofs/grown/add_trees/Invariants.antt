@@ -1,0 +1,11 @@
+use Rattle.std.proofs.Common.{map, take, string_bytes}
+use Rattle.lexical_items.specs.Inner.Keyed.{Adds}
+use Rattle.lexical_items.specs.Inner.Routes.{IsTree, IsOfRoute, route_seen}
+use Rattle.lexical_items.specs.InflectedViews.{tree_seen}
+use Rattle.lexical_items.proofs.grown.add_trees.Given as goal
+
+abbrev pub invariant-loop-end : goal.invariant-loop-end
+invariant-loop-end g l =
+    Adds (IsTree l.lexicon l.spelling (g.F.LexicalFulls.signs l.fulls) (g.F.LexicalFulls.entries_of l.fulls) (g.F.LexicalFulls.rules_of l.fulls))
+    (IsOfRoute l.lexicon l.spelling (g.F.LexicalFulls.signs l.fulls) (g.F.LexicalFulls.entries_of l.fulls) (g.F.LexicalFulls.rules_of l.fulls) (route_seen (g.F.LexicalFulls.value l.fulls) l.route) (map string_bytes (take l.end-index l.end-items)))
+    (map (tree_seen (g.F.LexicalFulls.value l.fulls)) l.initial.out.items) (map (tree_seen (g.F.LexicalFulls.value l.fulls)) l.out.items)

@@ -1,7 +1,0 @@
-use Rattle.std.proofs.Common.{◌∙◌, IfSome, subst}
-use Rattle.mother_memo.specs.Told.{all_seen, IsUnderPhrase}
-use Rattle.mother_memo.proofs.remembered.RememberedMothers.made.Goals as goal
-
-pub returns : goal.returns
-returns c =
-    subst (λ t. IfSome c.find.result (λ told. IsUnderPhrase t c.args.rule (all_seen t c.args.parts.now) told.now)) (c.self.invariant.0 ∙ c.self.view_is) c.find.ensures

@@ -1,2 +1,0 @@
-pub mod Spanned
-pub mod Answered

@@ -1,3 +1,0 @@
-pub mod Lattices
-pub mod Licensed
-pub mod Answers

@@ -1,4 +1,0 @@
-pub mod Placings
-pub mod Statements
-pub mod BodyStrings
-pub mod Names

@@ -1,5 +1,0 @@
-pub mod LineLemmas
-pub mod Taking
-pub mod Numbers
-pub mod LineKinds
-pub mod Bounds

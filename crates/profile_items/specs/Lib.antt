@@ -1,4 +1,0 @@
-pub mod Names
-pub mod Profiles
-pub mod Bounds
-pub mod Views

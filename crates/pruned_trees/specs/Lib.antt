@@ -1,3 +1,0 @@
-pub mod Sieves
-pub mod Laws
-pub mod Inner

@@ -1,4 +1,0 @@
-pub mod ListLemmas
-pub mod PlaceLemmas
-pub mod StructureLemmas
-pub mod LawLemmas

@@ -1,9 +1,0 @@
-use Rattle.std.proofs.Common.{rules}
-use Rattle.std.specs.Char.{is_whitespace}
-use Rattle.std.proofs.lemmas.Iterator.Consumers.{map_from_collect, YieldsList-at, YieldsList-from_filter}
-use Rattle.std.proofs.lemmas.Iterator.Splits.{YieldsList-from_slice_split}
-use Rattle.grammar_settings.specs.SettingsFiles.{is_some_word}
-use Rattle.rule_spelling.proofs.fields.words.Goals as goal
-
-pub returns : goal.returns
-returns c = map_from_collect _ c.collect.ensures.ran (YieldsList-from_filter _ is_some_word (YieldsList-at c.filter.ensures.source (YieldsList-from_slice_split _ is_whitespace c.args.letters.now c.split.ensures.rest c.split.ensures.done c.split.ensures.closure (λ x b q k. search rules))) c.filter.ensures.closure (λ x b q k. search rules))

@@ -1,6 +1,0 @@
-use Rattle.std.proofs.Common.{map, string_bytes}
-use Rattle.rule_spelling.proofs.LineLemmas.{unnamed}
-use Rattle.rule_spelling.proofs.irregular.line_in.Goals as goal
-
-pub returns-in_default : goal.returns-in_default
-returns-in_default c = unnamed (λ w. w.now) (map string_bytes c.args.rules.now) c.args.fields.now _ c.in_ok-rule.field-0 c.if-fields-ne3.false c.in_ok-rule.ensures c.in_default.is

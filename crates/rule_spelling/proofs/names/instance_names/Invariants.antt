@@ -1,9 +1,0 @@
-use Rattle.std.proofs.Common.{◌≡◌, map, take}
-use Rattle.placed_statements.specs.Placings.{placed_of}
-use Rattle.placed_statements.specs.Statements.{name_of}
-use Rattle.placed_statements.specs.Statements.{instances_in}
-use Rattle.rule_spelling.specs.Spellings.{names_in}
-use Rattle.rule_spelling.proofs.names.instance_names.Given as goal
-
-abbrev pub invariant-loop-placed : goal.invariant-loop-placed
-invariant-loop-placed l = names_in l.out ≡ map name_of (instances_in (map placed_of (take l.placed-index l.statements)))

@@ -1,5 +1,0 @@
-use Rattle.transfer_laws.proofs.RenumberBack.{renumbered_back}
-use Rattle.transfer_laws.proofs.renumbered.renumbered_back.Goals as goal
-
-pub returns : goal.returns
-returns c = λ m k to v r. renumbered_back m k to v r

@@ -1,5 +1,0 @@
-use Rattle.transfer_laws.proofs.RenumberText.{one_text}
-use Rattle.transfer_laws.proofs.renumbered.renumbered_text.Goals as goal
-
-pub returns : goal.returns
-returns c = λ m k to v r. one_text m k to v r

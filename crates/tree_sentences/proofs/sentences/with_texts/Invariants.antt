@@ -1,8 +1,0 @@
-use Rattle.std.proofs.Common.{◌≡◌, map}
-use Rattle.derivation.specs.Views.{derivation_of}
-use Rattle.tree_sentences.specs.Views.{sentence_seen}
-use Rattle.tree_sentences.specs.Inner.{with_text}
-use Rattle.tree_sentences.proofs.sentences.with_texts.Given as goal
-
-abbrev pub invariant-loop-tree : goal.invariant-loop-tree
-invariant-loop-tree l = map sentence_seen l.all.items ≡ map with_text (map derivation_of l.yielded)

@@ -1,9 +1,0 @@
-pub mod Views
-pub mod Steps
-pub mod Slots
-pub mod Parts
-pub mod Made
-pub mod Gathers
-pub mod Sums
-pub mod Closes
-pub mod Knowing

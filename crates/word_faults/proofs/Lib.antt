@@ -1,4 +1,0 @@
-pub mod Items
-pub mod Forms
-pub mod Steps
-pub mod Ends

@@ -1,5 +1,0 @@
-use Rattle.word_faults.proofs.Steps.{named-at}
-use Rattle.word_faults.proofs.reading.after_first.Goals as goal
-
-pub returns-in-Some : goal.returns-in-Some
-returns-in-Some c = named-at c.in-Some.command c.args.word.now c.in-Some.ensures

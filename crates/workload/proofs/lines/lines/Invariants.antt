@@ -1,7 +1,0 @@
-use Rattle.std.proofs.Common.{◌≡◌, ◌+◌, map}
-use Rattle.std.specs.List.{range_with_len}
-use Rattle.workload.specs.Lines.{line}
-use Rattle.workload.proofs.lines.lines.Given as goal
-
-abbrev pub invariant-loop-i : goal.invariant-loop-i
-invariant-loop-i l = map (λ v. v.items) l.lines.items ≡ map (λ n. line (l.start + n)) (range_with_len 0 l.i)
