@@ -1,5 +1,5 @@
 //! What a chart is, as a function of its history, that a chart with nothing pending is complete, and what the limits on
-//! packed classes and unary chains answer.
+//! packed classes and unary chains answer; and covers and shapes, what a chart needs to know of a grammar.
 //!
 //! Packing by subsumption: Oepen and Carroll 2000.
 #![tactic(auto)]

@@ -46,9 +46,10 @@ fn answer_alone(alloc: Global, step: &str, rest: &str, out: &mut String) -> Resu
     }
 }
 
-// `pool SEATS | CALLS` makes a pool and calls its seats, `seats RULES | LEAVES | CALLS` a chart of two seats. `refused WORKERS
-// | CALL | RULES | LEAVES` lets workers go over a grammar that wants memory at a call, `held RULES | LEAVES` lets two of them
-// wait for each other. Every other step is about a chart without workers, or about covers.
+// `pool SEATS | CALLS` makes a pool and calls its seats, `seats RULES | LEAVES | CALLS` a chart of two seats. `crew WORKERS |
+// EDGES | RULES | LEAVES` lets workers make a chart, `refused WORKERS | CALL | RULES | LEAVES` with a grammar that wants memory
+// at a call, and `held RULES | LEAVES` lets two of them wait for each other. Every other step is about a chart without workers,
+// or about covers.
 fn answer<R: Wait + Threads + Sync>(
     rt: &R,
     alloc: Global,
@@ -64,6 +65,7 @@ fn answer<R: Wait + Threads + Sync>(
             let leaves = leaves(alloc, b)?;
             seats::chart(rt, alloc, &shapes, &mut (), leaves, c, out)
         }
+        "crew" => workers::crew(rt, alloc, parts(rest), out),
         "refused" => workers::refused(rt, alloc, parts(rest), out),
         "held" => workers::held(rt, alloc, a, b, out),
         _ => answer_alone(alloc, step, rest, out),

@@ -4,7 +4,7 @@ ghost use Rattle.std.specs.Prelude.{All};
 ghost use Rattle.chart_model.specs.Spans.{is_span};
 
 use crate::grammars::limits;
-use crate::told::push_number;
+use crate::told::{push_fault, push_number};
 use chart_core::{ChartFault, Leaf, ordered_pass};
 use chart_model::{NoMemory, TableShapes};
 use std::alloc::Global;
@@ -21,11 +21,7 @@ pub fn classes(
 {
     match classes_of(alloc, shapes, leaves, edges) {
         Ok(count) => push_number(alloc, out, "", u64::from(count)),
-        Err(ChartFault::Edges { size }) => push_number(alloc, out, "edges, size ", u64::from(size)),
-        Err(ChartFault::UnaryChain { size }) => {
-            push_number(alloc, out, "unary chain, size ", u64::from(size))
-        }
-        Err(ChartFault::NoMemory) => Err(NoMemory),
+        Err(fault) => push_fault(alloc, out, fault),
     }
 }
 

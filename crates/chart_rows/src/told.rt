@@ -1,6 +1,6 @@
 //! What calls of charts answer, as texts.
 
-use chart_core::{Entered, Finished, RowId};
+use chart_core::{ChartFault, Entered, Finished, RowId};
 use chart_model::{NoMemory, Shapes};
 use shared_chart::Unready;
 use std::alloc::Global;
@@ -32,6 +32,17 @@ pub fn push_rows<S: Shapes>(
         }
     }
     Ok(())
+}
+
+/// The limit that is broken and the size by which it is, or that memory was wanting.
+pub fn push_fault(alloc: Global, out: &mut String, fault: ChartFault) -> Result<(), NoMemory> {
+    match fault {
+        ChartFault::Edges { size } => push_number(alloc, out, "edges, size ", u64::from(size)),
+        ChartFault::UnaryChain { size } => {
+            push_number(alloc, out, "unary chain, size ", u64::from(size))
+        }
+        ChartFault::NoMemory => Ok(out.push_str("no memory")?),
+    }
 }
 
 /// Why there is no answer.

@@ -1,4 +1,4 @@
-//! Workers that share a chart.
+//! Workers that share a chart, and the pool of their tasks.
 #![tactic(auto)]
 
 pub use calls::Over;

@@ -1,4 +1,4 @@
-//! The files of commands: the text of one, and the lines that tell their faults.
+//! The files of commands: the grammar of some, the text of one, and the lines that tell their faults.
 #![tactic(auto)]
 
 ghost use Rattle.std.specs.Prelude.{◌≡◌, ◌≤◌, [], false, IfOk, IfErr};

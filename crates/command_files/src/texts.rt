@@ -1,4 +1,4 @@
-//! The texts of faults of files: each is one line of bytes; and their causes in plain words.
+//! The texts of faults of files: each is one line of bytes.
 
 ghost use Rattle.std.specs.Prelude.{◌≡◌, ◌++◌, ◌∷◌, [], codes, map, IfOk, OnOk};
 ghost use Rattle.std.specs.String.{string_bytes};

@@ -1,4 +1,4 @@
--- What the crate's own functions cite between themselves. No contract of a public function cites it.
+-- What the functions on faults of words cite between themselves. No contract of a public function cites it.
 use Rattle.std.specs.Prelude.{◌≡◌, ◌⊎◌, ℕ, List, [], ◌∷◌, ◌++◌, Option, Some, None, if◌then◌else◌}
 use Rattle.std.specs.Str.{bytes_eq}
 use Rattle.command_line.specs.Words.{OptionName, Workers, Edges, Readings, Lexical, Unary, Empty, Settings, Mrs, Lattice, Verbose, word_of}

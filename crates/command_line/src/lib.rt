@@ -1,4 +1,4 @@
-//! The words of the command line, read with `clap`.
+//! The words of the command line, read with `clap`, and what is wrong with them.
 #![tactic(auto)]
 
 mod definition;

@@ -53,19 +53,19 @@ pub record AreConstraintsTo (g : Grammar) (n : ℕ) (graphs : List GraphMap) : T
 pub constraints_none : (g : Grammar) → AreConstraintsTo g 0 []
 constraints_none g = record { structures = tt; none = λ u h. absurd (omega arith) }
 
-pub constraints_next : (g : Grammar) (n : ℕ) (graphs new : List GraphMap) (graph : GraphMap) → new ≡ graphs ++ graph ∷ [] → AreConstraintsTo g n graphs →
-    IsAnswerFor g (constraint_claims n) (Some graph) → AreConstraintsTo g (n + 1) new
-constraints_next g n graphs new graph is had one =
+pub constraints_more : (g : Grammar) (n : ℕ) (graphs new : List GraphMap) (graph : GraphMap) → new ≡ graphs ++ graph ∷ [] → AreConstraintsTo g n graphs →
+    IsConstraintOf g n graph → AreConstraintsTo g (n + 1) new
+constraints_more g n graphs new graph is had one =
     record {
       structures = subst (λ l. AllZip (IsConstraintOf g) (range_with_len 0 (n + 1)) l) (sym is)
           (subst (λ l. AllZip (IsConstraintOf g) l (graphs ++ graph ∷ [])) (sym (range_push n))
-          (zip_push (IsConstraintOf g) (range_with_len 0 n) graphs n graph had.structures (record { structure = one.unified; answer = one.answer })));
+          (zip_push (IsConstraintOf g) (range_with_len 0 n) graphs n graph had.structures one));
       none = λ u h. go u (cases_lt u n) h;
     }
   where
     go : (u : ℕ) → (u < n) ⊎ (n ≤ u) → u < n + 1 → HasNoConstraint g u → ⊥
     go u (inl a) h = had.none u a
-    go u (inr a) h = let same : n ≡ u = omega arith in subst (λ m. HasNoConstraint g m → ⊥) same (shaped_is g (constraint_claims n) (reader_of graph) one.unified)
+    go u (inr a) h = let same : n ≡ u = omega arith in subst (λ m. HasNoConstraint g m → ⊥) same (shaped_is g (constraint_claims n) (reader_of graph) one.structure)
 
 -- a definition is no addendum
 define_only : (x : StatementTree) → is_define x ≡ true → is_addendum x ≡ true → ⊥
@@ -261,6 +261,12 @@ faulty_type g ps t (UnknownName name at k) none h before = (t, none, h, before)
 faulty_type g ps t (NoIntro name at k) none h before = (t, none, h, before)
 faulty_type g ps t (Intro f a b k) none h before = (t, none, h, before)
 faulty_type g ps t (NoStructure name k) none h before = (t, none, h, before)
+
+-- what is met at a type before which all have constraints: want of memory, or the fault of the first that has none
+pub faulty_first : (g : Grammar) (ps : List PlacedTree) (t : ℕ) (e : ExpandFault) → (e ≡ NoMemory) ⊎ (HasNoConstraint g t × IsFaultyType g.types ps t e) →
+    ((u : ℕ) → u < t → HasNoConstraint g u → ⊥) → IsFaultyAmongTypes g ps e
+faulty_first g ps t e (inl is) before = subst (IsFaultyAmongTypes g ps) (sym is) tt
+faulty_first g ps t e (inr (none, h)) before = faulty_type g ps t e none h before
 
 pub constraints_all : (g : Grammar) (n : ℕ) (graphs : List GraphMap) → n ≡ completed_count g.types → AreConstraintsTo g n graphs → AreConstraints g graphs
 constraints_all g n graphs e had = subst (λ m. AllZip (IsConstraintOf g) (range_with_len 0 m) graphs) e had.structures

@@ -1,4 +1,4 @@
--- What statements define, as placed_statements has it, and the first of them of which something holds.
+-- What statements define, as `specs/Statements` of `grammar_files` has it, and the first of them of which something holds.
 use Rattle.std.specs.Prelude.{ℕ, ◌<◌, ◌≡◌, Bool, true, List, length}
 use Rattle.grammar_files.specs.Placings.{PlacedTree}
 pub use Rattle.grammar_files.specs.Statements.{is_of_types, is_of_instances, is_define, is_addendum, place_of, name_written, body_written, name_of, body_of, defines_type, adds_to_type, defines_instance, speaks_of_type, adds_to, type_definitions, addenda_to, instances_in, no_statement, statement_at}

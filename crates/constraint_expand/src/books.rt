@@ -1,7 +1,7 @@
 //! What a grammar's statements expand to.
 
 use fs_graph::{Feat, Graph};
-use fs_unify::TypeSystem;
+use fs_unify::{SharedGraph, TypeSystem};
 use tdl_reader::Status;
 use type_hierarchy::Ty;
 
@@ -11,7 +11,7 @@ pub struct Book {
     /// The types, the introducers of features, the facts of types and the limit on paths.
     pub system: TypeSystem,
     /// The constraint of each completed type, by number.
-    pub constraints: Vec<Graph>,
+    pub constraints: Vec<SharedGraph>,
     /// The names of the features by number: in byte order, in ASCII lower case.
     pub feats: Vec<String>,
     /// The entries, lexical rules, rules and roots in order of reading.

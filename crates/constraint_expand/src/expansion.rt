@@ -149,9 +149,9 @@ pub fn expand(
     ensures fault { IfErr result (λ e. IsFaultOf types (settled_of names.now) (map placed_of statements.now) e) }
 {
     let Introductions { feats, introducers } = introduce(alloc, &types, statements, names)?;
-    let system = system_with(alloc, types, statements, names, &feats, introducers)?;
+    let mut system = system_with(alloc, types, statements, names, &feats, introducers)?;
     let mut scratch = Scratch::new(alloc);
-    let constraints = constraints_of(alloc, &mut scratch, &system, statements)?;
+    let constraints = constraints_of(alloc, &mut scratch, &mut system, statements)?;
     let instances = instances_with(alloc, &mut scratch, &system, statements, names, &feats)?;
     if feats.len() > u32::MAX as usize {
         return Err(ExpandFault::NoMemory);

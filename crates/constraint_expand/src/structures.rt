@@ -1,7 +1,9 @@
 //! The structures of types and instances.
 
-ghost use Rattle.std.specs.Prelude.{◌≡◌, ℕ, ◌<◌, ◌⊎◌, map, length, IfOk, IfErr, OnOk, true};
+ghost use Rattle.std.specs.Prelude.{◌≡◌, ℕ, ◌<◌, ◌≤◌, ◌⊎◌, map, length, IfOk, IfErr, OnOk, true};
+ghost use Rattle.type_hierarchy.specs.Laws.{HasTypeLaws};
 ghost use Rattle.type_hierarchy.specs.Table.{count_of, completed_count};
+ghost use Rattle.fs_closing.specs.Constraints.{IsConstraint};
 ghost use Rattle.fs_model.specs.Claims.{IsBare};
 ghost use Rattle.fs_unify.specs.Rules.{system_of};
 ghost use Rattle.body_facts.specs.WordTables.{table_of};
@@ -9,7 +11,7 @@ ghost use Rattle.grammar_files.specs.Placings.{placed_of};
 ghost use Rattle.constraint_expand.specs.Statements.{statement_at, defines_instance};
 ghost use Rattle.constraint_expand.specs.Conditions.{IsDefined, HasLesserBelow, HasNoneAbove};
 ghost use Rattle.constraint_expand.specs.Systems.{constraint_claims, instance_claims};
-ghost use Rattle.constraint_expand.specs.Books.{AreConstraints, instance_of};
+ghost use Rattle.constraint_expand.specs.Books.{AreConstraints, IsConstraintOf, instance_of};
 ghost use Rattle.constraint_expand.specs.Shaped.{AreFactsDefined, IsAnswerFor, AddsInstance, AreShaped, HasNoConstraint, IsFaultyType, IsFaultyAmongTypes, IsFaultyHere, IsFaultyAmongInstances, HaveClaimsIn};
 
 use crate::OutOfMemory;
@@ -19,7 +21,7 @@ use crate::splits::definition_of;
 use body_facts::Words;
 use fs_graph::{Fact, Graph};
 use fs_model::closure_laws;
-use fs_unify::{Scratch, TypeSystem, structure_of};
+use fs_unify::{Constraint, Scratch, SharedGraph, TypeSystem, structure_of};
 use grammar_files::placed_statements::{defines_instance, name_of};
 use grammar_files::{ExpandFault, Placed};
 use std::alloc::Global;
@@ -64,30 +66,80 @@ fn type_fault(
     }
 }
 
-/// The constraints of all completed types by number, or the fault of the first that has none.
+// How many completed types there are.
+fn completed_count(system: &TypeSystem) -> u32
+    ensures count { result ≡ completed_count system.now.types }
+    ensures within { result ≤ count_of system.now.types }
+    ensures laws { HasTypeLaws system.now.types }
+{
+    let types = system.types();
+    types.laws();
+    types.counts().completed
+}
+
+// The type system knows the constraint of a type from then on.
+fn known(
+    alloc: Global,
+    system: &mut TypeSystem,
+    ty: Ty,
+    graph: Graph,
+) -> Result<SharedGraph, OutOfMemory>
+    requires within { ty.0 < count_of system.old.types }
+    requires is { IsConstraint system.old ty.0 graph }
+    ensures graph { IfOk result (λ g. g ≡ graph) }
+    ensures same { system.new ≡ system.old }
+{
+    let graph = SharedGraph::new(alloc, graph)?;
+    system.know(Constraint {
+        ty: ty.0,
+        graph: graph.share()?,
+    })?;
+    Ok(graph)
+}
+
+// The constraint of a type, which the type system knows from then on, or the fault of the type that has none.
+fn known_constraint(
+    alloc: Global,
+    scratch: &mut Scratch,
+    system: &mut TypeSystem,
+    statements: &[Placed],
+    ty: Ty,
+) -> Result<SharedGraph, ExpandFault>
+    requires bare { IsBare (system_of system.old) }
+    requires within { ty.0 < count_of system.old.types }
+    requires defined { HasNoConstraint system.old ty.0 → IsDefined system.old.types (map placed_of statements.now) ty.0 }
+    ensures constraint { IfOk result (IsConstraintOf system.old ty.0) }
+    ensures fault { IfErr result (λ e. (e ≡ ExpandFault.NoMemory) ⊎ HasNoConstraint system.old ty.0 × IsFaultyType system.old.types (map placed_of statements.now) ty.0 e) }
+    ensures same { system.new ≡ system.old }
+{
+    match constraint(alloc, scratch, system, ty)? {
+        Some(graph) => Ok(known(alloc, system, ty, graph)?),
+        None => Err(type_fault(alloc, system, statements, ty)?),
+    }
+}
+
+/// The constraints of all completed types by number, which the type system knows then, or the fault of the first type that has none.
+/// The type system stands for the same grammar before and after.
 pub fn constraints_of(
     alloc: Global,
     scratch: &mut Scratch,
-    system: &TypeSystem,
+    system: &mut TypeSystem,
     statements: &[Placed],
-) -> Result<Vec<Graph>, ExpandFault>
-    requires bare { IsBare (system_of system.now) }
-    requires facts { AreFactsDefined system.now (map placed_of statements.now) }
-    requires covered { (t : ℕ) → t < completed_count system.now.types → IsDefined system.now.types (map placed_of statements.now) t ⊎ (HasLesserBelow system.now.types (map placed_of statements.now) t ⊎ HasNoneAbove system.now.types (map placed_of statements.now) t) }
-    ensures constraints { IfOk result (λ graphs. AreConstraints system.now graphs.items) }
-    ensures all { OnOk result ((t : ℕ) → t < completed_count system.now.types → HasNoConstraint system.now t → ⊥) }
-    ensures fault { IfErr result (IsFaultyAmongTypes system.now (map placed_of statements.now)) }
+) -> Result<Vec<SharedGraph>, ExpandFault>
+    requires bare { IsBare (system_of system.old) }
+    requires facts { AreFactsDefined system.old (map placed_of statements.now) }
+    requires covered { (t : ℕ) → t < completed_count system.old.types → IsDefined system.old.types (map placed_of statements.now) t ⊎ (HasLesserBelow system.old.types (map placed_of statements.now) t ⊎ HasNoneAbove system.old.types (map placed_of statements.now) t) }
+    ensures constraints { IfOk result (λ graphs. AreConstraints system.old graphs.items) }
+    ensures all { OnOk result ((t : ℕ) → t < completed_count system.old.types → HasNoConstraint system.old t → ⊥) }
+    ensures fault { IfErr result (IsFaultyAmongTypes system.old (map placed_of statements.now)) }
+    ensures same { system.new ≡ system.old }
 {
     closure_laws();
-    let types = system.types();
-    types.laws();
+    let completed = completed_count(system);
     let mut graphs = Vec::new(alloc);
-    let completed = types.counts().completed;
     for t in 0..completed {
-        match constraint(alloc, scratch, system, Ty(t))? {
-            Some(graph) => graphs.push(graph)?,
-            None => return Err(type_fault(alloc, system, statements, Ty(t))?),
-        }
+        let graph = known_constraint(alloc, scratch, system, statements, Ty(t))?;
+        graphs.push(graph)?;
     }
     Ok(graphs)
 }

@@ -9,7 +9,7 @@ use Rattle.endings.specs.declared.Fault.{Fault}
 use Rattle.endings.specs.declared.Fault.TheVariants.{Usage, Files as FilesFault, Stopped}
 use Rattle.endings.specs.declared.Status.TheVariants.{Done, Items, Usage as UsageStatus, Grammar as GrammarStatus, ReadFault, WriteFault, Gaps as GapsStatus, NoMemory as NoMemoryStatus}
 use Rattle.endings.specs.Readings.{ReadsAll, ReadsPart, Reads, AreReadable}
-use Rattle.endings.specs.Reports.{Streams, IsServedTo, IsServedToLast}
+use Rattle.endings.specs.Reports.{Streams, output_of, IsFlushed, IsServedTo, IsServedToLast}
 use Rattle.endings.specs.Meanings.{Meaning, Shelves, FileFault, Fails, Lawful}
 use Rattle.endings.specs.Endings.{Runs, RunsInPart, Ran, RanInPart, RanWithGaps, StopsReading, IsReadThrough, Ended, IsFaultless, IsWhole, status_of, is_items, fault_text}
 use Rattle.endings.proofs.Long.{no-long, no-more}
@@ -43,41 +43,48 @@ SomeReport reports = (lines : List (List ℕ)) × (pieces : List (List ℕ)) × 
 
 runs-some : (b : Bool) (reports gaps : Reports) (o : Streams) (idle : Type 0) (end : Result Bool Stop) → Runs b reports gaps o idle end → SomeReport reports ⊎ SomeReport gaps
 runs-some true reports gaps o idle (Ok refused) s = inl (s.lines, s.pieces, refused, s.report)
-runs-some true reports gaps o idle (Err Read) s = inl (s.0.lines, s.0.pieces, s.0.refused, s.0.report)
-runs-some true reports gaps o idle (Err TooLong) s = inl (s.0.lines, s.0.pieces, s.0.refused, s.0.report)
-runs-some true reports gaps o idle (Err TooMany) s = inl (s.lines, s.pieces, s.refused, s.report)
-runs-some true reports gaps o idle (Err Write) s = inl (s.0.lines, s.0.pieces, s.0.refused, s.0.report)
-runs-some true reports gaps o idle (Err Gaps) s = inr (s.lines, s.pieces, true, s.report)
-runs-some true reports gaps o idle (Err NoMemory) s = inr (s.lines, s.pieces, s.refused, s.report)
+runs-some true reports gaps o idle (Err Read) s = let r = s.0.0 in inl (r.lines, r.pieces, r.refused, r.report)
+runs-some true reports gaps o idle (Err TooLong) s = let r = s.0.0 in inl (r.lines, r.pieces, r.refused, r.report)
+runs-some true reports gaps o idle (Err TooMany) s = let r = s.0 in inl (r.lines, r.pieces, r.refused, r.report)
+runs-some true reports gaps o idle (Err Write) s = let r = s.0.0 in inl (r.lines, r.pieces, r.refused, r.report)
+runs-some true reports gaps o idle (Err Gaps) s = let r = s.0 in inr (r.lines, r.pieces, true, r.report)
+runs-some true reports gaps o idle (Err NoMemory) s = let r = s.0 in inr (r.lines, r.pieces, r.refused, r.report)
 runs-some false reports gaps o idle (Ok refused) s = inl ([], s.0.pieces, refused, s.0.report [])
-runs-some false reports gaps o idle (Err Read) s = absurd s.0
-runs-some false reports gaps o idle (Err TooLong) s = absurd s.0
-runs-some false reports gaps o idle (Err TooMany) s = absurd s.0
-runs-some false reports gaps o idle (Err Write) s = inl ([], s.0.0.pieces, s.0.0.refused, s.0.0.report [])
-runs-some false reports gaps o idle (Err Gaps) s = inr ([], s.0.pieces, true, s.0.report [])
-runs-some false reports gaps o idle (Err NoMemory) s = inr ([], s.0.pieces, s.0.refused, s.0.report [])
+runs-some false reports gaps o idle (Err Read) s = absurd s.0.0
+runs-some false reports gaps o idle (Err TooLong) s = absurd s.0.0
+runs-some false reports gaps o idle (Err TooMany) s = absurd s.0.0
+runs-some false reports gaps o idle (Err Write) s = let r = s.0.0.0 in inl ([], r.pieces, r.refused, r.report [])
+runs-some false reports gaps o idle (Err Gaps) s = let r = s.0.0 in inr ([], r.pieces, true, r.report [])
+runs-some false reports gaps o idle (Err NoMemory) s = let r = s.0.0 in inr ([], r.pieces, r.refused, r.report [])
 
 runs-write : (b : Bool) (reports gaps : Reports) (o : Streams) (idle : Type 0) → Runs b reports gaps o idle (Err Write) → RunsInPart b reports o × HasRisen o.out_old o.out_new
-runs-write true reports gaps o idle s = s
-runs-write false reports gaps o idle s = s.0
+runs-write true reports gaps o idle s = s.0
+runs-write false reports gaps o idle s = s.0.0
 
 runs-no_memory : (b : Bool) (reports gaps : Reports) (o : Streams) (idle : Type 0) → Runs b reports gaps o idle (Err NoMemory) → RunsInPart b gaps o
-runs-no_memory true reports gaps o idle s = s
-runs-no_memory false reports gaps o idle s = s.0
+runs-no_memory true reports gaps o idle s = s.0
+runs-no_memory false reports gaps o idle s = s.0.0
+
+-- where a run stops, what was written was flushed, unless the sink failed
+stops-flushed : (b : Bool) (reports gaps : Reports) (o : Streams) (idle : Type 0) (stop : Stop) → Runs b reports gaps o idle (Err stop) → IsFlushed (output_of o)
+stops-flushed true reports gaps o idle stop s = s.1
+stops-flushed false reports gaps o idle stop s = s.0.1
 
 -- a run that came to its end with gaps
 runs-gaps : (b : Bool) (reports gaps : Reports) (o : Streams) (idle : Type 0) (bytes : List ℕ) → Runs b reports gaps o idle (Err Gaps) → o.left_old ≡ Some bytes
     → (pieces : List (List ℕ)) × gaps (lines_of bytes) pieces true × Adds o.written_old o.written_new (concat pieces) × (b ≡ true → IsAtEnd o.left_new) × (o.flushed_new ≡ o.written_new)
 runs-gaps true reports gaps o idle bytes s l =
-    let reads = subst (λ left. ReadsAll left o.left_new s.lines) l s.reads in
-    (s.pieces, subst (λ lines. gaps lines s.pieces true) reads.0 s.report, s.writes, λ e. reads.2, s.flushed)
-runs-gaps false reports gaps o idle bytes s l = (s.0.pieces, s.0.report (lines_of bytes), s.0.writes, λ e. cc, s.0.flushed)
+    let r = s.0 in
+    let reads = subst (λ left. ReadsAll left o.left_new r.lines) l r.reads in
+    (r.pieces, subst (λ lines. gaps lines r.pieces true) reads.0 r.report, r.writes, λ e. reads.2, r.flushed)
+runs-gaps false reports gaps o idle bytes s l = let r = s.0.0 in (r.pieces, r.report (lines_of bytes), r.writes, λ e. cc, r.flushed)
 
 -- so each of its lines could be read
 runs-gaps-readable : (b : Bool) → b ≡ true → (reports gaps : Reports) (o : Streams) (idle : Type 0) (bytes : List ℕ) → Runs b reports gaps o idle (Err Gaps) → o.left_old ≡ Some bytes → AreReadable (lines_of bytes)
 runs-gaps-readable true is reports gaps o idle bytes s l =
-    let reads = subst (λ left. ReadsAll left o.left_new s.lines) l s.reads in
-    subst AreReadable reads.0 (reads.1, s.few)
+    let r = s.0 in
+    let reads = subst (λ left. ReadsAll left o.left_new r.lines) l r.reads in
+    subst AreReadable reads.0 (reads.1, r.few)
 runs-gaps-readable false is reports gaps o idle bytes s l = cc
 
 -- a run that stops at the input
@@ -85,15 +92,15 @@ abbrev StopsBy : Bool → Reports → Streams → Type 0
 StopsBy b reports o = (b ≡ true) × ((((r : IsServedTo reports o) × HasNoEnd r.part × HasRisen o.in_old o.in_new) ⊎ ((r : IsServedTo reports o) × IsTooLong r.part)) ⊎ IsServedToLast reports o)
 
 runs-stop : (b : Bool) (reports gaps : Reports) (o : Streams) (idle : Type 0) (stop : Stop) → Runs b reports gaps o idle (Err stop) → status_of (Err (Stopped stop)) ≡ ReadFault → StopsBy b reports o
-runs-stop true reports gaps o idle Read s e = (refl, inl (inl s))
-runs-stop true reports gaps o idle TooLong s e = (refl, inl (inr s))
-runs-stop true reports gaps o idle TooMany s e = (refl, inr s)
+runs-stop true reports gaps o idle Read s e = (refl, inl (inl s.0))
+runs-stop true reports gaps o idle TooLong s e = (refl, inl (inr s.0))
+runs-stop true reports gaps o idle TooMany s e = (refl, inr s.0)
 runs-stop true reports gaps o idle Write s e = cc
 runs-stop true reports gaps o idle Gaps s e = cc
 runs-stop true reports gaps o idle NoMemory s e = cc
-runs-stop false reports gaps o idle Read s e = absurd s.0
-runs-stop false reports gaps o idle TooLong s e = absurd s.0
-runs-stop false reports gaps o idle TooMany s e = absurd s.0
+runs-stop false reports gaps o idle Read s e = absurd s.0.0
+runs-stop false reports gaps o idle TooLong s e = absurd s.0.0
+runs-stop false reports gaps o idle TooMany s e = absurd s.0.0
 runs-stop false reports gaps o idle Write s e = cc
 runs-stop false reports gaps o idle Gaps s e = cc
 runs-stop false reports gaps o idle NoMemory s e = cc
@@ -214,14 +221,20 @@ module _ (m : Meaning) (h : Shelves) (o : Streams) (idle untouched : Type 0) whe
   first-so (Err (Stopped Write)) files fault laws s e first calm = absurd (no-run files fault (Err Write) laws e first s)
   first-so (Err (Stopped Gaps)) files fault laws s e first calm = absurd (no-run files fault (Err Gaps) laws e first s)
 
+  -- a run that stops at the input
+  at-input : (stop : Stop) → Ran m h o idle (Err stop) → status_of (Err (Stopped stop)) ≡ ReadFault → StopsReading m h o
+  at-input stop s e =
+      let r = runs-stop m.reads (m.report h.files) (m.with_gaps h.files) o idle stop s e in
+      (r.0, r.1, stops-flushed m.reads (m.report h.files) (m.with_gaps h.files) o idle stop s)
+
   pub read-so : (end : Result Bool Fault) → Ended m h o idle untouched end → status_of end ≡ ReadFault → StopsReading m h o
   read-so (Ok true) s e = cc
   read-so (Ok false) s e = cc
   read-so (Err (Usage text)) s e = absurd s
   read-so (Err (FilesFault text)) s e = cc
-  read-so (Err (Stopped Read)) s e = runs-stop m.reads (m.report h.files) (m.with_gaps h.files) o idle Read s e
-  read-so (Err (Stopped TooLong)) s e = runs-stop m.reads (m.report h.files) (m.with_gaps h.files) o idle TooLong s e
-  read-so (Err (Stopped TooMany)) s e = runs-stop m.reads (m.report h.files) (m.with_gaps h.files) o idle TooMany s e
+  read-so (Err (Stopped Read)) s e = at-input Read s e
+  read-so (Err (Stopped TooLong)) s e = at-input TooLong s e
+  read-so (Err (Stopped TooMany)) s e = at-input TooMany s e
   read-so (Err (Stopped Write)) s e = cc
   read-so (Err (Stopped Gaps)) s e = cc
   read-so (Err (Stopped NoMemory)) s e = cc
@@ -240,7 +253,7 @@ module _ (m : Meaning) (h : Shelves) (o : Streams) (idle untouched : Type 0) whe
 
   in-part : untouched ⊎ Ran m h o idle (Err NoMemory) → untouched ⊎ RanWithGaps m h o
   in-part (inl u) = inl u
-  in-part (inr r) = inr (runs-no_memory m.reads (m.report h.files) (m.with_gaps h.files) o idle r)
+  in-part (inr r) = inr (runs-no_memory m.reads (m.report h.files) (m.with_gaps h.files) o idle r, stops-flushed m.reads (m.report h.files) (m.with_gaps h.files) o idle NoMemory r)
 
   pub memory-so : (end : Result Bool Fault) → Ended m h o idle untouched end → status_of end ≡ NoMemoryStatus → untouched ⊎ RanWithGaps m h o
   memory-so (Ok true) s e = cc

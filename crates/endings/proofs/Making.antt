@@ -27,21 +27,27 @@ said_in_part R T p f r = record { pieces = r.pieces; refused = r.refused; report
 module _ (R T G H : Reports) (f : Includes R T) (k : Includes G H) where
   served-map : (o : Streams) (end : Result Bool Stop) → Served R G o end → Served T H o end
   served-map o (Ok refused) r = record { lines = r.lines; pieces = r.pieces; reads = r.reads; report = f r.lines r.pieces refused r.report; writes = r.writes; flushed = r.flushed; few = r.few }
-  served-map o (Err Read) s = (to R T o f s.0, s.1, s.2)
-  served-map o (Err TooLong) s = (to R T o f s.0, s.1)
-  served-map o (Err TooMany) r = record { lines = r.lines; part = r.part; pieces = r.pieces; refused = r.refused; reads = r.reads; report = f r.lines r.pieces r.refused r.report; writes = r.writes; many = r.many }
-  served-map o (Err Write) s = (in_part R T o f s.0, s.1)
-  served-map o (Err Gaps) r = record { lines = r.lines; pieces = r.pieces; reads = r.reads; report = k r.lines r.pieces true r.report; writes = r.writes; flushed = r.flushed; few = r.few }
-  served-map o (Err NoMemory) s = in_part G H o k s
+  served-map o (Err Read) s = ((to R T o f s.0.0, s.0.1, s.0.2), s.1)
+  served-map o (Err TooLong) s = ((to R T o f s.0.0, s.0.1), s.1)
+  served-map o (Err TooMany) s =
+      let r = s.0 in
+      (record { lines = r.lines; part = r.part; pieces = r.pieces; refused = r.refused; reads = r.reads; report = f r.lines r.pieces r.refused r.report; writes = r.writes; many = r.many }, s.1)
+  served-map o (Err Write) s = ((in_part R T o f s.0.0, s.0.1), s.1)
+  served-map o (Err Gaps) s =
+      let r = s.0 in
+      (record { lines = r.lines; pieces = r.pieces; reads = r.reads; report = k r.lines r.pieces true r.report; writes = r.writes; flushed = r.flushed; few = r.few }, s.1)
+  served-map o (Err NoMemory) s = (in_part G H o k s.0, s.1)
 
   said-map : (p : Output) (end : Result Bool Stop) → Said R G p end → Said T H p end
   said-map p (Ok refused) r = record { pieces = r.pieces; report = λ lines. f lines r.pieces refused (r.report lines); writes = r.writes; flushed = r.flushed }
   said-map p (Err Read) s = s
   said-map p (Err TooLong) s = s
   said-map p (Err TooMany) s = s
-  said-map p (Err Write) s = (said_in_part R T p f s.0, s.1)
-  said-map p (Err Gaps) r = record { pieces = r.pieces; report = λ lines. k lines r.pieces true (r.report lines); writes = r.writes; flushed = r.flushed }
-  said-map p (Err NoMemory) s = said_in_part G H p k s
+  said-map p (Err Write) s = ((said_in_part R T p f s.0.0, s.0.1), s.1)
+  said-map p (Err Gaps) s =
+      let r = s.0 in
+      (record { pieces = r.pieces; report = λ lines. k lines r.pieces true (r.report lines); writes = r.writes; flushed = r.flushed }, s.1)
+  said-map p (Err NoMemory) s = (said_in_part G H p k s.0, s.1)
 
 -- the one report that was made, where it is a report of the command
 pub exactly : (T : Reports) (own : List (List ℕ)) (told : Bool) → ((lines : List (List ℕ)) → T lines own told) → Includes (Exactly own told) T

@@ -93,12 +93,12 @@ tells-nothing old faults = (omega arith, (([], ([], refl), Adds-none old), λ ca
 module _ (m : Meaning) (h : Shelves) (o : Streams) (idle untouched : Type 0) (quiet : (gaps : Bool) (lines : List (List ℕ)) → m.notes h.files gaps lines []) where
   over-served : (end : Result Bool Stop) → Served (m.report h.files) (m.with_gaps h.files) o end → NotesAt (m.notes h.files) o.left_old o.left_new [] end
   over-served (Ok refused) s = (s.lines, s.reads, quiet false s.lines)
-  over-served (Err Read) s = (s.0.lines, s.0.part, s.0.reads, s.1, quiet false s.0.lines)
-  over-served (Err TooLong) s = (s.0.lines, s.0.part, s.0.reads, s.1, quiet false s.0.lines)
-  over-served (Err TooMany) s = (s.lines, s.part, s.reads, s.many, quiet false s.lines)
-  over-served (Err Write) s = (s.0.lines, s.0.part, s.0.reads, quiet false s.0.lines)
-  over-served (Err Gaps) s = (s.lines, s.reads, quiet true s.lines)
-  over-served (Err NoMemory) s = (s.lines, s.part, s.reads, quiet true s.lines)
+  over-served (Err Read) s = let r = s.0.0 in (r.lines, r.part, r.reads, s.0.1, quiet false r.lines)
+  over-served (Err TooLong) s = let r = s.0.0 in (r.lines, r.part, r.reads, s.0.1, quiet false r.lines)
+  over-served (Err TooMany) s = let r = s.0 in (r.lines, r.part, r.reads, r.many, quiet false r.lines)
+  over-served (Err Write) s = let r = s.0.0 in (r.lines, r.part, r.reads, quiet false r.lines)
+  over-served (Err Gaps) s = let r = s.0 in (r.lines, r.reads, quiet true r.lines)
+  over-served (Err NoMemory) s = let r = s.0 in (r.lines, r.part, r.reads, quiet true r.lines)
 
   over-runs : (b : Bool) (end : Result Bool Stop) → Runs b (m.report h.files) (m.with_gaps h.files) o idle end → RunNotes b (m.notes h.files) o.left_old o.left_new [] end
   over-runs true end s = over-served end s

@@ -13,7 +13,7 @@ use Rattle.endings.specs.Meanings.{Meaning, Shelves, FileFault, Fails}
 use Rattle.endings.specs.declared.pieces.Report.{Report}
 use Rattle.endings.specs.declared.commands.ItemsReport.{ItemsReport}
 use Rattle.endings.specs.declared.commands.ItemsReport.TheVariants.{AllAnswered, WithGaps}
-use Rattle.endings.specs.Reports.{Streams, output_of, Served, IsServedTo, IsServedToLast, IsServedInPart, Said, IsSaidInPart}
+use Rattle.endings.specs.Reports.{Streams, output_of, IsFlushed, Served, IsServedTo, IsServedToLast, IsServedInPart, Said, IsSaidInPart}
 
 -- How a command ends that met no fault of its files. `idle` says that the source is as it was.
 abbrev pub Runs : Bool → (reports gaps : List (List ℕ) → List (List ℕ) → Bool → Type 0) → Streams → (idle : Type 0) → Result Bool Stop → Type 0
@@ -31,16 +31,16 @@ RunsInPart false reports o = IsSaidInPart reports (output_of o)
 abbrev pub RanInPart : Meaning → Shelves → Streams → Type 0
 RanInPart m h o = RunsInPart m.reads (m.report h.files) o
 
--- The same of the report in which memory may have been wanting for items.
+-- The same of the report in which memory may have been wanting for items; and what was written was flushed, unless the sink failed.
 abbrev pub RanWithGaps : Meaning → Shelves → Streams → Type 0
-RanWithGaps m h o = RunsInPart m.reads (m.with_gaps h.files) o
+RanWithGaps m h o = RunsInPart m.reads (m.with_gaps h.files) o × IsFlushed (output_of o)
 
 -- The command reads lines, and the source failed, or 65,536 bytes came without a line end, or 2^64 - 1 lines came; exactly the report
--- over the lines before was written.
+-- over the lines before was written, and flushed, unless the sink failed.
 abbrev pub StopsReading : Meaning → Shelves → Streams → Type 0
 StopsReading m h o = (m.reads ≡ true) × ((((r : IsServedTo (m.report h.files) o) × HasNoEnd r.part × HasRisen o.in_old o.in_new)
     ⊎ ((r : IsServedTo (m.report h.files) o) × IsTooLong r.part))
-    ⊎ IsServedToLast (m.report h.files) o)
+    ⊎ IsServedToLast (m.report h.files) o) × IsFlushed (output_of o)
 
 -- No fault of the shelf, the source or the sink was counted.
 abbrev pub IsFaultless : Shelves → Streams → Type 0

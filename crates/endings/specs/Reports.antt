@@ -1,5 +1,5 @@
 -- The report over lines, and how a run over lines ends.
-use Rattle.std.specs.Prelude.{◌≡◌, ℕ, ◌<◌, ◌≤◌, ◌^◌, ◌-◌, List, [], ◌∷◌, ◌++◌, length, codes, Option, Bool, true, false, ◌||◌, suc, Result, Ok, Err}
+use Rattle.std.specs.Prelude.{◌≡◌, ℕ, ◌<◌, ◌≤◌, ◌^◌, ◌-◌, List, [], ◌∷◌, ◌++◌, length, codes, Option, Bool, true, false, ◌||◌, ◌⊎◌, suc, Result, Ok, Err}
 use Rattle.std.specs.Fmt.{decimal}
 use Rattle.std.specs.List.{concat}
 use Rattle.lkb_io.specs.Outside.{HasRisen, Adds, AddsFront}
@@ -53,6 +53,10 @@ output written flushed faults out_old out_new = record { written_old = written o
 abbrev pub output_of : Streams → Output
 output_of o = record { written_old = o.written_old; written_new = o.written_new; flushed_new = o.flushed_new; faults_old = o.out_old; faults_new = o.out_new }
 
+-- All that was written was flushed, unless the sink failed.
+abbrev pub IsFlushed : Output → Type 0
+IsFlushed p = (p.flushed_new ≡ p.written_new) ⊎ HasRisen p.faults_old p.faults_new
+
 -- This text was put: the whole of it at `Ok`, else a front of it, and a fault was counted.
 abbrev pub IsPut : {X Y : Type 0} → List ℕ → Output → Result X Y → Type 0
 IsPut text p (Ok x) = Adds p.written_old p.written_new text × (p.faults_old ≤ p.faults_new)
@@ -102,16 +106,20 @@ pub record IsServedInPart (reports : List (List ℕ) → List (List ℕ) → Boo
   pub report : reports lines pieces refused
   pub writes : AddsFront o.written_old o.written_new (concat pieces)
 
--- How a run over lines ends. Where memory was wanting for an item, a run that comes to its end ends so; one that is stopped later counts as
--- stopped for want of memory.
+-- Where a run over lines stops. Where memory was wanting for an item, a run that comes to its end stops so; one that is stopped later counts
+-- as stopped for want of memory.
+abbrev pub Stops : (reports gaps : List (List ℕ) → List (List ℕ) → Bool → Type 0) → Streams → Stop → Type 0
+Stops reports gaps o Read = (r : IsServedTo reports o) × HasNoEnd r.part × HasRisen o.in_old o.in_new
+Stops reports gaps o TooLong = (r : IsServedTo reports o) × IsTooLong r.part
+Stops reports gaps o TooMany = IsServedToLast reports o
+Stops reports gaps o Write = IsServedInPart reports o × HasRisen o.out_old o.out_new
+Stops reports gaps o Gaps = IsServed gaps o true
+Stops reports gaps o NoMemory = IsServedInPart gaps o
+
+-- How a run over lines ends. Where it stops, what was written was flushed, unless the sink failed.
 abbrev pub Served : (reports gaps : List (List ℕ) → List (List ℕ) → Bool → Type 0) → Streams → Result Bool Stop → Type 0
 Served reports gaps o (Ok refused) = IsServed reports o refused
-Served reports gaps o (Err Read) = (r : IsServedTo reports o) × HasNoEnd r.part × HasRisen o.in_old o.in_new
-Served reports gaps o (Err TooLong) = (r : IsServedTo reports o) × IsTooLong r.part
-Served reports gaps o (Err TooMany) = IsServedToLast reports o
-Served reports gaps o (Err Write) = IsServedInPart reports o × HasRisen o.out_old o.out_new
-Served reports gaps o (Err Gaps) = IsServed gaps o true
-Served reports gaps o (Err NoMemory) = IsServedInPart gaps o
+Served reports gaps o (Err stop) = Stops reports gaps o stop × IsFlushed (output_of o)
 
 -- The whole report of a command that reads no lines was written and flushed.
 pub record IsSaid (reports : List (List ℕ) → List (List ℕ) → Bool → Type 0) (p : Output) (refused : Bool) : Type 0 where
@@ -128,13 +136,17 @@ pub record IsSaidInPart (reports : List (List ℕ) → List (List ℕ) → Bool 
   pub report : (lines : List (List ℕ)) → reports lines pieces refused
   pub writes : AddsFront p.written_old p.written_new (concat pieces)
 
--- How a report ends that is written without reading lines.
+-- Where the writing of a report stops that reads no lines.
+abbrev pub StopsSaying : (reports gaps : List (List ℕ) → List (List ℕ) → Bool → Type 0) → Output → Stop → Type 0
+StopsSaying reports gaps p Write = IsSaidInPart reports p × HasRisen p.faults_old p.faults_new
+StopsSaying reports gaps p Gaps = IsSaid gaps p true
+StopsSaying reports gaps p NoMemory = IsSaidInPart gaps p
+StopsSaying reports gaps p stop = ⊥
+
+-- How a report ends that is written without reading lines. Where it stops, what was written was flushed, unless the sink failed.
 abbrev pub Said : (reports gaps : List (List ℕ) → List (List ℕ) → Bool → Type 0) → Output → Result Bool Stop → Type 0
 Said reports gaps p (Ok refused) = IsSaid reports p refused
-Said reports gaps p (Err Write) = IsSaidInPart reports p × HasRisen p.faults_old p.faults_new
-Said reports gaps p (Err Gaps) = IsSaid gaps p true
-Said reports gaps p (Err NoMemory) = IsSaidInPart gaps p
-Said reports gaps p (Err stop) = ⊥
+Said reports gaps p (Err stop) = StopsSaying reports gaps p stop × IsFlushed p
 
 -- the report that has these report lines, and tells this of a refusal
 abbrev pub Exactly : List (List ℕ) → Bool → List (List ℕ) → List (List ℕ) → Bool → Type 0

@@ -53,8 +53,9 @@ fn serve_lines<C: Answers, I: Source, O: Sink, Rt: Threads + Wait + Sync>(
 ) -> Result<bool, Stop>
     requires ready { C.ready command.now }
     requires none_yet { kept.old.wanting ≡ false }
-    ensures { (wanting : Bool) × IsFlag result false wanting kept.new.wanting
+    ensures ends { (wanting : Bool) × IsFlag result false wanting kept.new.wanting
         × Ends (Told (C.IsAnswer command.now) wanting) (streams I.left I.faults O.written O.flushed O.faults input.old input.new out.old out.new) result }
+    ensures no_fall { O.faults out.old ≤ O.faults out.new }
 {
     let mut held = Held::new(alloc);
     let mut refused = false;
@@ -95,7 +96,10 @@ pub fn serve_in_turn<C: Answers, I: Source, O: Sink, Rt: Threads + Wait + Sync>(
     ensures { Served (AreAnswers (C.IsAnswer command.now) 1) (AreAnswers (OrNoMemory (C.IsAnswer command.now)) 1)
         (streams I.left I.faults O.written O.flushed O.faults input.old input.new out.old out.new) result }
 {
-    let mut kept = nothing_kept(alloc, 1)?;
+    let Ok(mut kept) = nothing_kept(alloc, 1) else {
+        flush_at_stop(out);
+        return Err(Stop::NoMemory);
+    };
     let end = serve_lines(rt, alloc, command, input, out, &mut kept, gate);
     match end {
         Ok(refused) => ended(Ok(refused), kept.wanting),

@@ -258,7 +258,7 @@ pub fn run_command<C: Command, S: Shelf, I: Source, O: Sink, X: Sink, Rt: Thread
         × (told.text ≡ fault.text) × Tells (X.written err.old) (X.written err.new) (X.faults err.old) (X.faults err.new) (told.text ++ told.details)) }
 
     // `ReadFault` only where the source failed, a line is too long, or a line has no number; and always where a line
-    // can't be read. Exactly the report over the lines before was written.
+    // can't be read. Exactly the report over the lines before was written, and flushed, unless the sink failed.
     ensures read_fault { let h = shelves S.files S.faults S.asked shelf.old shelf.new in
         let o = streams I.left I.faults O.written O.flushed O.faults input.old input.new out.old out.new in
         result ≡ Status.ReadFault → StopsReading (C.meaning command.now) h o }
@@ -275,7 +275,7 @@ pub fn run_command<C: Command, S: Shelf, I: Source, O: Sink, X: Sink, Rt: Thread
 
     // After `Gaps` the input was read to its end, and the whole report was written and flushed, but that memory was wanting for some items,
     // which are told by a line each. After `NoMemory` a front of such a report, with gaps or without, over lines that were read was
-    // written; where memory was wanting before the first line, nothing was read or written.
+    // written, and flushed, unless the sink failed; where memory was wanting before the first line, nothing was read or written.
     ensures gaps { (bytes before after : List ℕ) → result ≡ Status.Gaps
         → I.left input.old ≡ Some bytes → O.written out.old ≡ Some before → O.written out.new ≡ Some after
         → (pieces : List (List ℕ)) × (C.meaning command.now).with_gaps (S.files shelf.old) (lines_of bytes) pieces true

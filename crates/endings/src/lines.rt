@@ -147,6 +147,7 @@ fn serve_lines<C: Answers + Sync, I: Source, O: Sink, X: Sink, Rt: Threads + Wai
     requires calm { kept.old.failed ≡ false }
     ensures ends { (wanting : Bool) × IsFlag result false wanting kept.new.wanting
         × Ends (Told (C.IsAnswer command.now) wanting) (streams I.left I.faults O.written O.flushed O.faults input.old input.new out.old out.new) result }
+    ensures no_fall { O.faults out.old ≤ O.faults out.new }
     ensures noted { (text : List ℕ) × EndNotes (AreNotes (OrNone kept.new.wanting (C.IsNote command.now)) 1) (I.left input.old) (I.left input.new) text result
         × IsNotedSoFar kept.new.failed (X.written err.old) (X.written err.new) (X.faults err.old) (X.faults err.new) text }
 {
@@ -204,7 +205,10 @@ pub fn serve_noted<C: Answers + Sync, I: Source, O: Sink, X: Sink, Rt: Threads +
         (streams I.left I.faults O.written O.flushed O.faults input.old input.new out.old out.new) result }
     ensures noted { Noted (AreAllNotes (C.IsNote command.now)) (I.left input.old) (I.left input.new) (output X.written X.flushed X.faults err.old err.new) result }
 {
-    let mut kept = nothing_kept(alloc, command.workers())?;
+    let Ok(mut kept) = nothing_kept(alloc, command.workers()) else {
+        flush_at_stop(out);
+        return Err(Stop::NoMemory);
+    };
     let end = serve_lines(rt, alloc, command, input, out, err, &mut kept, gate);
     match end {
         Ok(refused) => ended(Ok(refused), kept.wanting),

@@ -2,7 +2,7 @@
 ghost use Rattle.std.specs.Prelude.{◌≡◌, ◌≤◌, [], ◌∷◌, map, Err, OnOk, true, false};
 ghost use Rattle.std.specs.List.{concat};
 ghost use Rattle.lkb_io.specs.Outside.{Adds};
-ghost use Rattle.endings.specs.Reports.{IsPut, Said, Exactly, NoReport, output};
+ghost use Rattle.endings.specs.Reports.{IsPut, IsFlushed, Said, Exactly, NoReport, output};
 
 use crate::Stop;
 use lkb_io::{Failed, Sink, put_all};
@@ -24,11 +24,12 @@ pub fn put_lines<O: Sink>(out: &mut O, lines: &[Vec<u8>]) -> Result<(), Failed>
     Ok(())
 }
 
-/// Flushes the sink where a run stops, so that what was written comes out. A fault of this flush changes nothing:
-/// the run has its cause.
+/// Flushes the sink where a run stops, so that what was written comes out, unless the sink fails. A fault of this flush changes nothing
+/// else: the run has its cause.
 pub fn flush_at_stop<O: Sink>(out: &mut O)
     ensures same { Adds (O.written out.old) (O.written out.new) [] }
     ensures no_fall { O.faults out.old ≤ O.faults out.new }
+    ensures flushed { IsFlushed (output O.written O.flushed O.faults out.old out.new) }
 {
     let _flushed = out.flush();
 }

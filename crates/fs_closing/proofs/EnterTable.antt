@@ -1,6 +1,6 @@
 -- The table after a graph entered.
-use Rattle.std.proofs.Common.{ℕ, ◌≡◌, ◌≤◌, ◌<◌, ◌+◌, ◌-◌, ◌^◌, ◌⊎◌, inl, inr, Option, None, List, [], ◌∷◌, ◌++◌, length, map, slice_index_or, refl, sym, ◌∙◌, ap, subst, arith}
-use Rattle.std.proofs.lemmas.Bool.{cases_lt}
+use Rattle.std.proofs.Common.{ℕ, ◌≡◌, ◌≤◌, ◌<◌, ◌+◌, ◌-◌, ◌^◌, ◌⊎◌, inl, inr, true, false, Option, None, List, [], ◌∷◌, ◌++◌, length, map, slice_index_or, refl, sym, ◌∙◌, ap, subst, arith, eq-eqb}
+use Rattle.std.proofs.lemmas.Bool.{cases_lt, ne_eqb}
 use Rattle.std.proofs.lemmas.List.{get_or-map, length-map, get_or_past}
 use Rattle.fs_model.specs.Claims.{Has}
 use Rattle.fs_graph.specs.declared.graph.GraphArc.{GraphArc}
@@ -8,9 +8,9 @@ use Rattle.fs_graph.specs.GraphMap.{GraphMap, IsGraph, arcs_at, type_at}
 use Rattle.fs_closing.specs.declared.marks.Written.{Written}
 use Rattle.fs_closing.specs.declared.cells.Cell.{Cell}
 use Rattle.fs_closing.specs.Cells.{find_arc, AreOnce}
-use Rattle.fs_closing.specs.Marked.{next_by, type_by, first_by}
+use Rattle.fs_closing.specs.Marked.{next_by, type_by, first_by, depth_by}
 use Rattle.fs_closing.specs.declared.parts.Based.{Based}
-use Rattle.fs_closing.specs.Beside.{cells_from, type_from, row_from, type_in, row_in, ArePlaced}
+use Rattle.fs_closing.specs.Beside.{cells_from, type_from, depth_from, row_from, type_in, depth_in, row_in, ArePlaced}
 use Rattle.fs_closing.specs.NodeTable.{table_from, AreWhole, AreWithin}
 use Rattle.fs_closing.specs.NodeSteps.{EntersTable, IsGraphIn}
 use Rattle.fs_closing.proofs.HasLemmas.{Has-of_map, each_push}
@@ -170,3 +170,27 @@ module _ (at at' : ℕ → Option Written) (cells : List Cell) (merges size : �
   placed_entered = each_push (λ q. IsGraph q.graph.now × (q.base + length q.graph.now.types ≤ size + length g.types)) parts _ p refl
       (λ q h. let x = placed q h in (x.0, omega (arith, x.1)))
       (graph, omega (arith, base_is))
+
+  depth_none : (k : ℕ) → size ≤ k → depth_by (depth_in (parts ++ p ∷ []) k) (at' k) ≡ depth_in (parts ++ p ∷ []) k
+  depth_none k h = ap (depth_by (depth_in (parts ++ p ∷ []) k)) (is_none k h)
+
+  -- old nodes keep their depths, the graph's root has one, and its other nodes have another one
+  pub depth_old : (k : ℕ) → k < size → depth_by (depth_in (parts ++ p ∷ []) k) (at' k) ≡ depth_by (depth_in parts k) (at k)
+  depth_old k h = ap (depth_by (depth_in (parts ++ p ∷ []) k)) (same k) ∙ ap (λ d. depth_by d (at k)) (ap (depth_from k) (home_old parts size placed p base_is k h))
+
+  pub depth_root : 0 < length g.types → depth_by (depth_in (parts ++ p ∷ []) size) (at' size) ≡ p.depth
+  depth_root h =
+      let high : size - size < length p.graph.now.types = omega (arith, h) in
+      depth_none size (omega arith) ∙ ap (depth_from size) (home_new parts size placed p base_is size (omega arith) high)
+      ∙ ap (λ b. elim b as (λ _. ℕ) [ true ↦ p.depth | false ↦ p.further ]) (eq-eqb size p.base (sym base_is))
+
+  pub depth_inner : (k : ℕ) → 0 < k → k < length g.types → depth_by (depth_in (parts ++ p ∷ []) (size + k)) (at' (size + k)) ≡ p.further
+  depth_inner k pos h =
+      let high : size + k - size < length p.graph.now.types = omega (arith, h) in
+      depth_none (size + k) (omega arith) ∙ ap (depth_from (size + k)) (home_new parts size placed p base_is (size + k) (omega arith) high)
+      ∙ ap (λ b. elim b as (λ _. ℕ) [ true ↦ p.depth | false ↦ p.further ]) (ne_eqb (size + k) p.base (λ e. omega (arith, e, base_is, pos)))
+
+  pub depth_past : (k : ℕ) → size + length g.types ≤ k → depth_by (depth_in (parts ++ p ∷ []) k) (at' k) ≡ 0
+  depth_past k h =
+      let high : length p.graph.now.types ≤ k - size = omega (arith, h) in
+      depth_none k (omega arith) ∙ ap (depth_from k) (home_past parts size placed p base_is k (omega arith) high)

@@ -123,7 +123,7 @@ Turns-back s x n m p q work extra g w old = (
     says _ here = same_sym _ _ (old.closes.sound.stated_in _ (by_work _ here))
     says c (there h) = old.closes.sound.stated_in _ (by_work _ (there h))
 
-begin_before : (n f m : ℕ) (p : Path) (c : NodeClaim) → before n f (begin m p c) ≡ begin n (f ∷ p) c
+pub begin_before : (n f m : ℕ) (p : Path) (c : NodeClaim) → before n f (begin m p c) ≡ begin n (f ∷ p) c
 begin_before n f m p (is_there k q) = refl
 begin_before n f m p (is_same k q j r) = refl
 begin_before n f m p (is_under k q u) = refl
@@ -138,7 +138,7 @@ begin_in size size' n m p q (is_there k r) h less i = i
 begin_in size size' n m p q (is_same k r j t) h less i = (i, omega (arith, h.1))
 begin_in size size' n m p q (is_under k r u) h less i = i
 
-begin_node : (size n : ℕ) (p : Path) (c : NodeClaim) → InTable size (begin n p c) → n < size
+pub begin_node : (size n : ℕ) (p : Path) (c : NodeClaim) → InTable size (begin n p c) → n < size
 begin_node size n p (is_there k r) h = h
 begin_node size n p (is_same k r j t) h = h.0
 begin_node size n p (is_under k r u) h = h

@@ -18,3 +18,8 @@ pub mod OrderLemmas
 pub mod RuleRowLemmas
 pub mod OutlineLemmas
 pub mod IndexLemmas
+pub mod ReadLemmas
+pub mod GraftLemmas
+pub mod GraftSteps
+pub mod KnownLemmas
+pub mod HomeLemmas

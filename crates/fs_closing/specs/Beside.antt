@@ -1,5 +1,5 @@
 -- Graphs beside one another, read where they stand.
-use Rattle.std.specs.Prelude.{ℕ, ◌≤◌, ◌+◌, ◌-◌, ◌&&◌, nat_lt, nat_le, Bool, Option, Some, None, List, [], map, length, find}
+use Rattle.std.specs.Prelude.{ℕ, ◌≤◌, ◌+◌, ◌-◌, ◌==◌, ◌&&◌, nat_lt, nat_le, Bool, true, false, Option, Some, None, List, [], map, length, find}
 use Rattle.fs_model.specs.Claims.{Has}
 use Rattle.fs_graph.specs.declared.graph.GraphArc.{GraphArc}
 use Rattle.fs_graph.specs.GraphMap.{IsGraph, type_at, arcs_at}
@@ -18,10 +18,14 @@ holds n p = nat_le p.base n && nat_lt (n - p.base) (length p.graph.now.types)
 abbrev pub home : ℕ → List Based → Option Based
 home n parts = find (holds n) parts
 
--- what a node has from its graph: its type, and its arcs
+-- what a node has from its graph: its type, a number of features that some path to it has at least, and its arcs
 abbrev pub type_from : ℕ → Option Based → ℕ
 type_from n None = 0
 type_from n (Some p) = type_at p.graph.now (n - p.base)
+
+abbrev pub depth_from : ℕ → Option Based → ℕ
+depth_from n None = 0
+depth_from n (Some p) = elim (n == p.base) [ true ↦ p.depth | false ↦ p.further ]
 
 abbrev pub row_from : ℕ → Option Based → List Cell
 row_from n None = []
@@ -29,6 +33,9 @@ row_from n (Some p) = cells_from p.base (arcs_at p.graph.now (n - p.base))
 
 abbrev pub type_in : List Based → ℕ → ℕ
 type_in parts n = type_from n (home n parts)
+
+abbrev pub depth_in : List Based → ℕ → ℕ
+depth_in parts n = depth_from n (home n parts)
 
 abbrev pub row_in : List Based → ℕ → List Cell
 row_in parts n = row_from n (home n parts)

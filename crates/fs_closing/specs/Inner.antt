@@ -4,3 +4,5 @@ pub mod Indexes
 pub mod Outlines
 pub mod RuleRows
 pub mod Told
+pub mod Known
+pub mod Homes

@@ -9,3 +9,4 @@ pub mod Work
 pub mod Keeps
 pub mod Systems
 pub mod Inner
+pub mod Constraints

@@ -12,7 +12,7 @@ pub record Writes (n : ℕ) (w : Written) (old new : List (Option Written)) : Ty
   pub others : (k : ℕ) → k ≢ n → written_at new k ≡ written_at old k
   pub size : length new ≡ length old
 
--- A node at which nothing is written stands for itself, of its own type. No arc was added to it, and a path to it may be short.
+-- A node at which nothing is written stands for itself, of its own type and depth. No arc was added to it.
 abbrev pub next_by : ℕ → Option Written → ℕ
 next_by n None = n
 next_by n (Some w) = w.forward
@@ -25,13 +25,13 @@ abbrev pub first_by : Option Written → ℕ
 first_by None = 0
 first_by (Some w) = w.first
 
-abbrev pub depth_by : Option Written → ℕ
-depth_by None = 0
-depth_by (Some w) = w.depth
+abbrev pub depth_by : ℕ → Option Written → ℕ
+depth_by own None = own
+depth_by own (Some w) = w.depth
 
--- all that together, of a node with its own type
-abbrev pub stands_by : ℕ → ℕ → Option Written → Written
-stands_by own n o = record { forward = next_by n o; ty = type_by own o; first = first_by o; depth = depth_by o }
+-- all that together, of a node with its own type and depth
+abbrev pub stands_by : ℕ → ℕ → ℕ → Option Written → Written
+stands_by own deep n o = record { forward = next_by n o; ty = type_by own o; first = first_by o; depth = depth_by deep o }
 
 -- follow the forwards: as many as there were merges are enough
 abbrev pub chase : (ℕ → ℕ) → ℕ → ℕ → ℕ

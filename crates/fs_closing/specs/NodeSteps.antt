@@ -36,6 +36,13 @@ pub record AddsDepth (depth : ℕ) (nodes nodes' : Nodes) : Type 0 where
   pub others : (k : ℕ) → k ≢ nodes.size → depth_of nodes' k ≡ depth_of nodes k
   pub here : depth_of nodes' nodes.size ≡ depth
 
+-- a graph enters: its root has a depth, and its other nodes have another one
+pub record EntersDepth (depth further count : ℕ) (nodes nodes' : Nodes) : Type 0 where
+  pub others : (k : ℕ) → k < nodes.size → depth_of nodes' k ≡ depth_of nodes k
+  pub root : 0 < count → depth_of nodes' nodes.size ≡ depth
+  pub inner : (k : ℕ) → 0 < k → k < count → depth_of nodes' (nodes.size + k) ≡ further
+  pub past : (k : ℕ) → nodes.size + count ≤ k → depth_of nodes' k ≡ 0
+
 -- a node gets a type
 pub record Retypes (t t' : Table) (n ty : ℕ) : Type 0 where
   pub size_is : t'.size ≡ t.size

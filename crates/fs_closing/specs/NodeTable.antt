@@ -5,7 +5,7 @@ use Rattle.fs_model.specs.Table.{Table}
 use Rattle.fs_closing.specs.declared.marks.Written.{Written}
 use Rattle.fs_closing.specs.declared.cells.Cell.{Cell}
 use Rattle.fs_closing.specs.declared.nodes.Nodes.{Nodes}
-use Rattle.fs_closing.specs.Beside.{row_in, type_in, ArePlaced}
+use Rattle.fs_closing.specs.Beside.{row_in, type_in, depth_in, ArePlaced}
 use Rattle.fs_closing.specs.Cells.{chain, find_arc, PlacesFall, AreOnce}
 use Rattle.fs_closing.specs.Marked.{written_at, next_by, type_by, first_by, depth_by, chase, Rises}
 
@@ -27,17 +27,20 @@ abbrev pub at_of : Nodes → ℕ → Option Written
 at_of nodes n = written_at nodes.marks n
 
 abbrev pub own_type : Nodes → ℕ → ℕ
-own_type nodes n = type_in nodes.parts.now n
+own_type nodes n = type_in nodes.parts n
+
+abbrev pub own_depth : Nodes → ℕ → ℕ
+own_depth nodes n = depth_in nodes.parts n
 
 abbrev pub own_row : Nodes → ℕ → List Cell
-own_row nodes n = row_in nodes.parts.now n
+own_row nodes n = row_in nodes.parts n
 
 -- the place of a node's first added arc, and a number of features that some path to it has at least
 abbrev pub first_of : Nodes → ℕ → ℕ
 first_of nodes n = first_by (at_of nodes n)
 
 abbrev pub depth_of : Nodes → ℕ → ℕ
-depth_of nodes n = depth_by (at_of nodes n)
+depth_of nodes n = depth_by (own_depth nodes n) (at_of nodes n)
 
 abbrev pub row_of : Nodes → ℕ → List Cell
 row_of nodes n = arcs_in (at_of nodes) (own_row nodes) nodes.cells n
@@ -65,7 +68,7 @@ pub record AreWhole (at : ℕ → Option Written) (own : ℕ → List Cell) (cel
 pub record IsWhole (nodes : Nodes) : Type 0 where
   pub stands : AreWhole (at_of nodes) (own_row nodes) nodes.cells nodes.merges nodes.size
   pub enough : nodes.size ≤ length nodes.marks
-  pub placed : ArePlaced nodes.parts.now nodes.size
+  pub placed : ArePlaced nodes.parts nodes.size
 
 -- no type and no feature out of range, where there are `type_count` types and `feat_count` features
 pub record AreWithin (type_count feat_count : ℕ) (type_of : ℕ → ℕ) (own : ℕ → List Cell) (cells : List Cell) (size : ℕ) : Type 0 where

@@ -11,11 +11,10 @@ ghost use Rattle.fs_closing.specs.NodeTable.{IsWhole};
 ghost use Rattle.fs_closing.specs.Keeps.{AreSound, StepsTo, Reaches, Progresses, Closed};
 
 use crate::NoMemory;
-use crate::nodes::{Nodes, live};
-use crate::parts::own_count;
-use crate::steps::{go, merge, put_under};
+use crate::nodes::Nodes;
+use crate::steps::{go, join, put_under};
 use crate::system::TypeSystem;
-use crate::tasks::{Entry, Pair, Tasks};
+use crate::tasks::{Entry, Tasks};
 use crate::told::is_told_next;
 use fs_graph::{Fact, Feat};
 
@@ -28,10 +27,10 @@ pub enum Progress {
 }
 
 /// The node at the end of a path from a node; nodes are made where they aren't there. `None` where there is no such path.
-pub fn reach(
-    nodes: &mut Nodes<'_>,
+pub fn reach<'a>(
+    nodes: &mut Nodes<'a>,
     tasks: &mut Tasks,
-    system: &TypeSystem,
+    system: &'a TypeSystem,
     node: u32,
     path: &[Feat],
 ) -> Result<Option<u32>, NoMemory>
@@ -51,55 +50,11 @@ pub fn reach(
     Ok(Some(at))
 }
 
-// Whether a node is to be merged into another one, rather than the other way round: the one with fewer arcs from its graph goes,
-// but never the root.
-fn is_barer(nodes: &Nodes<'_>, n: u32, than: u32) -> bool
-    requires whole { IsWhole nodes.now }
-    requires n_in { n < nodes.now.size }
-    requires than_in { than < nodes.now.size }
-    requires apart { n ≢ than }
-    ensures yes { result ≡ true → n ≢ 0 }
-    ensures no { result ≡ false → than ≢ 0 }
-{
-    if n == 0 {
-        return false;
-    }
-    if than == 0 {
-        return true;
-    }
-    own_count(nodes.parts, n) <= own_count(nodes.parts, than)
-}
-
-// Two nodes become one. The answer is false where their types have no common subtype, or another clash was met.
-fn step_pair(
-    nodes: &mut Nodes<'_>,
-    tasks: &mut Tasks,
-    system: &TypeSystem,
-    pair: Pair,
-) -> Result<bool, NoMemory>
-    requires sound { AreSound system.now nodes.old tasks.old }
-    requires node { pair.node < nodes.old.size }
-    requires other { pair.other < nodes.old.size }
-    ensures { IfOk result (StepsTo system.now nodes.old (pair_claim pair ∷ work_of system.now.rules tasks.old) nodes.new tasks.new) }
-{
-    let a = live(nodes, pair.node);
-    let b = live(nodes, pair.other);
-    if a == b {
-        return Ok(true);
-    }
-    if is_barer(nodes, b, a) {
-        let ok = merge(nodes, tasks, system, a, b)?;
-        return Ok(ok);
-    }
-    let ok = merge(nodes, tasks, system, b, a)?;
-    Ok(ok)
-}
-
 /// A fact is put at a node. The answer is false where a path gets too long, or another clash was met.
-pub fn apply(
-    nodes: &mut Nodes<'_>,
+pub fn apply<'a>(
+    nodes: &mut Nodes<'a>,
     tasks: &mut Tasks,
-    system: &TypeSystem,
+    system: &'a TypeSystem,
     node: u32,
     fact: &Fact,
 ) -> Result<bool, NoMemory>
@@ -130,10 +85,10 @@ pub fn apply(
 }
 
 // Two paths from a node are to lead to one node. The first fact of a coreference speaks of one path alone, which is then there.
-fn apply_same(
-    nodes: &mut Nodes<'_>,
+fn apply_same<'a>(
+    nodes: &mut Nodes<'a>,
     tasks: &mut Tasks,
-    system: &TypeSystem,
+    system: &'a TypeSystem,
     node: u32,
     a: &[Feat],
     b: &[Feat],
@@ -160,10 +115,10 @@ fn apply_same(
 }
 
 // The next fact of a rule is put at a node, unless the one behind it tells it.
-fn step_entry(
-    nodes: &mut Nodes<'_>,
+fn step_entry<'a>(
+    nodes: &mut Nodes<'a>,
     tasks: &mut Tasks,
-    system: &TypeSystem,
+    system: &'a TypeSystem,
     entry: Entry,
 ) -> Result<bool, NoMemory>
     requires bare { IsBare (system_of system.now) }
@@ -189,13 +144,17 @@ fn step_entry(
 }
 
 // One task.
-fn step(nodes: &mut Nodes<'_>, tasks: &mut Tasks, system: &TypeSystem) -> Result<Progress, NoMemory>
+fn step<'a>(
+    nodes: &mut Nodes<'a>,
+    tasks: &mut Tasks,
+    system: &'a TypeSystem,
+) -> Result<Progress, NoMemory>
     requires bare { IsBare (system_of system.now) }
     requires sound { AreSound system.now nodes.old tasks.old }
     ensures { IfOk result (Progresses system.now nodes.old tasks.old nodes.new tasks.new) }
 {
     if let Some(pair) = tasks.pop_pair() {
-        return match step_pair(nodes, tasks, system, pair)? {
+        return match join(nodes, tasks, system, pair.node, pair.other)? {
             true => Ok(Progress::Stepped),
             false => Ok(Progress::Clashed),
         };
@@ -216,10 +175,10 @@ fn step(nodes: &mut Nodes<'_>, tasks: &mut Tasks, system: &TypeSystem) -> Result
 }
 
 /// Works off all tasks. The answer is false where a clash was met: then there is no structure.
-pub fn close(
-    nodes: &mut Nodes<'_>,
+pub fn close<'a>(
+    nodes: &mut Nodes<'a>,
     tasks: &mut Tasks,
-    system: &TypeSystem,
+    system: &'a TypeSystem,
 ) -> Result<bool, NoMemory>
     requires bare { IsBare (system_of system.now) }
     requires sound { AreSound system.now nodes.old tasks.old }

@@ -3,6 +3,7 @@
 
 pub mod cells;
 pub mod closing;
+pub mod constraint;
 pub mod facts;
 pub mod index;
 pub mod marks;
@@ -15,6 +16,7 @@ pub mod system;
 pub mod tasks;
 mod told;
 
+pub use constraint::{Constraint, SharedGraph};
 pub use facts::TypeFacts;
 pub use std::alloc::AllocError as NoMemory;
 pub use system::TypeSystem;

@@ -4,13 +4,16 @@ ghost use Rattle.std.specs.Prelude.{◌≡◌, ◌≢◌, ℕ, ◌+◌, ◌<◌,
 ghost use Rattle.fs_closing.specs.declared.parts.Based.{Based as BasedValue};
 ghost use Rattle.fs_model.specs.Steps.{Links, Grows};
 ghost use Rattle.fs_closing.specs.Marked.{written_at, next_by, stands_by};
-ghost use Rattle.fs_closing.specs.NodeSteps.{AddsNode, AddsDepth, KeepsArcs, KeepsDepths, Retypes, EntersTable, IsGraphIn, Unites};
-ghost use Rattle.fs_closing.specs.NodeTable.{table_of, at_of, own_type, own_row, first_of, depth_of, IsWhole, IsWithin};
+ghost use Rattle.fs_closing.specs.NodeSteps.{AddsNode, AddsDepth, KeepsArcs, KeepsDepths, EntersDepth, Retypes, EntersTable, IsGraphIn, Unites};
+ghost use Rattle.fs_closing.specs.NodeTable.{table_of, at_of, own_type, own_depth, own_row, first_of, depth_of, IsWhole, IsWithin};
 
 use crate::NoMemory;
 use crate::cells::{Cell, Cells};
 use crate::marks::{Marks, Written};
-use crate::parts::{Based, own_type as type_from_graph};
+use crate::parts::{
+    Based, Beside, own_depth as depth_from_graph, own_type as type_from_graph, own_written,
+};
+use fs_graph::Graph;
 
 /// The first `size` nodes by number. Those of a graph are read where they stand; other ones were made. `marks` has what was
 /// written at nodes, and `cells` the arcs that were added to them. So many nodes were merged into others as `merges` says.
@@ -18,7 +21,7 @@ use crate::parts::{Based, own_type as type_from_graph};
 pub struct Nodes<'a> {
     pub marks: Marks,
     pub cells: Cells,
-    pub parts: &'a [Based<'a>],
+    pub parts: Beside<'a>,
     pub merges: u32,
     pub size: u32,
 }
@@ -29,8 +32,7 @@ impl Nodes<'_> {
 
     /// Begins with no nodes: what was written and added before counts no more. No graph has entered.
     pub fn clear(&mut self)
-        requires { self.old.parts.now ≡ [] }
-        ensures parts { self.new.parts.now ≡ [] }
+        ensures parts { self.new.parts ≡ [] }
         ensures whole { IsWhole self.new }
         ensures none { self.new.size ≡ 0 }
         ensures flat { AreFlat self.new }
@@ -38,6 +40,7 @@ impl Nodes<'_> {
     {
         self.marks.clear();
         self.cells.clear();
+        self.parts.clear();
         self.merges = 0;
         self.size = 0;
     }
@@ -83,7 +86,7 @@ pub fn ty_of(nodes: &Nodes<'_>, n: u32) -> u32
 {
     match nodes.marks.get(n) {
         Some(written) => written.ty,
-        None => type_from_graph(nodes.parts, n),
+        None => type_from_graph(&nodes.parts, n),
     }
 }
 
@@ -107,7 +110,7 @@ pub fn depth_of(nodes: &Nodes<'_>, n: u32) -> u32
 {
     match nodes.marks.get(n) {
         Some(written) => written.depth,
-        None => 0,
+        None => depth_from_graph(&nodes.parts, n),
     }
 }
 
@@ -115,16 +118,11 @@ pub fn depth_of(nodes: &Nodes<'_>, n: u32) -> u32
 fn stands(nodes: &Nodes<'_>, n: u32) -> Written
     requires whole { IsWhole nodes.now }
     requires node { n < nodes.now.size }
-    ensures { result ≡ stands_by (own_type nodes.now n) n (at_of nodes.now n) }
+    ensures { result ≡ stands_by (own_type nodes.now n) (own_depth nodes.now n) n (at_of nodes.now n) }
 {
     match nodes.marks.get(n) {
         Some(written) => written,
-        None => Written {
-            forward: n,
-            ty: type_from_graph(nodes.parts, n),
-            first: 0,
-            depth: 0,
-        },
+        None => own_written(&nodes.parts, n),
     }
 }
 
@@ -153,7 +151,6 @@ pub fn add_node(nodes: &mut Nodes<'_>, ty: u32, depth: u32) -> Result<u32, NoMem
     ensures adds { OnOk result (AddsNode ty (table_of nodes.old) (table_of nodes.new)) }
     ensures place { IfOk result (λ m. m ≡ nodes.old.size) }
     ensures depths { OnOk result (AddsDepth depth nodes.old nodes.new) }
-    ensures parts { OnOk result (nodes.new.parts.now ≡ nodes.old.parts.now) }
     ensures whole { OnOk result (IsWhole nodes.new) }
     ensures within { OnOk result ((types feats : ℕ) → ty < types → IsWithin types feats nodes.old → IsWithin types feats nodes.new) }
 {
@@ -257,32 +254,34 @@ pub fn unite(nodes: &mut Nodes<'_>, a: u32, b: u32, ty: u32)
     nodes.merges += 1;
 }
 
-/// The graph at a place enters, after those before it: its nodes have the numbers from the answer on, where it is based.
-/// Nothing of it is read.
+/// A graph enters, after those before it: its nodes have the numbers from the answer on, where it is based. Nothing of it is
+/// read. Some path to its root has `depth` features at least, and some path to each other node has `further`.
 pub fn add_graph<'a>(
     nodes: &mut Nodes<'a>,
-    parts: &'a [Based<'a>],
-    place: usize,
+    graph: &'a Graph,
+    depth: u32,
+    further: u32,
 ) -> Result<u32, NoMemory>
     requires whole { IsWhole nodes.old }
-    requires place { place < length parts.now }
-    requires before { nodes.old.parts.now ≡ take place parts.now }
-    requires based { (d : BasedValue) → (slice_index_or parts.now place d).base ≡ nodes.old.size }
     ensures place { IfOk result (λ o. o ≡ nodes.old.size) }
-    ensures parts { OnOk result (nodes.new.parts.now ≡ take (place + 1) parts.now) }
-    ensures enters { OnOk result ((d : BasedValue) → EntersTable (slice_index_or parts.now place d).graph.now (table_of nodes.old) (table_of nodes.new)) }
-    ensures flat { OnOk result ((k : ℕ) → depth_of nodes.new k ≡ depth_of nodes.old k) }
+    ensures enters { OnOk result (EntersTable graph.now (table_of nodes.old) (table_of nodes.new)) }
+    ensures depths { OnOk result (EntersDepth depth further (length graph.now.types) nodes.old nodes.new) }
     ensures whole { OnOk result (IsWhole nodes.new) }
-    ensures within { OnOk result ((types feats : ℕ) (d : BasedValue) → IsGraphIn types feats (slice_index_or parts.now place d).graph.now → IsWithin types feats nodes.old → IsWithin types feats nodes.new) }
+    ensures within { OnOk result ((types feats : ℕ) → IsGraphIn types feats graph.now → IsWithin types feats nodes.old → IsWithin types feats nodes.new) }
 {
-    let part = &parts[place];
-    let count = part.graph.nodes();
-    if count > u32::MAX - part.base {
+    let base = nodes.size;
+    let count = graph.nodes();
+    if count > u32::MAX - base {
         return Err(NoMemory);
     }
-    let size = part.base + count;
+    let size = base + count;
     nodes.marks.widen(size as usize)?;
-    nodes.parts = &parts[..place + 1];
+    nodes.parts.add(Based {
+        graph,
+        base,
+        depth,
+        further,
+    })?;
     nodes.size = size;
-    Ok(part.base)
+    Ok(base)
 }

@@ -1,13 +1,15 @@
 //! What closure needs of a grammar.
 
-ghost use Rattle.std.specs.Prelude.{◌≡◌, ℕ, ◌<◌, length, IfOk, slice_index_or};
-ghost use Rattle.type_hierarchy.specs.Table.{count_of};
+ghost use Rattle.std.specs.Prelude.{◌≡◌, ℕ, ◌<◌, length, true, IfOk, IfSome, slice_index_or};
+ghost use Rattle.type_hierarchy.specs.Table.{count_of, is_below};
+ghost use Rattle.fs_closing.specs.Constraints.{IsConstraint};
 ghost use Rattle.fs_graph.specs.Facts.{claims_of};
 ghost use Rattle.fs_closing.specs.Rules.{IsGrammar, rules_above, no_rule, IsClaimIn, HaveSame};
 ghost use Rattle.fs_closing.specs.Systems.{grammar_of};
 ghost use Rattle.fs_model.specs.Claims.{Claim, Has};
 
 use crate::NoMemory;
+use crate::constraint::Constraint;
 use crate::facts::TypeFacts;
 use crate::rule_rows::{RuleRows, rule_rows};
 use fs_graph::Fact;
@@ -23,6 +25,8 @@ pub struct TypeSystem {
     introducers: Vec<Ty>,
     constraints: Vec<TypeFacts>,
     above: RuleRows,
+    known: Vec<Constraint>,
+    starts: Vec<u32>,
     path_limit: u32,
 }
 
@@ -36,7 +40,7 @@ impl Model for TypeSystem {
 
     ghost view = { λ s. grammar_of s.types s.introducers.items s.constraints.items s.path_limit };
 
-    ghost invariant = { λ s. IsSystemInside (grammar_of s.types s.introducers.items s.constraints.items s.path_limit) (map (λ row. row.items) s.above.rows.items) s.above.row_of.items };
+    ghost invariant = { λ s. IsSystemInside (grammar_of s.types s.introducers.items s.constraints.items s.path_limit) (map (λ row. row.items) s.above.rows.items) s.above.row_of.items s.known.items s.starts.items };
 }
 
 impl TypeSystem {
@@ -56,13 +60,79 @@ impl TypeSystem {
             return Err(NoMemory);
         }
         let above = rule_rows(alloc, &types, &constraints)?;
+        let starts = vec![in alloc; 0u32; types.counts().all as usize]?;
         Ok(TypeSystem {
             types,
             introducers,
             constraints,
             above,
+            known: Vec::new(alloc),
+            starts,
             path_limit,
         })
+    }
+
+    /// The constraint of a type is known from now on. `NoMemory` comes only for want of memory, or of numbers for constraints.
+    pub fn know(&mut self, constraint: Constraint) -> Result<(), NoMemory>
+        requires ty_in { constraint.ty < count_of self.old.types }
+        requires known { IsConstraint self.old constraint.ty constraint.graph }
+        ensures { self.new ≡ self.old }
+    {
+        let Ok(place) = u32::try_from(self.known.len() + 1) else {
+            return Err(NoMemory);
+        };
+        let ty = constraint.ty;
+        self.known.push(constraint)?;
+        self.starts[ty as usize] = place;
+        Ok(())
+    }
+
+    // The constraint of a type, if it is known.
+    fn constraint(&self, t: u32) -> Option<&Constraint>
+        requires { t < count_of self.now.types }
+        ensures { IfSome result (λ k. (k.now.ty ≡ t) × IsConstraint self.now t k.now.graph) }
+    {
+        let behind = self.starts[t as usize];
+        if behind == 0 {
+            return None;
+        }
+        Some(&self.known[behind as usize - 1])
+    }
+
+    // Of the known constraints of the types above a type of which there are rules, the one whose graph has most nodes.
+    fn greatest_above(&self, t: u32) -> Option<&Constraint>
+        requires { t < count_of self.now.types }
+        ensures { IfSome result (λ k. (is_below self.now.types t k.now.ty ≡ true) × IsConstraint self.now k.now.ty k.now.graph) }
+    {
+        let mut best = None;
+        let mut most = 1;
+        for rule in self.rules_above(t) {
+            let Some(known) = self.constraint(self.rule_type(*rule)) else {
+                continue;
+            };
+            let nodes = known.graph.graph().nodes();
+            if nodes <= most {
+                continue;
+            }
+            most = nodes;
+            best = Some(known);
+        }
+        best
+    }
+
+    /// The constraint of a type, or one of a type above it, as far as constraints are known and have more than one node.
+    pub fn constraint_above(&self, t: u32) -> Option<&Constraint>
+        requires { t < count_of self.now.types }
+        ensures { IfSome result (λ k. (is_below self.now.types t k.now.ty ≡ true) × IsConstraint self.now k.now.ty k.now.graph) }
+    {
+        self.types.laws();
+        if let Some(known) = self.constraint(t) {
+            if known.graph.graph().nodes() > 1 {
+                return Some(known);
+            }
+            return None;
+        }
+        self.greatest_above(t)
     }
 
     /// The types.

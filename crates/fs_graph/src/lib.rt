@@ -1,4 +1,4 @@
-//! Typed feature structures as graphs (Copestake 2002).
+//! Typed feature structures as graphs and as lists of paths, and facts on paths (Copestake 2002).
 #![tactic(auto)]
 
 mod builder;

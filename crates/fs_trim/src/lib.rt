@@ -1,4 +1,4 @@
-//! Unification with cuts: what unification gives, without some of its features.
+//! Unification with cuts: what unification gives, without some of its features; and subsumption of graphs.
 #![tactic(auto)]
 
 ghost use Rattle.std.specs.Prelude.{◌≡◌, ◌<◌, ◌≤◌, ℕ, length, map, IfOk, IfSome, option_map, [], ◌∷◌};

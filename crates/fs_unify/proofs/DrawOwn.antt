@@ -58,12 +58,12 @@ ended_rises live base arcs r i j a b =
 
 -- the arcs that a node has from its graph rise
 own_rises : (nodes : Nodes) → IsWhole nodes → (live : ℕ → ℕ) (n : ℕ) → Rises (ended_row live (own_row nodes n))
-own_rises nodes whole live n = go (home n nodes.parts.now) refl
+own_rises nodes whole live n = go (home n nodes.parts) refl
   where
-    go : (o : Option Based) → home n nodes.parts.now ≡ o → Rises (ended_row live (own_row nodes n))
+    go : (o : Option Based) → home n nodes.parts ≡ o → Rises (ended_row live (own_row nodes n))
     go None is = rises_none (ended_row live (own_row nodes n)) (ap (λ o. ended_row live (row_from n o)) is)
     go (Some p) is =
-        let at = home_holds n nodes.parts.now p is in
+        let at = home_holds n nodes.parts p is in
         let graph = (whole.placed p at.2).0 in
         subst (λ o. Rises (ended_row live (row_from n o))) (sym is)
         (ended_rises live p.base (arcs_at p.graph.now (n - p.base)) (graph.rises (n - p.base) at.1))

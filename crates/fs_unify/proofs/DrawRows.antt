@@ -188,7 +188,7 @@ drawn_plan nodes types starts arcs whole filled ty d = (
     type_is n (inl h) = ty.each n h
     type_is n (inr h) =
         get_or_past (map (λ t. t.0) types) n 0 (omega (arith, ty.size))
-        ∙ sym (ap (type_by (own_type nodes n)) (whole.stands.unwritten n h) ∙ ap (type_from n) (home_none nodes.parts.now nodes.size whole.placed n h))
+        ∙ sym (ap (type_by (own_type nodes n)) (whole.stands.unwritten n h) ∙ ap (type_from n) (home_none nodes.parts nodes.size whole.placed n h))
 
 -- one type more
 pub types_more : (t : Table) (n : ℕ) (types types' : List Ty) (ty : Ty) → types' ≡ types ++ ty ∷ [] → ty.0 ≡ t.type_of n → DrawsTypes t n (map (λ t. t.0) types) →

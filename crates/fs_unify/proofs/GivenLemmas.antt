@@ -1,5 +1,6 @@
 -- The first node, facts at it, and the answer.
-use Rattle.std.proofs.Common.{ℕ, suc, ◌≡◌, ◌≢◌, ◌<◌, ◌+◌, ◌⊎◌, inl, inr, Bool, true, false, Option, Some, None, List, [], ◌∷◌, ◌++◌, length, map, drop, slice_index_or, append-nil, refl, sym, ◌∙◌, ap, subst, arith}
+use Rattle.std.proofs.Common.{ℕ, suc, ◌≡◌, ◌≢◌, ◌≤◌, ◌<◌, ◌+◌, ◌-◌, ◌⊎◌, inl, inr, Bool, true, false, Option, Some, None, List, [], ◌∷◌, ◌++◌, length, map, drop, slice_index_or, append-nil, refl, sym, ◌∙◌, ap, subst, arith}
+use Rattle.std.proofs.lemmas.Bool.{cases_lt}
 use Rattle.std.proofs.Math.Seq.{drop-cons}
 use Rattle.fs_model.specs.Claims.{Path, Claim, exists_at, same, below, System, IsOrder, IsBare, Has, here}
 use Rattle.fs_model.specs.Closure.{Closure, IsConsistent, given_claim, same_exists, below_exists, prefix}
@@ -11,7 +12,7 @@ use Rattle.fs_model.proofs.StepLemmas.{same_or_other}
 use Rattle.fs_closing.specs.declared.nodes.Nodes.{Nodes}
 use Rattle.fs_closing.specs.declared.tasks.Tasks.{Tasks}
 use Rattle.fs_closing.specs.NodeTable.{table_of, at_of, own_type, own_row, depth_of, IsWhole, IsWithin, AreFlat}
-use Rattle.fs_closing.specs.NodeSteps.{AddsNode, AddsDepth}
+use Rattle.fs_closing.specs.NodeSteps.{AddsNode, AddsDepth, EntersDepth}
 use Rattle.fs_closing.specs.Rules.{Grammar, system_of}
 use Rattle.fs_closing.specs.Work.{work_of}
 use Rattle.fs_unify.specs.Given.{facts_source, StandsFor, StandsForSome, Gathers, Decides, Pictured, Settles}
@@ -159,3 +160,18 @@ flat_added nodes nodes' adds flat n = go (same_or_other n nodes.size)
     go : (n ≡ nodes.size) ⊎ (n ≢ nodes.size) → depth_of nodes' n ≡ 0
     go (inl e) = ap (depth_of nodes') e ∙ adds.here
     go (inr e) = adds.others n e ∙ flat n
+
+-- a graph whose nodes are said to need no features
+pub flat_entered : (count : ℕ) (nodes nodes' : Nodes) → EntersDepth 0 0 count nodes nodes' → AreFlat nodes → AreFlat nodes'
+flat_entered count nodes nodes' d flat n = go (cases_lt n nodes.size)
+  where
+    new : (k : ℕ) → (k < count) ⊎ (count ≤ k) → (0 < k) ⊎ (k ≤ 0) → depth_of nodes' (nodes.size + k) ≡ 0
+    new k (inr past) z = d.past (nodes.size + k) (omega arith)
+    new k (inl h) (inl pos) = d.inner k pos h
+    new k (inl h) (inr z) = let e : nodes.size + k ≡ nodes.size = omega arith in ap (λ i. depth_of nodes' i) e ∙ d.root (omega arith)
+
+    go : (n < nodes.size) ⊎ (nodes.size ≤ n) → depth_of nodes' n ≡ 0
+    go (inl h) = d.others n h ∙ flat n
+    go (inr h) =
+        let e : nodes.size + (n - nodes.size) ≡ n = omega arith in
+        subst (λ i. depth_of nodes' i ≡ 0) e (new (n - nodes.size) (cases_lt (n - nodes.size) count) (cases_lt 0 (n - nodes.size)))

@@ -10,4 +10,3 @@ pub mod OwedRows
 pub mod PartModel
 pub mod PlaceLemmas
 pub mod SampleLemmas
-pub mod BaseLemmas

@@ -76,7 +76,7 @@ fn draw_own(arcs: &mut Vec<GraphArc>, nodes: &Nodes<'_>, n: u32) -> Result<(), N
     requires node { n < nodes.now.size }
     ensures { OnOk result (arcs.new.items ≡ arcs.old.items ++ ended_row (table_of nodes.now).live (own_row nodes.now n)) }
 {
-    let own = own_arcs(nodes.parts, n);
+    let own = own_arcs(&nodes.parts, n);
     for i in 0..own.arcs.len() {
         let cell = own_cell(own.base, own.arcs, i);
         let to = live(nodes, cell.to);

@@ -1,7 +1,6 @@
 //! Graphs that enter as nodes.
 
 ghost use Rattle.std.specs.Prelude.{◌≡◌, ℕ, ◌+◌, ◌<◌, ◌≤◌, ◌^◌, List, length, take, IfOk, OnOk, slice_index_or};
-ghost use Rattle.fs_closing.specs.declared.parts.Based.{Based as BasedValue};
 ghost use Rattle.fs_model.specs.Claims.{Has, IsBare};
 ghost use Rattle.fs_graph.specs.declared.graph.GraphArc.{GraphArc};
 ghost use Rattle.fs_closing.specs.NodeTable.{table_of, AreFlat};
@@ -18,7 +17,6 @@ use crate::owed::Owed;
 use crate::parts::Standing;
 use fs_closing::NoMemory;
 use fs_closing::nodes::{Nodes, add_graph};
-use fs_closing::parts::Based;
 use fs_closing::steps::push_rules;
 use fs_closing::system::TypeSystem;
 use fs_closing::tasks::Tasks;
@@ -118,32 +116,25 @@ fn push_forced(
     }
 }
 
-/// The graph at a place enters, after those before it: its nodes, and what their types and arcs force. The answer is the number
-/// of its root.
+/// A graph enters, after those before it: its nodes, and what their types and arcs force. The answer is the number of its root.
 pub fn enter<'a>(
     nodes: &mut Nodes<'a>,
     tasks: &mut Tasks,
     system: &TypeSystem,
-    graphs: &'a [Based<'a>],
-    place: usize,
+    graph: &'a Graph,
     standing: Standing<'_>,
 ) -> Result<u32, NoMemory>
     requires bare { IsBare (system_of system.now) }
     requires sound { AreSound system.now nodes.old tasks.old }
-    requires place { place < length graphs.now }
-    requires before { nodes.old.parts.now ≡ take place graphs.now }
-    requires based { (d : BasedValue) → (slice_index_or graphs.now place d).base ≡ nodes.old.size }
-    requires graph { (d : BasedValue) → IsGraphIn (count_of system.now.types) (length system.now.introducers) (slice_index_or graphs.now place d).graph.now }
-    requires owes { (d : BasedValue) → OwesOnly system.now (slice_index_or graphs.now place d).graph.now (owing_of standing) }
+    requires graph { IsGraphIn (count_of system.now.types) (length system.now.introducers) graph.now }
+    requires owes { OwesOnly system.now graph.now (owing_of standing) }
     ensures place { IfOk result (λ o. o ≡ nodes.old.size) }
-    ensures parts { OnOk result (nodes.new.parts.now ≡ take (place + 1) graphs.now) }
-    ensures enters { OnOk result ((d : BasedValue) → EntersTable (slice_index_or graphs.now place d).graph.now (table_of nodes.old) (table_of nodes.new)) }
-    ensures owed { OnOk result ((d : BasedValue) → IsOwed (system_of system.now) nodes.old.size (slice_index_or graphs.now place d).graph.now (work_of system.now.rules tasks.old) (work_of system.now.rules tasks.new)) }
+    ensures enters { OnOk result (EntersTable graph.now (table_of nodes.old) (table_of nodes.new)) }
+    ensures owed { OnOk result (IsOwed (system_of system.now) nodes.old.size graph.now (work_of system.now.rules tasks.old) (work_of system.now.rules tasks.new)) }
     ensures flat { OnOk result (AreFlat nodes.old → AreFlat nodes.new) }
     ensures sound { OnOk result (AreSound system.now nodes.new tasks.new) }
 {
-    let offset = add_graph(nodes, graphs, place)?;
-    let part = &graphs[place];
-    push_forced(tasks, system, part.graph, offset, standing)?;
+    let offset = add_graph(nodes, graph, 0, 0)?;
+    push_forced(tasks, system, graph, offset, standing)?;
     Ok(offset)
 }

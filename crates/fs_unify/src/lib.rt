@@ -9,7 +9,7 @@ pub mod scratch;
 pub mod structure;
 pub mod unifier;
 
-pub use fs_closing::{TypeFacts, TypeSystem};
+pub use fs_closing::{Constraint, SharedGraph, TypeFacts, TypeSystem};
 pub use owed::Owed;
 pub use parts::Parts;
 pub use scratch::Scratch;

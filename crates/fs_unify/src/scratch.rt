@@ -10,7 +10,7 @@ use fs_closing::NoMemory;
 use fs_closing::cells::Cells;
 use fs_closing::marks::Marks;
 use fs_closing::nodes::Nodes;
-use fs_closing::parts::Based;
+use fs_closing::parts::Beside;
 use fs_closing::tasks::Tasks;
 use std::alloc::Global;
 use std::mem;
@@ -21,6 +21,7 @@ use std::mem;
 pub struct Scratch {
     pub(crate) written: Marks,
     pub(crate) cells: Cells,
+    pub(crate) homes: Vec<u32>,
     pub(crate) tasks: Tasks,
     pub(crate) offsets: Vec<u32>,
     pub(crate) picture: Picture,
@@ -44,6 +45,7 @@ impl Scratch {
         Scratch {
             written: Marks::aged(alloc, generation),
             cells: Cells::new(alloc),
+            homes: Vec::new(alloc),
             tasks: Tasks::new(alloc),
             offsets: Vec::new(alloc),
             picture: Picture::new(alloc),
@@ -72,9 +74,8 @@ impl Scratch {
     }
 
     // The nodes of a call, in the memory of those before: none yet, and no graph has entered.
-    pub(crate) fn begin<'a>(&mut self, alloc: Global, graphs: &'a [Based<'a>]) -> Nodes<'a>
-        requires { graphs.now ≡ [] }
-        ensures parts { result.parts.now ≡ [] }
+    pub(crate) fn begin<'a>(&mut self, alloc: Global) -> Nodes<'a>
+        ensures parts { result.parts ≡ [] }
         ensures none { result.size ≡ 0 }
         ensures whole { IsWhole result }
         ensures flat { AreFlat result }
@@ -84,7 +85,7 @@ impl Scratch {
         let mut nodes = Nodes {
             marks: mem::replace(&mut self.written, Marks::aged(alloc, 1)),
             cells: mem::replace(&mut self.cells, Cells::new(alloc)),
-            parts: graphs,
+            parts: Beside::new(alloc, mem::replace(&mut self.homes, Vec::new(alloc))),
             merges: 0,
             size: 0,
         };
@@ -98,5 +99,6 @@ impl Scratch {
     {
         self.written = nodes.marks;
         self.cells = nodes.cells;
+        self.homes = nodes.parts.homes();
     }
 }

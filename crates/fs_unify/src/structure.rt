@@ -27,10 +27,10 @@ use fs_graph::{Fact, Graph};
 use std::alloc::Global;
 
 // Puts facts at the root.
-fn apply_all(
-    nodes: &mut Nodes<'_>,
+fn apply_all<'a>(
+    nodes: &mut Nodes<'a>,
     tasks: &mut Tasks,
-    system: &TypeSystem,
+    system: &'a TypeSystem,
     facts: &[Fact],
 ) -> Result<bool, NoMemory>
     requires bare { IsBare (system_of system.now) }
@@ -49,10 +49,10 @@ fn apply_all(
 }
 
 // Facts are put at the root, from no nodes on. The answer is false where a path gets too long.
-fn gather_facts(
-    nodes: &mut Nodes<'_>,
+fn gather_facts<'a>(
+    nodes: &mut Nodes<'a>,
     tasks: &mut Tasks,
-    system: &TypeSystem,
+    system: &'a TypeSystem,
     facts: &[Fact],
 ) -> Result<bool, NoMemory>
     requires bare { IsBare (system_of system.now) }
@@ -74,11 +74,11 @@ fn gather_facts(
 
 /// Closes nodes with their tasks, and draws them, whatever was drawn before. The answer is true exactly where what they stand
 /// for is consistent.
-pub fn close_within(
-    nodes: &mut Nodes<'_>,
+pub fn close_within<'a>(
+    nodes: &mut Nodes<'a>,
     tasks: &mut Tasks,
     picture: &mut Picture,
-    system: &TypeSystem,
+    system: &'a TypeSystem,
 ) -> Result<bool, NoMemory>
     requires order { IsOrder (system_of system.now) }
     requires bare { IsBare (system_of system.now) }
@@ -97,12 +97,12 @@ pub fn close_within(
 
 /// Closes nodes with their tasks, and gives the graph of their root, or `None` exactly where what they stand for is
 /// inconsistent.
-pub fn settle(
+pub fn settle<'a>(
     alloc: Global,
-    nodes: &mut Nodes<'_>,
+    nodes: &mut Nodes<'a>,
     tasks: &mut Tasks,
     picture: &mut Picture,
-    system: &TypeSystem,
+    system: &'a TypeSystem,
 ) -> Result<Option<Graph>, NoMemory>
     requires order { IsOrder (system_of system.now) }
     requires bare { IsBare (system_of system.now) }
@@ -120,12 +120,12 @@ pub fn settle(
 }
 
 // The structure of facts, from no nodes on.
-fn structure(
+fn structure<'a>(
     alloc: Global,
-    nodes: &mut Nodes<'_>,
+    nodes: &mut Nodes<'a>,
     tasks: &mut Tasks,
     picture: &mut Picture,
-    system: &TypeSystem,
+    system: &'a TypeSystem,
     facts: &[Fact],
 ) -> Result<Option<Graph>, NoMemory>
     requires order { IsOrder (system_of system.now) }
@@ -166,8 +166,7 @@ pub fn structure_of(
     ensures answer { IfOk result (λ o. IsUnified (system_of system.now) (facts_source (claims_of facts.now)) (option_map reader_of o)) }
     ensures known { IfOk result (λ o. IfSome o (IsAnswerIn system.now)) }
 {
-    let none = Vec::new(alloc);
-    let mut nodes = scratch.begin(alloc, &none);
+    let mut nodes = scratch.begin(alloc);
     scratch.tasks.clear();
     let types = system.types();
     types.laws();

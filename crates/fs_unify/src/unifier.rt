@@ -12,7 +12,6 @@ ghost use Rattle.fs_closing.specs.Work.{work_of, AreReady};
 ghost use Rattle.fs_closing.specs.Keeps.{AreSound, StepsTo};
 ghost use Rattle.fs_unify.specs.Given.{Gathers};
 ghost use Rattle.fs_unify.specs.Placing.{PlacedGraph, placed, part_in, source_of, source_in, joints, HasEntered, IsPlacedIn, IsAnswerIn};
-ghost use Rattle.fs_unify.specs.Inner.Bases.{AreBased};
 ghost use Rattle.fs_unify.specs.Room.{room_of};
 
 use crate::draw::Picture;
@@ -23,7 +22,7 @@ use crate::structure::{close_within, settle};
 use fs_closing::NoMemory;
 use fs_closing::closing::reach;
 use fs_closing::nodes::{Nodes, add_node};
-use fs_closing::parts::Based;
+use fs_closing::steps::join;
 use fs_closing::system::TypeSystem;
 use fs_closing::tasks::Tasks;
 use fs_graph::Graph;
@@ -34,16 +33,12 @@ fn enter_all<'a>(
     nodes: &mut Nodes<'a>,
     tasks: &mut Tasks,
     system: &TypeSystem,
-    parts: &[Placed<'_>],
-    graphs: &'a [Based<'a>],
+    parts: &'a [Placed<'a>],
     offsets: &mut Vec<u32>,
 ) -> Result<(), NoMemory>
     requires bare { IsBare (system_of system.now) }
     requires sound { AreSound system.now nodes.old tasks.old }
     requires parts { (p : Placed) → Has p parts.now → IsPlacedIn system.now (placed p) }
-    requires graphs { AreBased 1 parts.now graphs.now }
-    requires first { nodes.old.size ≡ 1 }
-    requires none { nodes.old.parts.now ≡ [] }
     requires begun { HasEntered system.now parts.now [] offsets.old.items nodes.old tasks.old }
     ensures entered { OnOk result (HasEntered system.now parts.now parts.now offsets.new.items nodes.new tasks.new) }
     ensures sound { OnOk result (AreSound system.now nodes.new tasks.new) }
@@ -51,17 +46,17 @@ fn enter_all<'a>(
     for i in 0..parts.len() {
         let part = &parts[i];
         part.graph.laws();
-        let offset = enter(nodes, tasks, system, graphs, i, part.standing)?;
+        let offset = enter(nodes, tasks, system, part.graph, part.standing)?;
         offsets.push(offset)?;
     }
     Ok(())
 }
 
-// Each graph's root is put at its path.
-fn connect(
-    nodes: &mut Nodes<'_>,
+// Each graph's root is put at its path. The two become one at once, so that the path of the next graph is found in those before it.
+fn connect<'a>(
+    nodes: &mut Nodes<'a>,
     tasks: &mut Tasks,
-    system: &TypeSystem,
+    system: &'a TypeSystem,
     parts: &[Placed<'_>],
     offsets: &[u32],
 ) -> Result<bool, NoMemory>
@@ -75,7 +70,10 @@ fn connect(
 {
     for i in 0..parts.len() {
         match reach(nodes, tasks, system, 0, &parts[i].place)? {
-            Some(end) => tasks.push_pair(end, offsets[i])?,
+            Some(end) => match join(nodes, tasks, system, end, offsets[i])? {
+                true => {}
+                false => return Ok(false),
+            },
             None => return Ok(false),
         }
     }
@@ -87,9 +85,8 @@ fn gather<'a>(
     nodes: &mut Nodes<'a>,
     tasks: &mut Tasks,
     offsets: &mut Vec<u32>,
-    system: &TypeSystem,
-    parts: &[Placed<'_>],
-    graphs: &'a [Based<'a>],
+    system: &'a TypeSystem,
+    parts: &'a [Placed<'a>],
 ) -> Result<bool, NoMemory>
     requires bare { IsBare (system_of system.now) }
     requires whole { IsWhole nodes.old }
@@ -99,8 +96,6 @@ fn gather<'a>(
     requires no_work { work_of system.now.rules tasks.old ≡ [] }
     requires ready { (size types rules : ℕ) → AreReady size types rules tasks.old }
     requires some { 0 < length parts.now }
-    requires graphs { AreBased 1 parts.now graphs.now }
-    requires lent { nodes.old.parts.now ≡ [] }
     requires parts { (p : Placed) → Has p parts.now → IsPlacedIn system.now (placed p) }
     ensures { IfOk result (Gathers system.now (source_in parts.now) nodes.new tasks.new) }
 {
@@ -109,7 +104,7 @@ fn gather<'a>(
     first.graph.laws();
     add_node(nodes, 0, 0)?;
     offsets.clear();
-    enter_all(nodes, tasks, system, parts, graphs, offsets)?;
+    enter_all(nodes, tasks, system, parts, offsets)?;
     let connected = connect(nodes, tasks, system, parts, offsets)?;
     Ok(connected)
 }
@@ -121,9 +116,8 @@ fn unified<'a>(
     tasks: &mut Tasks,
     offsets: &mut Vec<u32>,
     picture: &mut Picture,
-    system: &TypeSystem,
-    parts: &[Placed<'_>],
-    graphs: &'a [Based<'a>],
+    system: &'a TypeSystem,
+    parts: &'a [Placed<'a>],
 ) -> Result<Option<Graph>, NoMemory>
     requires order { IsOrder (system_of system.now) }
     requires bare { IsBare (system_of system.now) }
@@ -134,13 +128,11 @@ fn unified<'a>(
     requires no_work { work_of system.now.rules tasks.old ≡ [] }
     requires ready { (size types rules : ℕ) → AreReady size types rules tasks.old }
     requires some { 0 < length parts.now }
-    requires graphs { AreBased 1 parts.now graphs.now }
-    requires lent { nodes.old.parts.now ≡ [] }
     requires parts { (p : Placed) → Has p parts.now → IsPlacedIn system.now (placed p) }
     ensures answer { IfOk result (λ o. IsUnified (system_of system.now) (source_in parts.now) (option_map reader_of o)) }
     ensures known { IfOk result (λ o. IfSome o (IsAnswerIn system.now)) }
 {
-    let gathered = gather(nodes, tasks, offsets, system, parts, graphs)?;
+    let gathered = gather(nodes, tasks, offsets, system, parts)?;
     if gathered {
         let graph = settle(alloc, nodes, tasks, picture, system)?;
         return Ok(graph);
@@ -154,9 +146,8 @@ fn consistent<'a>(
     tasks: &mut Tasks,
     offsets: &mut Vec<u32>,
     picture: &mut Picture,
-    system: &TypeSystem,
-    parts: &[Placed<'_>],
-    graphs: &'a [Based<'a>],
+    system: &'a TypeSystem,
+    parts: &'a [Placed<'a>],
 ) -> Result<bool, NoMemory>
     requires order { IsOrder (system_of system.now) }
     requires bare { IsBare (system_of system.now) }
@@ -167,12 +158,10 @@ fn consistent<'a>(
     requires no_work { work_of system.now.rules tasks.old ≡ [] }
     requires ready { (size types rules : ℕ) → AreReady size types rules tasks.old }
     requires some { 0 < length parts.now }
-    requires graphs { AreBased 1 parts.now graphs.now }
-    requires lent { nodes.old.parts.now ≡ [] }
     requires parts { (p : Placed) → Has p parts.now → IsPlacedIn system.now (placed p) }
     ensures { IfOk result (λ b. IsTrue b ↔ IsConsistent (system_of system.now) (Told (source_in parts.now))) }
 {
-    let gathered = gather(nodes, tasks, offsets, system, parts, graphs)?;
+    let gathered = gather(nodes, tasks, offsets, system, parts)?;
     if gathered {
         let consistent = close_within(nodes, tasks, picture, system)?;
         return Ok(consistent);
@@ -197,7 +186,7 @@ pub fn unify(
     ensures answer { IfOk result (λ o. IsUnified (system_of system.now) (source_of parts.now) (option_map reader_of o)) }
     ensures known { IfOk result (λ o. IfSome o (IsAnswerIn system.now)) }
 {
-    let mut nodes = scratch.begin(alloc, &parts.graphs[..0]);
+    let mut nodes = scratch.begin(alloc);
     scratch.tasks.clear();
     let types = system.types();
     types.laws();
@@ -209,7 +198,6 @@ pub fn unify(
         &mut scratch.picture,
         system,
         &parts.items,
-        &parts.graphs,
     );
     scratch.keep(nodes);
     answer
@@ -230,7 +218,7 @@ pub fn unifies(
     ensures room { room_of scratch.old ≤ room_of scratch.new }
     ensures answer { IfOk result (λ b. IsTrue b ↔ IsConsistent (system_of system.now) (Told (source_of parts.now))) }
 {
-    let mut nodes = scratch.begin(alloc, &parts.graphs[..0]);
+    let mut nodes = scratch.begin(alloc);
     scratch.tasks.clear();
     let types = system.types();
     types.laws();
@@ -241,7 +229,6 @@ pub fn unifies(
         &mut scratch.picture,
         system,
         &parts.items,
-        &parts.graphs,
     );
     scratch.keep(nodes);
     answer

@@ -11,7 +11,8 @@ use Rattle.command_files.specs.Grammars.{HasGrammar}
 use Rattle.engine.specs.Speeches.{Speech, IsSpeechOf}
 use Rattle.generate_commands.specs.Answers.{Bounds, IsAnswer}
 use Rattle.generate_commands.specs.Generating.{generate_meaning, IsSpeakerOf}
-use Rattle.generate_commands.specs.Inner.Contributing.{speaker_by, IsServedBy}
+use Rattle.generate_commands.specs.Contributing.{speaker_by}
+use Rattle.generate_commands.specs.Inner.Contributing.{IsServedBy}
 
 module _ (name : List ℕ) (settings : Option (List ℕ)) (verbose : Bool) (bounds : Bounds) (h : Shelves) (g : GrammarTree) (has : HasGrammar h.files name settings g) (o : Streams) (idle untouched : Type 0) (speech : Speech) (says : IsSpeechOf g speech) where
   speaks : IsSpeakerOf g (speaker_by g speech)

@@ -2,4 +2,5 @@ pub mod Reports
 pub mod Answers
 pub mod Generating
 pub mod Views
+pub mod Contributing
 pub mod Inner

@@ -5,7 +5,7 @@ ghost use Rattle.grammar_load.specs.Views.{grammar_of};
 ghost use Rattle.mrs_places.specs.Paths.{feature_of};
 ghost use Rattle.engine.specs.Ready.{IsReady};
 ghost use Rattle.generate_commands.specs.Generating.{c_cont_of};
-ghost use Rattle.generate_commands.specs.Inner.Contributing.{AreContributorsOf};
+ghost use Rattle.generate_commands.specs.Contributing.{AreContributorsOf};
 
 use crate::NoMemory;
 use engine::Engine;
@@ -16,13 +16,13 @@ use std::alloc::Global;
 
 /// Where the relations stand that a rule contributes itself, and what lexical trees and rules contribute.
 #[derive(Drop)]
-pub(crate) struct Contributions {
-    pub(crate) c_cont: Vec<MrsFeat>,
-    pub(crate) contributors: Contributors,
+pub struct Contributions {
+    pub c_cont: Vec<MrsFeat>,
+    pub contributors: Contributors,
 }
 
 /// What the grammar of an engine contributes, with lexical trees of up to so many rules and one more.
-pub(crate) fn contributions_of(
+pub fn contributions_of(
     alloc: Global,
     engine: &Engine<'_, '_, '_, '_, '_, '_, '_, '_, '_, '_>,
     lexical: u32,

@@ -8,5 +8,7 @@ pub mod laws;
 mod reports;
 mod using;
 
+pub use answering::Generator;
+pub use contributing::{Contributions, contributions_of};
 pub use generating::{Generate, generate_lines};
 pub use std::alloc::AllocError as NoMemory;

@@ -8,6 +8,7 @@ use crate::contributing::contributions_of;
 use chart_core::Limits;
 use endings::Stop;
 use endings::in_turn::serve_in_turn;
+use endings::pieces::flush_at_stop;
 use engine::desks::Desks;
 use engine::{Engine, Use};
 use lkb_io::{Sink, Source};
@@ -45,6 +46,7 @@ impl<I: Source, O: Sink, X> Use<I, O, X> for AllLines {
         gate: &dyn Gate,
     ) -> Result<bool, Stop> {
         let Ok(given) = contributions_of(alloc, engine, self.limits.lexical) else {
+            flush_at_stop(out);
             return Err(Stop::NoMemory);
         };
         let generator = Generator {

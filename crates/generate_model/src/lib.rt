@@ -1,4 +1,5 @@
-//! What it means that a tree realizes an MRS, and the answer for generation, over trees alone.
+//! What it means that a tree realizes an MRS, and the answer for generation, over trees alone; and the predicates that entries and rules
+//! contribute.
 //!
 //! Chart generation: Kay 1996; Carroll, Copestake, Flickinger and Poznanski 1999. Packing by subsumption: Oepen and Carroll 2000.
 #![tactic(auto)]

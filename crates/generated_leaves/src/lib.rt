@@ -1,5 +1,5 @@
 //! The leaves of generation: the lexical trees of a grammar with the predicates that they contribute, and those of them whose
-//! predicates lie within an input's.
+//! predicates lie within an input's; what phrase rules contribute themselves; and these rules over counts of predicates.
 //!
 //! Chart generation: Kay 1996; Carroll, Copestake, Flickinger and Poznanski 1999.
 #![tactic(auto)]

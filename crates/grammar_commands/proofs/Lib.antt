@@ -8,3 +8,5 @@ pub mod SameReports
 pub mod TypeLines
 pub mod CommandLemmas
 pub mod CheckLemmas
+pub mod PlainRanges
+pub mod PlainBooks

@@ -3,3 +3,4 @@ pub mod TypeReports
 pub mod Expansions
 pub mod Checks
 pub mod Commands
+pub mod Accepted

@@ -71,7 +71,7 @@ fn structure_named<'a>(grammar: &'a Grammar, name: &str) -> Option<&'a Graph>
 {
     let book = &grammar.book;
     if let Some(ty) = book.system.types().find(name) {
-        return Some(&book.constraints[ty.0 as usize]);
+        return Some(book.constraints[ty.0 as usize].graph());
     }
     let place = instance_of_name(&book.instances, &grammar.names, name)?;
     Some(&book.instances[place].structure)

@@ -1,4 +1,4 @@
-//! Laws of what the files of a grammar say.
+//! Laws of the walk over a grammar's files.
 
 ghost use Rattle.std.specs.Prelude.{◌≡◌, ℕ, List, Bool, true, false, Option, Some, None, Result, Ok, Err};
 ghost use Rattle.grammar_files.specs.declared.fault.Why.{Why};

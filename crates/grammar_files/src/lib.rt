@@ -1,4 +1,5 @@
-//! The files of a grammar: their names, their statements in order of reading, and their first fault.
+//! What the files of a grammar say: their names, their statements in order of reading with what these define, the text of irregular forms,
+//! and the first fault.
 #![tactic(auto)]
 
 mod all_read;

@@ -1,4 +1,4 @@
-//! Laws of what the files of a grammar say.
+//! Laws of all that is read: settings, statements and irregular forms.
 
 ghost use Rattle.std.specs.Prelude.{◌≡◌, ℕ, List, Bool, true, false, Option, Some, None, Result};
 ghost use Rattle.grammar_settings.specs.Forms.{Name};

@@ -1,4 +1,4 @@
-//! Loading grammars: a grammar with its lexicon and its spelling, or the first fault of its files (DELPH-IN TDL).
+//! Loading grammars: a grammar with its structures, its lexicon and its spelling, or the first fault of its files (DELPH-IN TDL).
 #![tactic(auto)]
 
 mod expanding;

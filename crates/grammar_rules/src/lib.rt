@@ -1,4 +1,4 @@
-//! The answer to a line: its licensed trees, or the limit that it breaks.
+//! The answer to a line: its licensed trees, or the limit that it breaks; and what the lines of a run share.
 //!
 //! Typed feature structure grammars: Copestake 2002. Packing and unpacking: Oepen and Carroll 2000.
 #![tactic(auto)]

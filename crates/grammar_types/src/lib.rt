@@ -1,4 +1,4 @@
-//! The types of a grammar, from what its files say.
+//! The types of a grammar, from what its files say, completed by the meets that they lack.
 #![tactic(auto)]
 
 mod complete_fault;

@@ -1,4 +1,4 @@
--- What contracts see of lexical trees.
+-- What contracts see of the lexical trees of a grammar.
 use Rattle.std.specs.Arc.{arc_value}
 use Rattle.derivation.specs.Views.{derivation_of}
 use Rattle.tree_model.specs.Structures.{Structure}

@@ -1,4 +1,4 @@
--- What contracts see of lexical trees.
+-- What contracts see of the lexical trees of a lattice.
 use Rattle.std.specs.Prelude.{map}
 use Rattle.derivation.specs.Views.{derivation_of}
 use Rattle.tree_model.specs.Structures.{Structure}

@@ -1,4 +1,5 @@
-//! The lexical trees of a lattice: chains of lexical rules that have a full structure.
+//! The lexical trees of a lattice and of a grammar: chains of lexical rules that have a full structure; and full structures that are
+//! remembered.
 //!
 //! Lexical rules with orthography: Copestake 2002.
 #![tactic(auto)]

@@ -1,4 +1,4 @@
-//! Lexical trees.
+//! Lexical trees of a grammar.
 
 ghost use Rattle.derivation.specs.Counted.{IsCounted};
 

@@ -1,4 +1,4 @@
-//! Lists of words, and what is noted for words.
+//! Words that are copied.
 
 ghost use Rattle.std.specs.Prelude.{◌≡◌, map, string_bytes, IfOk};
 

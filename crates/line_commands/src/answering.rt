@@ -23,23 +23,22 @@ use worker_gate::Gate;
 
 /// What answers lines by the trees that a grammar licenses for them.
 #[derive(Drop)]
-pub(crate) struct Parser<'e, 'r, 'k> {
-    pub(crate) engine: Engine<'e, 'e, 'e, 'e, 'e, 'r, 'e, 'k, 'e, 'e>,
-    pub(crate) limits: Limits,
-    // whether a line writes a lattice
-    pub(crate) lattice: bool,
-    // whether each tree is followed by its MRS
-    pub(crate) mrs: bool,
-    // whether the unknown words of lines without a tree are noted
-    pub(crate) verbose: bool,
-    // what lines are worked out with
-    pub(crate) desks: Desks,
+pub struct Parser<'e, 'r, 'k> {
+    pub engine: Engine<'e, 'e, 'e, 'e, 'e, 'r, 'e, 'k, 'e, 'e>,
+    pub limits: Limits,
+    /// Whether a line writes a lattice.
+    pub lattice: bool,
+    /// Whether each tree is followed by its MRS.
+    pub mrs: bool,
+    /// Whether the unknown words of lines without a tree are noted.
+    pub verbose: bool,
+    /// What lines are worked out with where they are served.
+    pub desks: Desks,
     ghost in_range: { InRange limits },
 }
 
 impl Parser<'_, '_, '_> {
     ghost use Rattle.std.specs.Prelude.{◌≡◌, ◌&&◌, ℕ, List, length, map, IfOk};
-    ghost use Rattle.std.specs.Thread.{IsSync};
     ghost use Rattle.morph_analysis.specs.Lattices.{IsValid};
     ghost use Rattle.morph_analysis.specs.LatticeViews.{lattice_of};
     ghost use Rattle.lexical_items.specs.Seen.{lattice_seen};
@@ -53,6 +52,7 @@ impl Parser<'_, '_, '_> {
     ghost use Rattle.line_commands.specs.Answers.{AreLinesOf, IsAnswer};
     ghost use Rattle.line_commands.specs.Inner.Lattices.{HasNoLattice};
     ghost use Rattle.line_commands.specs.Notes.{IsNote, has_no_tree};
+    ghost use Rattle.line_commands.specs.Views.{asked_with};
     ghost use Rattle.line_commands.specs.Inner.Parsers.{asked_of, IsReportOf, IsNoteOf};
 
     // The report on an answer, whose trees have full structures and names.
@@ -114,29 +114,24 @@ impl Parser<'_, '_, '_> {
         note_line(alloc, number, &steps)
     }
 
-    // The answer to the lattice of the line of this number.
-    fn parsed<Rt: Threads + Wait + Sync>(
+    // The answer to the lattice of the line of this number. One worker finds it, who waits for nobody.
+    fn parsed(
         &self,
-        rt: &Rt,
         alloc: Global,
+        desk: &mut Desk,
         number: u64,
         lattice: &Lattice,
-        share: Share,
-        gate: &dyn Gate,
     ) -> Result<Answer, NoMemory>
-        requires sync { IsSync Rt.row }
         requires ready { IsReady self.now.engine }
         requires valid { IsValid (lattice_of lattice.now) }
         ensures report { IfOk result (λ a. IsReportOf self.now number (lattice_of lattice.now) (map (λ l. l.items) a.report.lines.items) a.report.refused) }
         ensures note { IfOk result (λ a. IsNoteOf self.now number (lattice_of lattice.now) a.note.items) }
     {
-        let mut desk = self.desks.take(rt, alloc, share);
         let answer = self
             .engine
-            .parse(rt, alloc, &mut desk, lattice, &self.limits, gate)?;
+            .parse_alone(alloc, &mut desk.work, lattice, &self.limits)?;
         let report = self.reported(alloc, &mut desk.work.trees, number, &answer)?;
-        let note = self.noted(alloc, &mut desk, number, lattice, &answer)?;
-        self.desks.give_back(rt, share, desk);
+        let note = self.noted(alloc, desk, number, lattice, &answer)?;
         Ok(Answer { report, note })
     }
 
@@ -159,23 +154,21 @@ impl Parser<'_, '_, '_> {
         })
     }
 
-    /// The answer to the line of this number, with its note.
-    pub(crate) fn answered<Rt: Threads + Wait + Sync>(
+    /// The answer to the line of this number, with its note, by one worker, at a desk nothing of which enters into it. It waits for nobody,
+    /// so this call returns.
+    pub fn answer_alone(
         &self,
-        rt: &Rt,
         alloc: Global,
+        desk: &mut Desk,
         number: u64,
         line: &[u8],
-        share: Share,
-        gate: &dyn Gate,
     ) -> Result<Answer, NoMemory>
-        requires sync { IsSync Rt.row }
         requires ready { IsReady self.now.engine }
-        ensures report { IfOk result (λ a. IsAnswer (speech_of self.now.engine) (asked_of self.now) number line.now (map (λ l. l.items) a.report.lines.items) a.report.refused) }
-        ensures note { IfOk result (λ a. IsNote self.now.verbose (speech_of self.now.engine) (asked_of self.now) number line.now a.note.items) }
+        ensures report { IfOk result (λ a. IsAnswer (speech_of self.now.engine) (asked_with self.now.limits self.now.lattice self.now.mrs) number line.now (map (λ l. l.items) a.report.lines.items) a.report.refused) }
+        ensures note { IfOk result (λ a. IsNote self.now.verbose (speech_of self.now.engine) (asked_with self.now.limits self.now.lattice self.now.mrs) number line.now a.note.items) }
     {
         match lattice_of_line(alloc, line, self.lattice) {
-            Ok(lattice) => self.parsed(rt, alloc, number, &lattice, share, gate),
+            Ok(lattice) => self.parsed(alloc, desk, number, &lattice),
             Err(why) => self.without_lattice(alloc, number, why),
         }
     }
@@ -204,11 +197,16 @@ impl Answers for Parser<'_, '_, '_> {
         alloc: Global,
         number: u64,
         line: &[u8],
-        share: Share,
-        gate: &dyn Gate,
+        _share: Share,
+        _gate: &dyn Gate,
     ) -> Result<Answer, endings::lines::NoMemory> {
-        match self.answered(rt, alloc, number, line, share, gate) {
-            Ok(answer) => Ok(answer),
+        // (one worker answers a line, whatever its share of them is; a desk at which memory was wanting is let go, with all that it holds)
+        let mut desk = self.desks.take(rt, alloc, Share::Single);
+        match self.answer_alone(alloc, &mut desk, number, line) {
+            Ok(answer) => {
+                self.desks.give_back(rt, Share::Single, desk);
+                Ok(answer)
+            }
             Err(_) => Err(endings::lines::NoMemory),
         }
     }

@@ -19,13 +19,13 @@ use worker_gate::Gate;
 
 /// What answers lines by the packed forests that a grammar has for them.
 #[derive(Drop)]
-pub(crate) struct Charter<'e, 'r, 'k> {
-    pub(crate) engine: Engine<'e, 'e, 'e, 'e, 'e, 'r, 'e, 'k, 'e, 'e>,
-    pub(crate) limits: Limits,
-    // whether a line writes a lattice
-    pub(crate) lattice: bool,
-    // what lines are worked out with
-    pub(crate) desks: Desks,
+pub struct Charter<'e, 'r, 'k> {
+    pub engine: Engine<'e, 'e, 'e, 'e, 'e, 'r, 'e, 'k, 'e, 'e>,
+    pub limits: Limits,
+    /// Whether a line writes a lattice.
+    pub lattice: bool,
+    /// What lines are worked out with where they are served.
+    pub desks: Desks,
     ghost in_range: { InRange limits },
 }
 
@@ -33,11 +33,14 @@ impl Charter<'_, '_, '_> {
     ghost use Rattle.std.specs.Prelude.{◌≡◌, length, map, IfOk};
     ghost use Rattle.morph_analysis.specs.Lattices.{IsValid};
     ghost use Rattle.morph_analysis.specs.LatticeViews.{lattice_of};
+    ghost use Rattle.type_hierarchy.specs.Decls.{texts};
+    ghost use Rattle.packed_items.specs.Answers.{limits_in};
     ghost use Rattle.line_charts.specs.Texts.{chart_lines, is_refused};
     ghost use Rattle.line_charts.specs.Views.{chart_answer, IsChartNamed};
     ghost use Rattle.engine.specs.Ready.{IsReady};
     ghost use Rattle.engine.specs.Views.{speech_of};
-    ghost use Rattle.line_commands.specs.Inner.Charters.{types_in, IsForestOf, IsReportOf, IsLineOf};
+    ghost use Rattle.line_commands.specs.Charting.{IsChartLine};
+    ghost use Rattle.line_commands.specs.Inner.Charters.{types_in, IsForestOf, IsReportOf};
 
     // The answer to a lattice, by the leaves of its chart.
     fn answer_to(
@@ -93,11 +96,11 @@ impl Charter<'_, '_, '_> {
         }
     }
 
-    // The report on the lattice of the line of this number. One worker fills its chart, so that a desk of one is taken for every line.
-    fn charted<Rt: Wait>(
+    // The report on the lattice of the line of this number. One worker fills its chart.
+    fn charted(
         &self,
-        rt: &Rt,
         alloc: Global,
+        desk: &mut Desk,
         number: u64,
         lattice: &Lattice,
     ) -> Result<Report, NoMemory>
@@ -105,25 +108,25 @@ impl Charter<'_, '_, '_> {
         requires valid { IsValid (lattice_of lattice.now) }
         ensures { IfOk result (λ r. IsReportOf self.now number (lattice_of lattice.now) (map (λ l. l.items) r.lines.items) r.refused) }
     {
-        let mut desk = self.desks.take(rt, alloc, Share::Single);
-        let answer = self.answer_to(alloc, &mut desk, lattice)?;
-        self.desks.give_back(rt, Share::Single, desk);
+        let answer = self.answer_to(alloc, desk, lattice)?;
         self.reported(alloc, number, &answer)
     }
 
-    /// The report on the line of this number.
-    pub(crate) fn report<Rt: Wait>(
+    /// The report on the line of this number, by one worker, at a desk nothing of which enters into it. It waits for nobody, so this call
+    /// returns.
+    pub fn answer_alone(
         &self,
-        rt: &Rt,
         alloc: Global,
+        desk: &mut Desk,
         number: u64,
         line: &[u8],
     ) -> Result<Report, NoMemory>
         requires ready { IsReady self.now.engine }
-        ensures { IfOk result (λ r. IsLineOf self.now number line.now (map (λ l. l.items) r.lines.items) r.refused) }
+        ensures { IfOk result (λ r. IsChartLine self.now.engine.grammar.now.book.system.types (texts self.now.engine.grammar.now.book.feats.items) (speech_of self.now.engine) (limits_in self.now.limits)
+            self.now.limits.lexical self.now.lattice number line.now (map (λ l. l.items) r.lines.items) r.refused) }
     {
         match lattice_of_line(alloc, line, self.lattice) {
-            Ok(lattice) => self.charted(rt, alloc, number, &lattice),
+            Ok(lattice) => self.charted(alloc, desk, number, &lattice),
             Err(why) => report_of_no_lattice(alloc, number, why),
         }
     }
@@ -150,11 +153,16 @@ impl Answers for Charter<'_, '_, '_> {
         _share: Share,
         _gate: &dyn Gate,
     ) -> Result<Answer, endings::lines::NoMemory> {
-        match self.report(rt, alloc, number, line) {
-            Ok(report) => Ok(Answer {
-                report,
-                note: Vec::new(alloc),
-            }),
+        // (one worker answers a line, whatever its share of them is; a desk at which memory was wanting is let go, with all that it holds)
+        let mut desk = self.desks.take(rt, alloc, Share::Single);
+        match self.answer_alone(alloc, &mut desk, number, line) {
+            Ok(report) => {
+                self.desks.give_back(rt, Share::Single, desk);
+                Ok(Answer {
+                    report,
+                    note: Vec::new(alloc),
+                })
+            }
             Err(_) => Err(endings::lines::NoMemory),
         }
     }

@@ -38,18 +38,19 @@ fn report_of_no_tree(alloc: Global, number: u64, at: u32) -> Result<Report, NoMe
 
 /// What tells of the tree that a line writes whether a grammar licenses it, and if not, why not.
 #[derive(Drop)]
-pub(crate) struct Explainer<'e, 'r, 'k> {
-    pub(crate) engine: Engine<'e, 'e, 'e, 'e, 'e, 'r, 'e, 'k, 'e, 'e>,
-    // what trees are written over: the names of the grammar's instances
-    pub(crate) names: TreeNames,
-    // whether a licensed tree is followed by its MRS
-    pub(crate) mrs: bool,
-    // what lines are worked out with
-    pub(crate) desks: Desks,
+pub struct Explainer<'e, 'r, 'k> {
+    pub engine: Engine<'e, 'e, 'e, 'e, 'e, 'r, 'e, 'k, 'e, 'e>,
+    /// What trees are written over: the names of the grammar's instances.
+    pub names: TreeNames,
+    /// Whether a licensed tree is followed by its MRS.
+    pub mrs: bool,
+    /// What lines are worked out with where they are served.
+    pub desks: Desks,
 }
 
 impl Explainer<'_, '_, '_> {
     ghost use Rattle.std.specs.Prelude.{◌≡◌, ◌&&◌, not, map, IfOk};
+    ghost use Rattle.type_hierarchy.specs.Decls.{texts};
     ghost use Rattle.derivation.specs.Views.{derivation_of};
     ghost use Rattle.tree_model.specs.Structures.{Structure};
     ghost use Rattle.tree_model.specs.Trees.{Full};
@@ -60,10 +61,12 @@ impl Explainer<'_, '_, '_> {
     ghost use Rattle.mrs_lines.specs.Lines.{IsMrsLine};
     ghost use Rattle.engine.specs.Ready.{IsReady};
     ghost use Rattle.engine.specs.Views.{speech_of};
-    ghost use Rattle.line_commands.specs.Inner.Explainers.{IsReadyToExplain, IsToldOf, HasNames, line_told, AreLinesOf, IsReportOn, IsLineOf};
+    ghost use Rattle.line_commands.specs.Explaining.{IsExplainLine};
+    ghost use Rattle.line_commands.specs.Views.{IsReadyToExplain};
+    ghost use Rattle.line_commands.specs.Inner.Explainers.{IsToldOf, HasNames, line_told, AreLinesOf, IsReportOn};
 
-    // An explainer by an engine that is ready, whose trees are written over the names of its instances, is ready.
-    pub(crate) fn made(&self)
+    /// An explainer by an engine that is ready, whose trees are written over the names of its instances, is ready.
+    pub fn made(&self)
         requires ready { IsReady self.now.engine }
         requires names { self.now.names ≡ tree_grammar (speech_of self.now.engine).signs (speech_of self.now.engine).names }
         ensures { IsReadyToExplain self.now }
@@ -188,37 +191,21 @@ impl Explainer<'_, '_, '_> {
         Ok(Report { lines, refused })
     }
 
-    // The same at a desk of one worker, which is taken for every line.
-    fn reported<Rt: Wait>(
+    /// The report on the line of this number, by one worker, with a scratch nothing of which enters into it. It waits for nobody, so this
+    /// call returns.
+    pub fn answer_alone(
         &self,
-        rt: &Rt,
         alloc: Global,
-        number: u64,
-        tree: &Tree,
-    ) -> Result<Report, NoMemory>
-        requires ready { IsReadyToExplain self.now }
-        requires over { IsOver self.now.names (derivation_of tree.now) }
-        ensures { IfOk result (λ r. IsReportOn self.now number (derivation_of tree.now) (map (λ l. l.items) r.lines.items) r.refused) }
-    {
-        let mut desk = self.desks.take(rt, alloc, Share::Single);
-        let report = self.report_on(alloc, &mut desk.work.trees, number, tree);
-        self.desks.give_back(rt, Share::Single, desk);
-        report
-    }
-
-    /// The report on the line of this number.
-    pub(crate) fn report<Rt: Wait>(
-        &self,
-        rt: &Rt,
-        alloc: Global,
+        work: &mut Scratch,
         number: u64,
         line: &[u8],
     ) -> Result<Report, NoMemory>
         requires ready { IsReadyToExplain self.now }
-        ensures { IfOk result (λ r. IsLineOf self.now number line.now (map (λ l. l.items) r.lines.items) r.refused) }
+        ensures { IfOk result (λ r. IsExplainLine self.now.engine.grammar.now.book.system.types (texts self.now.engine.grammar.now.book.feats.items) (speech_of self.now.engine) self.now.mrs
+            number line.now (map (λ l. l.items) r.lines.items) r.refused) }
     {
         match tree_of_line(alloc, &self.names, line) {
-            Ok(tree) => self.reported(rt, alloc, number, &tree),
+            Ok(tree) => self.report_on(alloc, work, number, &tree),
             Err(TreeFault::At { at }) => report_of_no_tree(alloc, number, at),
             Err(TreeFault::NoMemory) => Err(NoMemory),
         }
@@ -226,7 +213,8 @@ impl Explainer<'_, '_, '_> {
 }
 
 impl Answers for Explainer<'_, '_, '_> {
-    ghost use Rattle.line_commands.specs.Inner.Explainers.{IsReadyToExplain, IsLineOf};
+    ghost use Rattle.line_commands.specs.Views.{IsReadyToExplain};
+    ghost use Rattle.line_commands.specs.Inner.Explainers.{IsLineOf};
 
     ghost ready = { λ x. IsReadyToExplain x };
 
@@ -245,11 +233,16 @@ impl Answers for Explainer<'_, '_, '_> {
         _share: Share,
         _gate: &dyn Gate,
     ) -> Result<Answer, endings::lines::NoMemory> {
-        match self.report(rt, alloc, number, line) {
-            Ok(report) => Ok(Answer {
-                report,
-                note: Vec::new(alloc),
-            }),
+        // (one worker answers a line, whatever its share of them is; a desk at which memory was wanting is let go, with all that it holds)
+        let mut desk = self.desks.take(rt, alloc, Share::Single);
+        match self.answer_alone(alloc, &mut desk.work.trees, number, line) {
+            Ok(report) => {
+                self.desks.give_back(rt, Share::Single, desk);
+                Ok(Answer {
+                    report,
+                    note: Vec::new(alloc),
+                })
+            }
             Err(_) => Err(endings::lines::NoMemory),
         }
     }

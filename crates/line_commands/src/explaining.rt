@@ -16,6 +16,7 @@ use crate::explainer::Explainer;
 use book_signs::laws::whole_book;
 use command_files::load_grammar;
 use endings::lines::serve;
+use endings::pieces::flush_at_stop;
 use endings::{Fault, Stop};
 use engine::desks::Desks;
 use engine::{Engine, Use, with_engine};
@@ -72,6 +73,7 @@ impl<I: Source, O: Sink, X> Use<I, O, X> for Explaining {
         gate: &dyn Gate,
     ) -> Result<bool, Stop> {
         let Ok(names) = tree_names(alloc, engine.grammar, engine.signs) else {
+            flush_at_stop(b);
             return Err(Stop::NoMemory);
         };
         let explainer = Explainer {

@@ -13,7 +13,10 @@ mod parsing;
 mod reports;
 mod trees;
 
+pub use answering::Parser;
+pub use charter::Charter;
 pub use charting::{Chart, chart_lines};
+pub use explainer::Explainer;
 pub use explaining::{Explain, explain_lines};
 pub use parsing::{Parse, parse_lines};
 pub use std::alloc::AllocError as NoMemory;

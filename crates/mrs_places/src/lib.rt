@@ -1,4 +1,4 @@
-//! Where the parts of an MRS stand in a structure (Copestake, Flickinger, Pollard and Sag 2005).
+//! What the settings of a grammar say of MRSs, and where the parts of an MRS stand in a structure (Copestake, Flickinger, Pollard and Sag 2005).
 #![tactic(auto)]
 
 mod laws;

@@ -1,4 +1,4 @@
-//! SimpleMRS: MRSs as texts.
+//! SimpleMRS: MRSs as texts, and what these texts mean.
 #![tactic(auto)]
 
 mod laws;

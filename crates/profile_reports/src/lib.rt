@@ -1,4 +1,4 @@
-//! What is found of the items of a profile, and the report on it.
+//! The items of a profile, what is found of them, and the report on it.
 #![tactic(auto)]
 
 mod compare;

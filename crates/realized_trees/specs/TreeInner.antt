@@ -1,4 +1,4 @@
--- What stands between one function of this crate and the next.
+-- What stands between one function of the sentences and the next.
 use Rattle.std.specs.Prelude.{Bool, Option, None, Some, List, [], ◌∷◌, String}
 use Rattle.std.specs.List.{flat_map}
 use Rattle.std.specs.List.Sorted.{IsPermutation, IsSortedBy, IsStableBy}

@@ -1,4 +1,5 @@
-//! The full structures of trees over the leaves of generation, and which of them realize an MRS (Copestake 2002; Carroll, Copestake,
+//! The full structures of trees over the leaves of generation, which of them realize an MRS, what may be dropped on the way, and the texts
+//! of trees (Copestake 2002; Carroll, Copestake,
 //! Flickinger and Poznanski 1999).
 #![tactic(auto)]
 

@@ -1,4 +1,4 @@
-//! The command `self-test`: the lines of a workload are parsed with the workload's grammar, and the answers summed up.
+//! The command `self-test`: the lines of a workload are parsed with the workload's grammar, and the answers summed up; the workload, and what is counted.
 #![tactic(auto)]
 
 mod command;

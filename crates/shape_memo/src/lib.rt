@@ -1,4 +1,4 @@
-//! Shapes of a chart that remember what was asked of them (Oepen and Carroll 2000: most of the time of a chart goes into
+//! Shapes of a chart that remember what was asked of them, and ask sieves before anything is unified (Oepen and Carroll 2000: most of the time of a chart goes into
 //! unification, and most of its tuples of daughters are alike).
 #![tactic(auto)]
 

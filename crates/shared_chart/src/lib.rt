@@ -1,4 +1,4 @@
-//! A chart that many workers share: the core of a chart behind a turn lock, with one history of all calls.
+//! A chart that many workers share: the core of a chart behind a lock with turns, with one history of all calls.
 #![tactic(auto)]
 
 pub use chart::{Call, Chart};

@@ -1,4 +1,4 @@
-//! Transfer of MRSs: rules, where they apply, and what they make of an MRS.
+//! Transfer of MRSs: rules, where they apply, and what they make of an MRS; and the laws of it.
 //!
 //! Rules of transfer with CONTEXT, INPUT, FILTER and OUTPUT: Oepen et al. 2004; MRSs: Copestake, Flickinger, Pollard and Sag 2005.
 #![tactic(auto)]

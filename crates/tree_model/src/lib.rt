@@ -1,4 +1,5 @@
-//! Items over any covers: the trees that are asked for, and the answer, over trees alone.
+//! Trees of a grammar over any covers, and the answer to an item; what rules make of their daughters; the readings of a finished chart,
+//! and their counts.
 //!
 //! Trees of a typed feature structure grammar: Copestake 2002. Packing by subsumption: Oepen and Carroll 2000.
 #![tactic(auto)]

@@ -1,4 +1,4 @@
-//! A gate that holds the worker that comes first, at its first task, until another worker has come with a task. Tests show by it that two
+//! A gate that holds the worker that comes first, at its first task, until another worker has come with a task. Programs of rows show by it that two
 //! workers are at work at once.
 
 use crate::Gate;

@@ -5,17 +5,11 @@ use Rattle.tree_faults.specs.Explained.{Explained, IsExplained}
 use Rattle.tree_faults.specs.Views.{IsExplainedNamed}
 use Rattle.tree_faults.specs.Texts.{explained_line, is_refused}
 use Rattle.tree_faults.specs.Lines.{Tree}
-use Rattle.tree_names.specs.TreeGrammars.{tree_grammar}
-use Rattle.engine.specs.Ready.{IsReady}
 use Rattle.engine.specs.Views.{speech_of}
+pub use Rattle.line_commands.specs.Views.{IsReadyToExplain}
 use Rattle.line_commands.specs.Explaining.{IsFollowedBy, IsExplainLine}
 use Rattle.line_commands.specs.Inner.Charters.{types_in, feats_in}
 use Rattle.line_commands.specs.declared.explainer.Explainer.{Explainer}
-
--- Its engine is ready, and its trees are written over the names of the engine's instances.
-pub record IsReadyToExplain (x : Explainer) : Type 0 where
-  pub engine : IsReady x.engine
-  pub names : x.names ≡ tree_grammar (speech_of x.engine).signs (speech_of x.engine).names
 
 -- what is told of a tree
 abbrev pub IsToldOf : Explainer → Derivation → Explained → Type 0

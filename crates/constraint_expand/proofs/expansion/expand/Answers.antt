@@ -4,7 +4,11 @@ use Rattle.constraint_expand.specs.declared.books.Book.{Book}
 use Rattle.grammar_files.specs.declared.expand_fault.ExpandFault.TheVariants.{NoMemory}
 use Rattle.grammar_files.specs.Placings.{placed_of}
 use Rattle.constraint_expand.specs.Introducers.{numbers_of}
-use Rattle.constraint_expand.specs.Systems.{settled_of, IsSystemOf}
+use Rattle.fs_model.specs.Claims.{IsBare}
+use Rattle.fs_unify.specs.Rules.{Grammar, IsGrammar, system_of}
+use Rattle.constraint_expand.specs.Systems.{settled_of, words_of, IsSystemOf}
+use Rattle.constraint_expand.specs.Books.{AreConstraints}
+use Rattle.constraint_expand.specs.Shaped.{IsFaultyAmongInstances}
 use Rattle.constraint_expand.specs.Faults.{IsFaultOf}
 use Rattle.constraint_expand.specs.Found.{IsIntroduced}
 use Rattle.constraint_expand.proofs.FirstLemmas.{placed_within}
@@ -49,7 +53,11 @@ instances_with-requires-clause-within c = λ k lt d.
     let sys = c.in_ok-system.ensures.system in
     let again = texts c.deref-2.result.now in
     let sys' = subst (λ (l : List Name). IsSystemOf types s ps l g) (ap texts (c.deref.ensures.value ∙ sym c.deref-2.ensures.value)) sys in
-    all_in_range types s ps again g c.requires sys' c.in_ok-system.ensures.counts k (placed_within c.args.statements.now k lt) d
+    let known = subst (IsSystemOf types s ps again) (sym c.in_ok-constraints.ensures.same) sys' in
+    all_in_range types s ps again c.constraints_of.new.system c.requires known c.in_ok-system.ensures.counts k (placed_within c.args.statements.now k lt) d
+
+pub instances_with-requires-clause-bare : goal.instances_with-requires-clause-bare
+instances_with-requires-clause-bare c = subst (λ (g : Grammar). IsBare (system_of g)) (sym c.in_ok-constraints.ensures.same) c.in_ok-system.ensures.bare
 
 pub returns-in_err-feats-clause-fault : goal.returns-in_err-feats-clause-fault
 returns-in_err-feats-clause-fault c =
@@ -80,8 +88,9 @@ returns-in_err-instances-clause-fault c =
     let again = texts c.deref-2.result.now in
     let sys' = subst (λ (l : List Name). IsSystemOf types s ps l g) (ap texts (c.deref.ensures.value ∙ sym c.deref-2.ensures.value)) sys in
     let e = c.in_err-instances.field-0.0 in
+    let fault = subst (λ (h : Grammar). IsFaultyAmongInstances h (words_of h.types s.lists again) ps e) c.in_ok-constraints.ensures.same c.in_err-instances.ensures.fault in
     at_exit (IsFaultOf types s ps) c.from_residual-in_err-instances.result e c.from_residual-in_err-instances.ensures.1
-    (fault_of_instances types s ps again g c.requires sys' e c.in_ok-feats.ensures.introduced.known c.in_ok-constraints.ensures.all c.in_err-instances.ensures.fault)
+    (fault_of_instances types s ps again g c.requires sys' e c.in_ok-feats.ensures.introduced.known c.in_ok-constraints.ensures.all fault)
 
 pub returns-in_err-names-clause-fault : goal.returns-in_err-names-clause-fault
 returns-in_err-names-clause-fault c =
@@ -90,8 +99,13 @@ returns-in_err-names-clause-fault c =
 
 pub returns-clause-book : goal.returns-clause-book
 returns-clause-book c =
+    let types = c.args.types in
+    let s = settled_of c.args.names.now in
+    let ps = map placed_of c.args.statements.now in
+    let feats = texts c.deref.result.now in
+    let back = sym c.in_ok-constraints.ensures.same in
     let b : Book = record {
-      system = c.in_ok-system.system;
+      system = c.constraints_of.new.system;
       constraints = c.in_ok-constraints.constraints;
       feats = c.in_ok-feats.field-0.feats;
       instances = c.in_ok-instances.instances;
@@ -99,5 +113,7 @@ returns-clause-book c =
     } in
     book_is c.args.types (settled_of c.args.names.now) (map placed_of c.args.statements.now) b (texts c.deref.result.now) (texts c.deref-2.result.now)
     (texts c.deref-3.result.now) c.types-2.result.now (ap texts c.deref.ensures.value) (ap texts c.deref-2.ensures.value) (ap texts c.deref-3.ensures.value) c.types-2.ensures
-    c.in_ok-feats.ensures.introduced.known c.in_ok-system.ensures.system c.in_ok-system.ensures.in_range c.in_ok-system.ensures.bare
-    c.in_ok-constraints.ensures.constraints c.in_ok-instances.ensures.instances c.in_ok-names.ensures
+    c.in_ok-feats.ensures.introduced.known (subst (IsSystemOf types s ps feats) back c.in_ok-system.ensures.system) (subst IsGrammar back c.in_ok-system.ensures.in_range)
+    (subst (λ (g : Grammar). IsBare (system_of g)) back c.in_ok-system.ensures.bare)
+    (subst (λ (g : Grammar). AreConstraints g c.in_ok-constraints.constraints.items) back c.in_ok-constraints.ensures.constraints)
+    c.in_ok-instances.ensures.instances c.in_ok-names.ensures

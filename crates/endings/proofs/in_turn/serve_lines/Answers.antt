@@ -39,8 +39,8 @@ loop-count-init g c = record {
   no_fall_out = omega arith;
 }
 
-pub returns-in_err-flush_before_read : goal.returns-in_err-flush_before_read
-returns-in_err-flush_before_read g c =
+pub returns-in_err-flush_before_read-clause-ends : goal.returns-in_err-flush_before_read-clause-ends
+returns-in_err-flush_before_read-clause-ends g c =
     let p = err_from_is_err_and c.from_residual.result c.from_residual.ensures.1 in
     let o : Streams = streams g.I.Source.left g.I.Source.faults g.O.Sink.written g.O.Sink.flushed g.O.Sink.faults c.args.input.now c.loop-count.input c.args.out.now c.flush_before_read.new.out in
     let answers = g.C.Answers.IsAnswer c.args.command.now in
@@ -52,8 +52,8 @@ returns-in_err-flush_before_read g c =
     let s : Ends (Told answers w) o (Err Write) = (at-nothing (Told answers w) o (g.O.Sink.written c.loop-count.out) held.bytes r.0 r.1 c.loop-count.refused (so_far-either o.left_old o.left_new held.bytes held.ended r.0 r.2) r.3 r.4 c.in_err-flush_before_read.ensures.same, omega (arith, risen, below)) in
     subst (Ended answers o w) (sym (p.1 ∙ ap Err p.2)) (stopped answers o w Write s)
 
-pub returns-in_err-batch_refused : goal.returns-in_err-batch_refused
-returns-in_err-batch_refused g c =
+pub returns-in_err-batch_refused-clause-ends : goal.returns-in_err-batch_refused-clause-ends
+returns-in_err-batch_refused-clause-ends g c =
     let w4 = Adds-same (g.O.Sink.written c.args.out.now) (g.O.Sink.written c.loop-count.out) (g.O.Sink.written c.flush_before_read.new.out) (concat c.loop-count.invariant.read.1) c.loop-count.invariant.read.4 c.in_ok-flush_before_read.ensures.same in
     let fb = c.in_ok-flush_before_read.ensures.no_fall in
     let left = g.I.Source.left in
@@ -73,8 +73,8 @@ returns-in_err-batch_refused g c =
     let s = at-batch answers o (written c.flush_before_read.new.out) (g.O.Sink.faults c.flush_before_read.new.out) stop batch r.0 r.1 c.loop-count.refused c.loop-count.kept.wanting c.loop-count.kept.wanting c.serve_batch.new.kept.wanting (c.loop-count.count + 1) some r.3 refl w4 served number (let below = c.loop-count.invariant.no_fall_out in omega (arith, below, fb)) in
     subst (Ended answers o c.serve_batch.new.kept.wanting) (sym p.1) (subst (λ e. Ended answers o c.serve_batch.new.kept.wanting (Err e)) (sym p.2) s)
 
-pub returns-in_err-came : goal.returns-in_err-came
-returns-in_err-came g c =
+pub returns-in_err-came-clause-ends : goal.returns-in_err-came-clause-ends
+returns-in_err-came-clause-ends g c =
     let w4 = Adds-same (g.O.Sink.written c.args.out.now) (g.O.Sink.written c.loop-count.out) (g.O.Sink.written c.flush_before_read.new.out) (concat c.loop-count.invariant.read.1) c.loop-count.invariant.read.4 c.in_ok-flush_before_read.ensures.same in
     let left = g.I.Source.left in
     let faults = g.I.Source.faults in
@@ -97,8 +97,8 @@ returns-in_err-came g c =
     let s = at-read ℕ (Told answers w) o (faults c.loop-count.input) c.read_batch-read.new.held fault (r.0 ++ batch) (r.1 ++ served.0) (c.loop-count.refused || b) gathered report adds c.loop-count.invariant.no_fall_in in
     subst (Ended answers o w) (sym (p.1 ∙ ap Err p.2)) (stopped answers o w (stop_of fault) s)
 
-pub returns-in_err-flush : goal.returns-in_err-flush
-returns-in_err-flush g c =
+pub returns-in_err-flush-clause-ends : goal.returns-in_err-flush-clause-ends
+returns-in_err-flush-clause-ends g c =
     let w4 = Adds-same (g.O.Sink.written c.args.out.now) (g.O.Sink.written c.loop-count.out) (g.O.Sink.written c.flush_before_read.new.out) (concat c.loop-count.invariant.read.1) c.loop-count.invariant.read.4 c.in_ok-flush_before_read.ensures.same in
     let fb = c.in_ok-flush_before_read.ensures.no_fall in
     let fs = c.in_ok-batch_refused.ensures.no_fall in
@@ -127,8 +127,8 @@ returns-in_err-flush g c =
     let s : Ends (Told answers w) o (Err Write) = (at-nothing (Told answers w) o (written c.serve_batch.new.out) [] (r.0 ++ batch) (r.1 ++ served.0) (c.loop-count.refused || b) (inr all) report adds c.in_err-flush.ensures.same, omega (arith, risen, below, fb, fs)) in
     subst (Ended answers o w) (sym (p.1 ∙ ap Err p.2)) (stopped answers o w Write s)
 
-pub returns-then-came-eq0 : goal.returns-then-came-eq0
-returns-then-came-eq0 g c =
+pub returns-then-came-eq0-clause-ends : goal.returns-then-came-eq0-clause-ends
+returns-then-came-eq0-clause-ends g c =
     let w4 = Adds-same (g.O.Sink.written c.args.out.now) (g.O.Sink.written c.loop-count.out) (g.O.Sink.written c.flush_before_read.new.out) (concat c.loop-count.invariant.read.1) c.loop-count.invariant.read.4 c.in_ok-flush_before_read.ensures.same in
     let left = g.I.Source.left in
     let faults = g.I.Source.faults in
@@ -212,8 +212,8 @@ loop-count-preserved g c =
       no_fall_out = omega (arith, no, mo, fb);
     }
 
-pub returns : goal.returns
-returns g c =
+pub returns-clause-ends : goal.returns-clause-ends
+returns-clause-ends g c =
     let r = c.loop-count.invariant.read in
     let held = c.loop-count.held in
     let t = c.loop-count-test.false in

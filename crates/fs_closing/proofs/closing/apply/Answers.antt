@@ -64,4 +64,4 @@ returns-in_ok-ok-in-Some-2-clause-more c = λ _.
     let g = c.args.system.now in
     let r = reaches_by g c.args.nodes.now c.args.tasks.now c.args.node c.deref-in-Below.result.now c.in-Below.path.items c.reach-in-Below.new.nodes
     c.reach-in-Below.new.tasks _ _ c.deref-in-Below.ensures.value c.in-Some-2.is c.in_ok-at-in-Below.ensures in
-    omega (arith, r.3, c.in_ok-ok-in-Some-2.ensures.arcs.size)
+    omega (arith, r.3, c.in_ok-ok-in-Some-2.ensures.more)

@@ -7,17 +7,17 @@ use Rattle.fs_closing.proofs.closing.step.Goals as goal
 pub returns-in-true : goal.returns-in-true
 returns-in-true c =
     let g = c.args.system.now in
-    let r = subst (StepsTo g c.args.nodes.now (pair_claim c.in-Some.pair ∷ work_of g.rules c.pop_pair.new.self) c.step_pair.new.nodes c.step_pair.new.tasks)
-    c.in-true.is c.in_ok-step_pair.ensures in
-    stepped g c.args.nodes.now c.args.tasks.now c.args.tasks.now c.pop_pair.new.self (pair_claim c.in-Some.pair ∷ []) c.step_pair.new.nodes c.step_pair.new.tasks true
+    let r = subst (StepsTo g c.args.nodes.now (pair_claim c.in-Some.pair ∷ work_of g.rules c.pop_pair.new.self) c.join.new.nodes c.join.new.tasks)
+    c.in-true.is c.in_ok-join.ensures.steps in
+    stepped g c.args.nodes.now c.args.tasks.now c.args.tasks.now c.pop_pair.new.self (pair_claim c.in-Some.pair ∷ []) c.join.new.nodes c.join.new.tasks true
     refl (c.in-Some.ensures.0.work g.rules) r
 
 pub returns-in-false : goal.returns-in-false
 returns-in-false c =
     let g = c.args.system.now in
-    let r = subst (StepsTo g c.args.nodes.now (pair_claim c.in-Some.pair ∷ work_of g.rules c.pop_pair.new.self) c.step_pair.new.nodes c.step_pair.new.tasks)
-    c.in-false.is c.in_ok-step_pair.ensures in
-    stepped g c.args.nodes.now c.args.tasks.now c.args.tasks.now c.pop_pair.new.self (pair_claim c.in-Some.pair ∷ []) c.step_pair.new.nodes c.step_pair.new.tasks false
+    let r = subst (StepsTo g c.args.nodes.now (pair_claim c.in-Some.pair ∷ work_of g.rules c.pop_pair.new.self) c.join.new.nodes c.join.new.tasks)
+    c.in-false.is c.in_ok-join.ensures.steps in
+    stepped g c.args.nodes.now c.args.tasks.now c.args.tasks.now c.pop_pair.new.self (pair_claim c.in-Some.pair ∷ []) c.join.new.nodes c.join.new.tasks false
     refl (c.in-Some.ensures.0.work g.rules) r
 
 pub returns-in-true-2 : goal.returns-in-true-2

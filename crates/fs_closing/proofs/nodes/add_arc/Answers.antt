@@ -2,7 +2,7 @@ use Rattle.std.proofs.Common.{◌≡◌, ◌<◌, ◌+◌, ◌^◌, ◌∷◌, [
 use Rattle.std.proofs.lemmas.List.{length-append}
 use Rattle.fs_closing.specs.declared.cells.Cell.{Cell}
 use Rattle.fs_closing.specs.Marked.{written_at, type_by, depth_by}
-use Rattle.fs_closing.specs.NodeTable.{at_of, own_type, own_row, AreWhole, AreWithin}
+use Rattle.fs_closing.specs.NodeTable.{at_of, own_type, own_depth, own_row, AreWhole, AreWithin}
 use Rattle.fs_closing.proofs.ChainLemmas.{chain-push_old}
 use Rattle.fs_closing.proofs.MarkLemmas.{read_same, live_linked, table_linked, whole_linked, within_linked}
 use Rattle.fs_closing.proofs.nodes.add_arc.Goals as goal
@@ -58,6 +58,6 @@ returns-clause-keeps c =
         more = omega (arith, ap length c.in_ok-push.ensures, length-append c.args.nodes.now.cells (cell ∷ []));
         chains = λ place h. rw c.in_ok-push.ensures (chain-push_old c.args.nodes.now.cells cell place h);
       };
-      depths = read_same (at_of nodes) (written_at c.write.new.self) c.args.n _ c.write.ensures.here c.write.ensures.others (λ _. depth_by)
+      depths = read_same (at_of nodes) (written_at c.write.new.self) c.args.n _ c.write.ensures.here c.write.ensures.others (λ k. depth_by (own_depth nodes k))
           (ap (λ w. w.depth) stood);
     }

@@ -1,6 +1,6 @@
 use Rattle.std.proofs.Common.{◌<◌, ◌+◌, ◌^◌, refl, ◌∙◌, ap, arith}
 use Rattle.fs_closing.specs.Marked.{written_at, depth_by}
-use Rattle.fs_closing.specs.NodeTable.{at_of, own_type, own_row}
+use Rattle.fs_closing.specs.NodeTable.{at_of, own_type, own_depth, own_row}
 use Rattle.fs_closing.proofs.WiderLemmas.{table_added, whole_added, within_added}
 use Rattle.fs_closing.proofs.nodes.add_node.Goals as goal
 
@@ -32,6 +32,6 @@ returns-clause-within c = λ types feats low old.
 
 pub returns-clause-depths : goal.returns-clause-depths
 returns-clause-depths c = record {
-  others = λ k e. ap depth_by (c.write.ensures.others k e ∙ c.in_ok-widen.ensures.kept k);
-  here = ap depth_by c.write.ensures.here;
+  others = λ k e. ap (depth_by (own_depth c.args.nodes.now k)) (c.write.ensures.others k e ∙ c.in_ok-widen.ensures.kept k);
+  here = ap (depth_by (own_depth c.args.nodes.now c.args.nodes.now.size)) c.write.ensures.here;
 }

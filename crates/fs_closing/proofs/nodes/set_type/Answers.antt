@@ -1,6 +1,6 @@
 use Rattle.std.proofs.Common.{refl, ap, arith}
 use Rattle.fs_closing.specs.Marked.{written_at, depth_by}
-use Rattle.fs_closing.specs.NodeTable.{at_of, own_type, own_row}
+use Rattle.fs_closing.specs.NodeTable.{at_of, own_type, own_depth, own_row}
 use Rattle.fs_closing.proofs.MarkLemmas.{read_same, live_retyped, table_retyped, whole_retyped, within_retyped}
 use Rattle.fs_closing.proofs.nodes.set_type.Goals as goal
 
@@ -42,6 +42,6 @@ returns-clause-keeps c =
         more = omega arith;
         chains = λ place h. refl;
       };
-      depths = read_same (at_of nodes) (written_at c.write.new.self) c.args.n _ c.write.ensures.here c.write.ensures.others (λ _. depth_by)
+      depths = read_same (at_of nodes) (written_at c.write.new.self) c.args.n _ c.write.ensures.here c.write.ensures.others (λ k. depth_by (own_depth nodes k))
           (ap (λ w. w.depth) stood);
     }

@@ -1,6 +1,6 @@
 use Rattle.std.proofs.Common.{◌≡◌, ◌+◌, suc, refl, ap, arith}
 use Rattle.fs_closing.specs.Marked.{written_at, depth_by}
-use Rattle.fs_closing.specs.NodeTable.{at_of, own_type, own_row}
+use Rattle.fs_closing.specs.NodeTable.{at_of, own_type, own_depth, own_row}
 use Rattle.fs_closing.proofs.MarkLemmas.{same_after, table_united, whole_united, within_united}
 use Rattle.fs_closing.proofs.nodes.unite.Goals as goal
 
@@ -53,7 +53,7 @@ returns-clause-depths c =
     same_after (at_of nodes) (written_at c.write.new.self) (written_at c.write-2.new.self) (own_type nodes) (own_row nodes) nodes.cells nodes.merges nodes.size
     c.requires.whole.stands c.args.a c.args.b _ _ c.requires.a_in c.requires.b_in c.requires.apart c.requires.no_root c.requires.a_stays c.requires.b_stays
     c.write.ensures.here c.write.ensures.others c.write-2.ensures.here c.write-2.ensures.others
-    refl (ap (λ w. w.ty) b) (ap (λ w. w.first) b) (ap (λ w. w.forward) a) (ap (λ w. w.first) a) (λ _. depth_by) (ap (λ w. w.depth) a) (ap (λ w. w.depth) b)
+    refl (ap (λ w. w.ty) b) (ap (λ w. w.first) b) (ap (λ w. w.forward) a) (ap (λ w. w.first) a) (λ k. depth_by (own_depth nodes k)) (ap (λ w. w.depth) a) (ap (λ w. w.depth) b)
 
 pub returns-clause-own : goal.returns-clause-own
 returns-clause-own c = λ k. refl

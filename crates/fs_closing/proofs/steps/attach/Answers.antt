@@ -25,14 +25,14 @@ returns-clause-steps c =
     let none : None ≡ (table_of c.args.nodes.now).arc c.args.n c.args.feat = cc (c.in_default.is, c.in_default.ensures.value) in
     let leads = attach_linked (system_of g) (deep_of c.args.nodes.now) (deep_of c.add_arc.new.nodes) c.args.n c.args.feat c.args.to
     work c.requires.stays none c.in_ok-add_arc.ensures.links c.in_ok-add_arc.ensures.keeps.depths in
-    steps_after g c.args.nodes.now c.add_arc.new.nodes c.put_under.new.nodes (is_same c.args.n (c.args.feat ∷ []) c.args.to [] ∷ work)
-    (is_under c.args.n [] c.introducer-introducer.result ∷ work) c.put_under.new.tasks c.in_ok-ok.ok
+    steps_after g c.args.nodes.now c.add_arc.new.nodes c.bound.new.nodes (is_same c.args.n (c.args.feat ∷ []) c.args.to [] ∷ work)
+    (is_under c.args.n [] c.introducer-introducer.result ∷ work) c.bound.new.tasks c.in_ok-ok.ok
     (subst (λ i. Leads g c.args.nodes.now (is_same c.args.n (c.args.feat ∷ []) c.args.to [] ∷ work) c.add_arc.new.nodes (is_under c.args.n [] i ∷ work))
     (sym c.introducer-introducer.ensures.value) leads) c.in_ok-ok.ensures.steps
 
 pub returns-clause-arcs : goal.returns-clause-arcs
 returns-clause-arcs c =
-    keeps_after c.args.nodes.now c.add_arc.new.nodes c.put_under.new.nodes c.in_ok-add_arc.ensures.keeps.arcs c.in_ok-ok.ensures.arcs
+    keeps_after c.args.nodes.now c.add_arc.new.nodes c.bound.new.nodes c.in_ok-add_arc.ensures.keeps.arcs c.in_ok-ok.ensures.arcs
 
 pub returns-in-Some-clause-arcs : goal.returns-in-Some-clause-arcs
 returns-in-Some-clause-arcs c = keeps_none c.args.nodes.now

@@ -22,8 +22,8 @@ attach_own-requires-clause-sound c =
     let work = arc_claims c.args.n (chain nodes.cells c.args.first) ++ work_of g.rules c.args.tasks.now in
     (subst (StepsTo g nodes work c.attach_cells.new.nodes c.attach_cells.new.tasks) c.in-true.is c.in_ok-attach_cells.ensures.steps).1
 
-pub returns-in_ok-ok-in-true : goal.returns-in_ok-ok-in-true
-returns-in_ok-ok-in-true c =
+pub returns-in_ok-ok-in-true-clause-steps : goal.returns-in_ok-ok-in-true-clause-steps
+returns-in_ok-ok-in-true-clause-steps c =
     let g = c.args.system.now in
     let nodes = c.args.nodes.now in
     let n = c.args.n in
@@ -36,10 +36,10 @@ returns-in_ok-ok-in-true c =
     steps_after g nodes c.attach_cells.new.nodes c.attach_own.new.nodes (arc_claims n (added ++ own) ++ work) (arc_claims n own ++ work_of g.rules c.attach_cells.new.tasks)
     c.attach_own.new.tasks c.in_ok-ok-in-true.ok start
     (subst (λ l. StepsTo g c.attach_cells.new.nodes (arc_claims n l ++ work_of g.rules c.attach_cells.new.tasks)
-    c.attach_own.new.nodes c.attach_own.new.tasks c.in_ok-ok-in-true.ok) (c.in_ok-attach_cells.ensures.arcs.own c.args.of) c.in_ok-ok-in-true.ensures)
+    c.attach_own.new.nodes c.attach_own.new.tasks c.in_ok-ok-in-true.ok) (c.in_ok-attach_cells.ensures.arcs.own c.args.of) c.in_ok-ok-in-true.ensures.steps)
 
-pub returns-in-false : goal.returns-in-false
-returns-in-false c =
+pub returns-in-false-clause-steps : goal.returns-in-false-clause-steps
+returns-in-false-clause-steps c =
     let g = c.args.system.now in
     let nodes = c.args.nodes.now in
     let n = c.args.n in
@@ -48,3 +48,9 @@ returns-in-false c =
     let work = work_of g.rules c.args.tasks.now in
     let one = subst (StepsTo g nodes (arc_claims n added ++ work) c.attach_cells.new.nodes c.attach_cells.new.tasks) c.in-false.is c.in_ok-attach_cells.ensures.steps in
     subst (λ l. Clashes g nodes (l ++ work)) (sym (claims_append n added own)) (rest_clashes g nodes (arc_claims n added) (arc_claims n own) work one)
+
+pub returns-in_ok-ok-in-true-clause-size : goal.returns-in_ok-ok-in-true-clause-size
+returns-in_ok-ok-in-true-clause-size c = c.in_ok-ok-in-true.ensures.size ∙ c.in_ok-attach_cells.ensures.arcs.size
+
+pub returns-in-false-clause-size : goal.returns-in-false-clause-size
+returns-in-false-clause-size c = c.in_ok-attach_cells.ensures.arcs.size

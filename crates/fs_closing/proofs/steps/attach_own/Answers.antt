@@ -42,6 +42,7 @@ loop-i-init c =
       leads = subst (λ l. Turns s (deep_of c.args.nodes.now) (arc_claims c.args.n row ++ work) (deep_of c.args.nodes.now) (l ++ work)) (sym (claims_all c.args.n row))
           (Turns-none s (deep_of c.args.nodes.now) (arc_claims c.args.n row ++ work));
       sound = c.requires.sound;
+      size = refl;
       node = c.requires.node;
       of_in = c.requires.of_in;
       own = refl;
@@ -67,14 +68,15 @@ loop-i-preserved c =
     record {
       leads = turn_one s (deep_of c.args.nodes.now) (deep_of c.loop-i.nodes) (deep_of c.attach.new.nodes) start _ _ _ _ before step.0;
       sound = step.1;
+      size = arcs.size ∙ c.loop-i.invariant.size;
       node = omega (arith, arcs.size, c.loop-i.invariant.node);
       of_in = omega (arith, arcs.size, c.loop-i.invariant.of_in);
       own = arcs.own c.args.of ∙ c.loop-i.invariant.own;
       stays = arcs.live n ∙ c.loop-i.invariant.stays;
     }
 
-pub returns-in-false : goal.returns-in-false
-returns-in-false c =
+pub returns-in-false-clause-steps : goal.returns-in-false-clause-steps
+returns-in-false-clause-steps c =
     let s = system_of c.args.system.now in
     let n = c.args.n in
     let row = own_row c.args.nodes.now c.args.of in
@@ -91,8 +93,8 @@ returns-in-false c =
     (subst (StepsTo c.args.system.now c.loop-i.nodes (is_same n (cell.feat ∷ []) cell.to [] ∷ work) c.attach.new.nodes c.attach.new.tasks)
     c.in-false.is c.in_ok-attach.ensures.steps)
 
-pub returns : goal.returns
-returns c =
+pub returns-clause-steps : goal.returns-clause-steps
+returns-clause-steps c =
     let s = system_of c.args.system.now in
     let row = own_row c.args.nodes.now c.args.of in
     let start = arc_claims c.args.n row ++ work_of c.args.system.now.rules c.args.tasks.now in
@@ -102,3 +104,9 @@ returns c =
           (claims_none c.args.n c.loop-i.i row past) c.loop-i.invariant.leads,
       c.loop-i.invariant.sound,
     )
+
+pub returns-in-false-clause-size : goal.returns-in-false-clause-size
+returns-in-false-clause-size c = c.in_ok-attach.ensures.arcs.size ∙ c.loop-i.invariant.size
+
+pub returns-clause-size : goal.returns-clause-size
+returns-clause-size c = c.loop-i.invariant.size

@@ -51,8 +51,8 @@ pub attach_all-requires-clause-first_in : goal.attach_all-requires-clause-first_
 attach_all-requires-clause-first_in c =
     omega (arith, c.first_of-first.ensures, c.requires.sound.whole.stands.first_in c.args.b c.requires.b_in, ap length c.unite.ensures.cells)
 
-pub returns-in_default : goal.returns-in_default
-returns-in_default c = λ n m en em.
+pub returns-in_default-clause-steps : goal.returns-in_default-clause-steps
+returns-in_default-clause-steps c = λ n m en em.
     let g = c.args.system.now in
     let a_in = c.requires.a_in in
     let old = c.ty_of-old.ensures in
@@ -62,8 +62,8 @@ returns-in_default c = λ n m en em.
     ∙ ap (meet_of g.types c.ty_of-old.result) (sym other) ∙ sym is in
     Refutes-meet (system_of g) (deep_of c.args.nodes.now) n m c.args.a c.args.b (work_of g.rules c.args.tasks.now) en em none
 
-pub returns : goal.returns
-returns c = λ n m en em.
+pub returns-clause-steps : goal.returns-clause-steps
+returns-clause-steps c = λ n m en em.
     let g = c.args.system.now in
     let s = system_of g in
     let nodes = c.args.nodes.now in
@@ -94,4 +94,7 @@ returns c = λ n m en em.
     ∙ ap (λ l. arc_claims a (chain nodes.cells c.first_of-first.result ++ l) ++ pushed) (c.unite.ensures.own b)
     ∙ ap (λ p. arc_claims a (chain nodes.cells p ++ own_row nodes b) ++ pushed) first in
     steps_after g nodes c.unite.new.nodes c.attach_all.new.nodes (is_same n [] m [] ∷ work) (arc_claims a row ++ pushed) c.attach_all.new.tasks c.in_ok-ok.ok leads
-    (subst (λ l. StepsTo g c.unite.new.nodes l c.attach_all.new.nodes c.attach_all.new.tasks c.in_ok-ok.ok) cells c.in_ok-ok.ensures)
+    (subst (λ l. StepsTo g c.unite.new.nodes l c.attach_all.new.nodes c.attach_all.new.tasks c.in_ok-ok.ok) cells c.in_ok-ok.ensures.steps)
+
+pub returns-clause-size : goal.returns-clause-size
+returns-clause-size c = c.in_ok-ok.ensures.size ∙ c.unite.ensures.unites.size_is

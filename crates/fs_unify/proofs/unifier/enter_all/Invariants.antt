@@ -1,6 +1,5 @@
-use Rattle.std.proofs.Common.{◌≡◌, take}
+use Rattle.std.proofs.Common.{take}
 use Rattle.fs_closing.specs.Keeps.{AreSound}
-use Rattle.fs_unify.specs.Inner.Bases.{end_of}
 use Rattle.fs_unify.specs.Placing.{HasEntered}
 use Rattle.fs_unify.proofs.unifier.enter_all.Given as goal
 
@@ -9,6 +8,4 @@ invariant-loop-i l =
     record {
       entered : HasEntered l.system l.parts (take l.i l.parts) l.offsets.items l.nodes l.tasks;
       sound : AreSound l.system l.nodes l.tasks;
-      lent : l.nodes.parts.now ≡ take l.i l.graphs;
-      size : l.nodes.size ≡ end_of 1 (take l.i l.graphs);
     }

@@ -17,14 +17,11 @@ consistent-answer-requires-clause-order c = order_of_laws c.args.system.now (sub
 
 pub consistent-answer-requires-clause-parts : goal.consistent-answer-requires-clause-parts
 consistent-answer-requires-clause-parts c = λ p h.
-    c.requires.parts (placed p) (subst (Has (placed p)) c.parts.view_is (Has-map placed p c.parts.inside.items.items (subst (Has p) c.deref-2.ensures.value h)))
+    c.requires.parts (placed p) (subst (Has (placed p)) c.parts.view_is (Has-map placed p c.parts.inside.items.items (subst (Has p) c.deref.ensures.value h)))
 
 pub returns-clause-answer : goal.returns-clause-answer
 returns-clause-answer c =
     let g = c.args.system.now in
-    let is : source_in c.deref-2.result.now ≡ source_of c.args.parts.now =
-    source_seen c.deref-2.result.now ∙ ap (λ l. source_of (map placed l)) c.deref-2.ensures.value ∙ ap source_of c.parts.view_is in
+    let is : source_in c.deref.result.now ≡ source_of c.args.parts.now =
+    source_seen c.deref.result.now ∙ ap (λ l. source_of (map placed l)) c.deref.ensures.value ∙ ap source_of c.parts.view_is in
     subst (λ s. IfOk c.consistent-answer.result (λ b. IsTrue b ↔ IsConsistent (system_of g) (Told s))) is c.consistent-answer.ensures
-
-pub consistent-answer-requires-clause-graphs : goal.consistent-answer-requires-clause-graphs
-consistent-answer-requires-clause-graphs c = rw (c.deref-2.ensures.value, c.deref-3.ensures.value) c.parts.invariant.based

@@ -17,14 +17,11 @@ unified-answer-requires-clause-order c = order_of_laws c.args.system.now (subst 
 
 pub unified-answer-requires-clause-parts : goal.unified-answer-requires-clause-parts
 unified-answer-requires-clause-parts c = λ p h.
-    c.requires.parts (placed p) (subst (Has (placed p)) c.parts.view_is (Has-map placed p c.parts.inside.items.items (subst (Has p) c.deref-2.ensures.value h)))
+    c.requires.parts (placed p) (subst (Has (placed p)) c.parts.view_is (Has-map placed p c.parts.inside.items.items (subst (Has p) c.deref.ensures.value h)))
 
 pub returns-clause-answer : goal.returns-clause-answer
 returns-clause-answer c =
     let g = c.args.system.now in
-    let is : source_in c.deref-2.result.now ≡ source_of c.args.parts.now =
-    source_seen c.deref-2.result.now ∙ ap (λ l. source_of (map placed l)) c.deref-2.ensures.value ∙ ap source_of c.parts.view_is in
+    let is : source_in c.deref.result.now ≡ source_of c.args.parts.now =
+    source_seen c.deref.result.now ∙ ap (λ l. source_of (map placed l)) c.deref.ensures.value ∙ ap source_of c.parts.view_is in
     subst (λ s. IfOk c.unified-answer.result (λ o. IsUnified (system_of g) s (option_map reader_of o))) is c.unified-answer.ensures.answer
-
-pub unified-answer-requires-clause-graphs : goal.unified-answer-requires-clause-graphs
-unified-answer-requires-clause-graphs c = rw (c.deref-2.ensures.value, c.deref-3.ensures.value) c.parts.invariant.based

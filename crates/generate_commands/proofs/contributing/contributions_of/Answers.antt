@@ -1,6 +1,6 @@
 use Rattle.std.proofs.Common.{map, subst}
 use Rattle.mrs_places.specs.Paths.{feature_of}
-use Rattle.generate_commands.specs.Inner.Contributing.{AreContributorsOf}
+use Rattle.generate_commands.specs.Contributing.{AreContributorsOf}
 use Rattle.generate_commands.proofs.contributing.contributions_of.Goals as goal
 
 pub contributors_of-requires-clause-paths : goal.contributors_of-requires-clause-paths

@@ -23,14 +23,14 @@ returns-in-Some-clause-structure c =
     let b = c.args.grammar.now.book in
     let is : type_named b.system.types c.args.name.now ≡ Some c.in-Some.ty.0 = sym (c.in-Some.ensures ∙ ap (λ (t : TypeTable). type_named t c.args.name.now) c.types.ensures) in
     let read = constraint-read b c.in-Some.ty.0 c.index.result.now (constraint-bound b c.requires.book c.args.name.now c.in-Some.ty.0 is) c.index.ensures in
-    ap (λ (g : GraphMap). Some g) read ∙ type-found (grammar_of c.args.grammar.now) c.args.name.now c.in-Some.ty.0 is
+    ap (λ (g : GraphMap). Some g) (c.graph.ensures ∙ read) ∙ type-found (grammar_of c.args.grammar.now) c.args.name.now c.in-Some.ty.0 is
 
 pub returns-in-Some-clause-within : goal.returns-in-Some-clause-within
 returns-in-Some-clause-within c =
     let b = c.args.grammar.now.book in
     let is : type_named b.system.types c.args.name.now ≡ Some c.in-Some.ty.0 = sym (c.in-Some.ensures ∙ ap (λ (t : TypeTable). type_named t c.args.name.now) c.types.ensures) in
     let read = constraint-read b c.in-Some.ty.0 c.index.result.now (constraint-bound b c.requires.book c.args.name.now c.in-Some.ty.0 is) c.index.ensures in
-    subst (IsGraphIn (count_of b.system.types) (length b.feats.items)) (sym read) (type-within b c.requires.book c.args.name.now c.in-Some.ty.0 is)
+    subst (IsGraphIn (count_of b.system.types) (length b.feats.items)) (sym (c.graph.ensures ∙ read)) (type-within b c.requires.book c.args.name.now c.in-Some.ty.0 is)
 
 pub index-requires-2 : goal.index-requires-2
 index-requires-2 c =

@@ -3,7 +3,7 @@ use Rattle.grammar_rules.specs.Lines.{AreShapesOf}
 use Rattle.generate_commands.proofs.answering.Generator.answer_to.Goals as goal
 
 pub generate_alone-requires-clause-grammar : goal.generate_alone-requires-clause-grammar
-generate_alone-requires-clause-grammar g c =
+generate_alone-requires-clause-grammar c =
     record {
       shapes = subst (AreShapesOf c.args.self.now.engine.signs.now) (sym c.shapes.ensures) c.requires.ready.engine.shapes;
       contributors = c.requires.ready.contributors;
@@ -12,16 +12,4 @@ generate_alone-requires-clause-grammar g c =
     }
 
 pub generate_alone-requires-clause-limits : goal.generate_alone-requires-clause-limits
-generate_alone-requires-clause-limits g c = c.requires.ready.limits
-
-pub generate-requires-clause-grammar : goal.generate-requires-clause-grammar
-generate-requires-clause-grammar g c κs within =
-    record {
-      shapes = subst (AreShapesOf c.args.self.now.engine.signs.now) (sym c.shapes.ensures) c.requires.ready.engine.shapes;
-      contributors = c.requires.ready.contributors;
-      paths = c.laws.ensures.paths.are;
-      feats = c.laws.ensures.paths.feats;
-    }
-
-pub generate-requires-clause-limits : goal.generate-requires-clause-limits
-generate-requires-clause-limits g c κs within = c.requires.ready.limits
+generate_alone-requires-clause-limits c = c.requires.ready.limits

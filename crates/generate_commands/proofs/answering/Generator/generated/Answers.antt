@@ -7,7 +7,7 @@ use Rattle.engine.proofs.Results.{if-both}
 use Rattle.generate_commands.proofs.answering.Generator.generated.Goals as goal
 
 pub returns : goal.returns
-returns g c =
+returns c =
     let p = c.args.self.now in
     let a = answer_seen c.in_ok-answer.answer in
     if-both c.report_of.result

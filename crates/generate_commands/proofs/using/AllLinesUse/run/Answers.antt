@@ -6,7 +6,7 @@ use Rattle.engine.specs.Views.{speech_of}
 use Rattle.generate_commands.specs.Answers.{IsAnswer}
 use Rattle.generate_commands.specs.Generating.{c_cont_of}
 use Rattle.generate_commands.specs.Views.{bounds_with}
-use Rattle.generate_commands.specs.Inner.Contributing.{AreContributorsOf, speaker_by}
+use Rattle.generate_commands.specs.Contributing.{AreContributorsOf, speaker_by}
 use Rattle.endings.proofs.Exits.{none-served}
 use Rattle.generate_commands.proofs.using.AllLinesUse.run.Goals as goal
 
@@ -33,6 +33,6 @@ returns g c =
 pub returns-in_default : goal.returns-in_default
 returns-in_default g c =
     let e = c.args.engine.now in
-    let o : Streams = streams g.I.Source.left g.I.Source.faults g.O.Sink.written g.O.Sink.flushed g.O.Sink.faults c.args.input.now c.args.input.now c.args.out.now c.args.out.now in
+    let o : Streams = streams g.I.Source.left g.I.Source.faults g.O.Sink.written g.O.Sink.flushed g.O.Sink.faults c.args.input.now c.args.input.now c.args.out.now c.flush_at_stop.new.out in
     let answers = IsAnswer (speaker_by (grammar_of e.grammar.now) (speech_of e)) (bounds_with c.args.self.now.limits) in
-    none-served (AreAnswers answers 1) (AreAnswers (OrNoMemory answers) 1) o refl refl (no_line 1)
+    none-served (AreAnswers answers 1) (AreAnswers (OrNoMemory answers) 1) o refl c.flush_at_stop.ensures.same (no_line 1) c.flush_at_stop.ensures.flushed

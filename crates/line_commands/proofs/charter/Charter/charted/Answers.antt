@@ -8,7 +8,7 @@ use Rattle.line_commands.specs.Inner.Charters.{types_in, IsReportOf}
 use Rattle.line_commands.proofs.charter.Charter.charted.Goals as goal
 
 pub returns : goal.returns
-returns g c =
+returns c =
     let p = c.args.self.now in
     let a = chart_answer c.in_ok-answer.answer in
     if-both c.reported.result

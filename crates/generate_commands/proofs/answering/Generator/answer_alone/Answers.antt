@@ -4,12 +4,13 @@ use Rattle.mrs_reading.specs.Places.{IsPlace}
 use Rattle.engine.proofs.Results.{if-ok, if-both}
 use Rattle.generate_commands.specs.Answers.{IsAnswer}
 use Rattle.item_reports.specs.Reports.{no_mrs_line}
-use Rattle.generate_commands.specs.Inner.Generators.{IsReportOf, speaker_of, bounds_of}
+use Rattle.generate_commands.specs.Contributing.{speaker_of, bounds_of}
+use Rattle.generate_commands.specs.Inner.Generators.{IsReportOf}
 use Rattle.generate_commands.proofs.Answered.{answered-with, wrong-with}
-use Rattle.generate_commands.proofs.answering.Generator.report.Goals as goal
+use Rattle.generate_commands.proofs.answering.Generator.answer_alone.Goals as goal
 
 pub returns-in-Ok : goal.returns-in-Ok
-returns-in-Ok g c =
+returns-in-Ok c =
     let p = c.args.self.now in
     let m = meaning_of c.in-Ok.mrs in
     if-ok c.generated.result
@@ -19,7 +20,7 @@ returns-in-Ok g c =
     c.generated.ensures
 
 pub returns-in-Err-At : goal.returns-in-Err-At
-returns-in-Err-At g c =
+returns-in-Err-At c =
     let p = c.args.self.now in
     elim c.in-Err-At.ensures.fault [
       | inl e ↦ absurd (let same = e in cc)
