@@ -35,6 +35,7 @@ use sieve::{Sieve, TypesMeet};
 use std::alloc::Global;
 use std::sync::Wait;
 use std::thread::Threads;
+use tree_structures::SharedFulls;
 use worker_gate::Gate;
 
 /// What is made of a grammar once, and lent to whoever answers lines with it. Each thing that is lent has a lifetime of its own, since it
@@ -46,7 +47,7 @@ pub struct Engine<'g, 's, 'b, 'h, 'm, 'r, 'd, 'k, 'f, 'p> {
     pub signs: &'s SignBook<'b>,
     /// The phrase rules over abstract structures. What they made of equal ones is remembered from one line to the next.
     pub shapes: &'h LineShapes<'m, 'r>,
-    /// What lines share besides: full structures of lexical trees with their shapes, and what phrase rules made of full structures.
+    /// What lines share besides: full structures of lexical trees with their shapes, and what rules made of full structures.
     pub shared: &'d RunMemory<'k>,
     /// Which lexical rule may apply to what which gives.
     pub feeds: &'f Feeds,
@@ -85,6 +86,15 @@ impl<'r, 'k> Engine<'_, '_, '_, '_, '_, 'r, '_, 'k, '_, '_> {
             lexicon: &self.grammar.lexicon,
             spelling: &self.grammar.spelling,
         }
+    }
+
+    /// What its lines share of full structures, as trees ask for it.
+    pub fn fulls(&self) -> SharedFulls<'_, 'k>
+        requires { IsReady self.now }
+        ensures { result ≡ self.now.signs.now }
+    {
+        let shared = self.shared;
+        SharedFulls::new(shared.fulls(), shared.mothers())
     }
 
     /// The leaves of the chart of a lattice: all its lexical trees of at most `most` rules, with their shapes; or that there is one with

@@ -34,22 +34,22 @@ use Rattle.grammar_shapes.specs.Systems.{grammar_of, rules_of, meaning_of, Belon
 use Rattle.grammar_shapes.specs.Ruled.{paths_in}
 use Rattle.grammar_shapes.specs.Spanned.{span_calculus}
 use Rattle.rule_trees.specs.Wholes.{wholes_of, IsLexicalAt, IsRuled}
-use Rattle.rule_trees.specs.Mothers.{view_in, IsShortIn}
+use Rattle.rule_trees.specs.Mothers.{graph_view, IsShortIn}
 use Rattle.rule_trees.proofs.MakingLemmas.{inside}
 use Rattle.lexical_items.specs.Fulls.{IsLexicalFull}
 use Rattle.lexical_items.specs.Listed.{Lexeme, IsLexeme, AreLexemes, Trees, IsLexicalAnswer}
 use Rattle.grammar_rules.specs.Leafed.{IsShapeOf}
 use Rattle.grammar_rules.specs.Lined.{AreLined}
 use Rattle.grammar_rules.specs.Lines.{AreShapesOf}
-use Rattle.grammar_rules.proofs.Consistent.{lexical_sound, alone_sound}
+use Rattle.grammar_rules.proofs.Consistent.{alone_sound}
 use Rattle.grammar_rules.proofs.Lined.{lined_more, line_fit, line_answer}
 
-pub shape_sound : (t : SignTree) (s : GrammarShapes) (graph : GraphMap) → AreShapesOf t s → IsShortIn t graph → AreConsistent (signs_of t).system (Meant (rule_system (signs_of t)) (view_in t graph)) → IsConsistent (system_of (grammar_of s)) (Told (source_alone (reader_of graph)))
+pub shape_sound : (t : SignTree) (s : GrammarShapes) (graph : GraphMap) → AreShapesOf t s → IsShortIn t graph → AreConsistent (signs_of t).system (Meant (rule_system (signs_of t)) (graph_view t graph)) → IsConsistent (system_of (grammar_of s)) (Told (source_alone (reader_of graph)))
 shape_sound t s graph are short h = subst (λ (g : Grammar). IsConsistent (system_of g) (Told (source_alone (reader_of graph)))) (sym are.grammar) (alone_sound (signs_of t) (reader_of graph) (inside t graph short) h)
 
-pub shape_is : (t : SignTree) (s : GrammarShapes) (graph : GraphMap) (m : Structure) → AreShapesOf t s → IsAbstract (rules_of s) (Meant (rules_of s) (view (paths_in (grammar_of s)) (reader_of graph))) m → IsAbstract (rule_system (signs_of t)) (Meant (rule_system (signs_of t)) (view_in t graph)) m
+pub shape_is : (t : SignTree) (s : GrammarShapes) (graph : GraphMap) (m : Structure) → AreShapesOf t s → IsAbstract (rules_of s) (Meant (rules_of s) (view (paths_in (grammar_of s)) (reader_of graph))) m → IsAbstract (rule_system (signs_of t)) (Meant (rule_system (signs_of t)) (graph_view t graph)) m
 shape_is t s graph m are h =
-    subst (λ (k : RuleSystem). IsAbstract k (Meant k (view_in t graph)) m) are.rules
+    subst (λ (k : RuleSystem). IsAbstract k (Meant k (graph_view t graph)) m) are.rules
     (subst (λ (g : Grammar). IsAbstract (rules_of s) (Meant (rules_of s) (view (paths_in g) (reader_of graph))) m) are.grammar h)
 
 -- one leaf more
@@ -73,13 +73,13 @@ next_seen f P xs i x h e p = subst P (sym (map_take_next f xs i x h e)) p
 pub all_seen : {A : Type 0} (f : A → Lexeme) (P : List Lexeme → Type 0) (xs : List A) (i : ℕ) → length xs ≤ i → P (map f (take i xs)) → P (map f xs)
 all_seen f P xs i h p = subst (λ ys. P (map f ys)) (all_taken xs i h) p
 
--- lexical trees go forward, and their full structures are consistent
-lexical_full : (g : Signs) {t : Derivation} {f : Structure} {entry : ℕ} {rules : List ℕ} {ws : List (List ℕ)} {n : ℕ × ℕ} → Full g t f → t ≡ lexical entry rules ws (Some n) → AreConsistent g.system (Meant (rule_system g) f)
-lexical_full g (full_lexical h) e = lexical_sound g h
-lexical_full g (full_phrase fs hs h) e = absurd (cc)
+-- a line's leaves have full structures of lexical trees
+full_lexeme : (g : Signs) {t : Derivation} {f : Structure} {entry : ℕ} {rules : List ℕ} {ws : List (List ℕ)} {n : ℕ × ℕ} → Full g t f → t ≡ lexical entry rules ws (Some n) → IsLexicalFull g f
+full_lexeme g (full_lexical {entry = entry} {rules = rules} h) e = record { entry = entry; rules = rules; full = h }
+full_lexeme g (full_phrase fs hs h) e = absurd (cc)
 
-pub lexeme_sound : (g : Signs) (words : Words) (lattice : Lattice) (most : ℕ) (x : Lexeme) → IsLexeme g words lattice most x → AreConsistent g.system (Meant (rule_system g) x.full)
-lexeme_sound g words lattice most x h = lexical_full g h.full h.leaf.0.is
+pub lexeme_lexical : (g : Signs) (words : Words) (lattice : Lattice) (most : ℕ) (x : Lexeme) → IsLexeme g words lattice most x → IsLexicalFull g x.full
+lexeme_lexical g words lattice most x h = full_lexeme g h.full h.leaf.0.is
 
 at_map : {A : Type 0} (f : A → Lexeme) (xs : List A) (i : ℕ) (d : A) → i < length xs → At (map f xs) i (f (get_or xs i d))
 at_map f [] i d h = absurd (omega arith)
@@ -89,16 +89,11 @@ at_map f (x ∷ xs) (suc i) d h = there (at_map f xs i d (omega arith))
 pub all_lexemes : {A : Type 0} (f : A → Lexeme) (g : Signs) (words : Words) (lattice : Lattice) (most : ℕ) (P : Lexeme → Type 0) (xs : List A) → ((x : Lexeme) → IsLexeme g words lattice most x → P x) → AreLexemes g words lattice most (map f xs) → All (λ a. P (f a)) xs
 all_lexemes f g words lattice most P xs k are i d h = k (f (get_or xs i d)) (are.each i (f (get_or xs i d)) (at_map f xs i d h))
 
--- a line's leaves have full structures of lexical trees
-full_lexeme : (g : Signs) {t : Derivation} {f : Structure} {entry : ℕ} {rules : List ℕ} {ws : List (List ℕ)} {n : ℕ × ℕ} → Full g t f → t ≡ lexical entry rules ws (Some n) → IsLexicalFull g f
-full_lexeme g (full_lexical {entry = entry} {rules = rules} h) e = record { entry = entry; rules = rules; full = h }
-full_lexeme g (full_phrase fs hs h) e = absurd (cc)
-
 lexical_at : (g : Signs) (words : Words) (lattice : Lattice) (most : ℕ) (xs : List Lexeme) (n : ℕ) → AreLexemes g words lattice most xs → n < length xs → IsLexicalAt g xs n
 lexical_at g words lattice most xs n are low =
     let x = at_found xs n low in
     let h = are.each n x.0 x.1 in
-    record { lexeme = x.0; at = to_get x.1; full = full_lexeme g h.full h.leaf.0.is }
+    record { lexeme = x.0; at = to_get x.1; full = lexeme_lexical g words lattice most x.0 h }
 
 -- what is asked of a line's full structures, and what is found over its leaves, by the rules that the shapes are of
 module _ {X T W B A : Type 0} (t : SignTree) (s : GrammarShapes) (are : AreShapesOf t s) (meaning : T → Structure) (words : Words) (lattice : Lattice) (limits : Limits) (o : IsOrder (signs_of t).system) (f : A → Lexeme) (trees : List A) (leaves : List (Leaf X T Span W B)) (known : IsLexicalAnswer (signs_of t) words lattice limits.lexical (Trees (map f trees))) (lined : AreLined (signs_of t) meaning (map f trees) leaves) (end : ℕ) (end_is : end ≡ lattice.end) where

@@ -6,4 +6,5 @@ pub mod Lined
 pub mod Calls
 pub mod Kept
 pub mod Answered
+pub mod Numbered
 pub mod Sames

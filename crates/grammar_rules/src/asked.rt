@@ -6,9 +6,9 @@ use book_signs::SignBook;
 use forest_unpack::FullParts;
 use rule_trees::FullStructure;
 
-/// What phrase rules make of full structures, by the numbers of the rules.
+/// What rules make of full structures, by the places of the rules.
 #[derive(Drop)]
-pub(crate) struct UnderPhrases<'a> {
+pub(crate) struct UnderRules<'a> {
     pub(crate) signs: &'a SignBook<'a>,
 }
 
@@ -18,14 +18,14 @@ pub(crate) struct Rooted<'a> {
     pub(crate) signs: &'a SignBook<'a>,
 }
 
-impl<'a> Asked for UnderPhrases<'a> {
-    ghost use Rattle.grammar_rules.specs.Told.{all_seen, IsUnderPhrase};
+impl<'a> Asked for UnderRules<'a> {
+    ghost use Rattle.grammar_rules.specs.Told.{all_seen, TellsMother};
 
     type Key = FullParts<FullStructure>;
 
     type Told = Option<FullStructure>;
 
-    ghost right = { λ s rule parts told. IsUnderPhrase s.signs.now rule (all_seen s.signs.now parts) told };
+    ghost right = { λ s place parts told. TellsMother s.signs.now place (all_seen s.signs.now parts) told };
 
     fn mark(&self, parts: &FullParts<FullStructure>) -> u64 {
         mark_of(parts)

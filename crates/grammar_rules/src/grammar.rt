@@ -15,7 +15,7 @@ pub struct LineGrammar<'a, 'r, 'k> {
     pub signs: &'a SignBook<'a>,
     /// The phrase rules over abstract structures, which remember what they made of equal ones.
     pub shapes: &'a LineShapes<'a, 'r>,
-    /// What lines share besides: full structures of lexical trees with their shapes, and what phrase rules made of full structures.
+    /// What lines share besides: full structures of lexical trees with their shapes, and what rules made of full structures.
     pub shared: &'a RunMemory<'k>,
     /// Which lexical rule may apply to what which gives.
     pub feeds: &'a Feeds,

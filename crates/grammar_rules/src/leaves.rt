@@ -1,7 +1,6 @@
 //! The leaves of a line's chart: its lexical trees with their shapes.
 
 ghost use Rattle.std.specs.Prelude.{◌≡◌, ◌<◌, ◌+◌, ◌^◌, ◌++◌, ◌∷◌, [], List, All, IfOk, OnOk, map};
-ghost use Rattle.fs_model.specs.Closure.{AreConsistent};
 ghost use Rattle.tree_model.specs.Mothers.{Meant, IsAbstract};
 ghost use Rattle.chart_model.specs.Spans.{is_span};
 ghost use Rattle.tree_model.specs.Signs.{rule_system};
@@ -12,6 +11,7 @@ ghost use Rattle.book_signs.specs.Trees.{signs_of};
 ghost use Rattle.grammar_shapes.specs.Systems.{rules_of, meaning_of, Belongs};
 ghost use Rattle.grammar_shapes.specs.Spanned.{span_calculus};
 ghost use Rattle.rule_trees.specs.Mothers.{view_in};
+ghost use Rattle.lexical_items.specs.Fulls.{IsLexicalFull};
 ghost use Rattle.lexical_items.specs.Listed.{Lexeme, IsLexicalAnswer};
 ghost use Rattle.lexical_items.specs.Seen.{lattice_seen};
 ghost use Rattle.lexical_items.specs.Views.{lexeme_seen, lexical_seen};
@@ -73,13 +73,11 @@ fn shape_of(
     full: &FullStructure,
 ) -> Result<Arc<Place>, NoMemory>
     requires shapes { AreShapesOf signs.now shapes.now }
-    requires sound { AreConsistent (signs_of signs.now).system (Meant (rule_system (signs_of signs.now)) (view_in signs.now full.now.graph)) }
+    requires lexical { IsLexicalFull (signs_of signs.now) (view_in signs.now full.now.graph) }
     ensures belongs { IfOk result (Belongs shapes.now) }
     ensures shape { IfOk result (λ s. IsAbstract (rule_system (signs_of signs.now)) (Meant (rule_system (signs_of signs.now)) (view_in signs.now full.now.graph)) (meaning_of shapes.now s)) }
 {
-    if !full.is_within(signs) {
-        return Err(NoMemory);
-    }
+    full.laws(signs);
     let shape = shapes.shape(alloc, work, full.graph())?;
     Ok(shape)
 }
@@ -95,7 +93,7 @@ fn leaf_shape(
 ) -> Result<Arc<Place>, NoMemory>
     requires shapes { AreShapesOf signs.now shapes.now }
     requires shared { IsMemoryOf signs.now shapes.now shared.now }
-    requires sound { AreConsistent (signs_of signs.now).system (Meant (rule_system (signs_of signs.now)) (view_in signs.now full.now.graph)) }
+    requires lexical { IsLexicalFull (signs_of signs.now) (view_in signs.now full.now.graph) }
     ensures { IfOk result (IsFullShape signs.now shapes.now (view_in signs.now full.now.graph)) }
 {
     let known = shared.known(alloc, full)?;
@@ -120,7 +118,7 @@ fn add_leaf<'s>(
     requires shapes { AreShapesOf signs.now shapes.now }
     requires shared { IsMemoryOf signs.now shapes.now shared.now }
     requires forward { tree.now.from < tree.now.to }
-    requires sound { AreConsistent (signs_of signs.now).system (Meant (rule_system (signs_of signs.now)) (view_in signs.now tree.now.full.graph)) }
+    requires lexical { IsLexicalFull (signs_of signs.now) (view_in signs.now tree.now.full.graph) }
     ensures lined { OnOk result ((xs : List Lexeme) → AreLined (signs_of signs.now) (meaning_of shapes.now) xs leaves.old.items
         → AreLined (signs_of signs.now) (meaning_of shapes.now) (xs ++ lexeme_seen (λ full. view_in signs.now full.graph) tree.now ∷ []) leaves.new.items) }
     ensures belong { OnOk result (All (LeafBelongs (span_calculus (rules_of shapes.now)) (Belongs shapes.now)) leaves.old.items
@@ -145,7 +143,7 @@ fn leaves_of<'s>(
     requires shapes { AreShapesOf signs.now shapes.now }
     requires shared { IsMemoryOf signs.now shapes.now shared.now }
     requires forward { All (λ t. t.from < t.to) trees.now }
-    requires sound { All (λ t. AreConsistent (signs_of signs.now).system (Meant (rule_system (signs_of signs.now)) (view_in signs.now t.full.graph))) trees.now }
+    requires lexical { All (λ t. IsLexicalFull (signs_of signs.now) (view_in signs.now t.full.graph)) trees.now }
     ensures lined { IfOk result (λ leaves. AreLined (signs_of signs.now) (meaning_of shapes.now) (map (lexeme_seen (λ full. view_in signs.now full.graph)) trees.now) leaves.items) }
     ensures belong { IfOk result (λ leaves. All (LeafBelongs (span_calculus (rules_of shapes.now)) (Belongs shapes.now)) leaves.items) }
 {

@@ -9,7 +9,6 @@ ghost use Rattle.rule_trees.specs.Wholes.{wholes_of, IsLexicalAt};
 ghost use Rattle.grammar_rules.specs.Told.{TellsRooted};
 
 use crate::mother_remembered::RememberedMothers;
-use crate::parts::full_again;
 use chart_model::Span;
 use derivation::Tree;
 use forest_unpack::{FullParts, Fulls, NoMemory};
@@ -23,16 +22,6 @@ pub struct RememberedLine<'a, 'm, 'g> {
     pub line: LineFulls<'a>,
     pub mothers: &'m RememberedMothers<'g>,
     pub ghost same: { mothers.now ≡ line.signs.now },
-}
-
-// One more of what a rule made.
-fn again(full: &Option<FullStructure>) -> Result<Option<FullStructure>, NoMemory>
-    ensures { IfOk result (λ again. again ≡ full.now) }
-{
-    match full_again(full) {
-        Ok(again) => Ok(again),
-        Err(_) => Err(NoMemory),
-    }
 }
 
 // Whether a full structure is rooted, which is found out where it isn't remembered. The cover is that of the whole line.
@@ -93,13 +82,11 @@ impl<'a, 'm, 'g> Fulls for RememberedLine<'a, 'm, 'g> {
         rule: u32,
         parts: &FullParts<FullStructure>,
     ) -> Result<Option<FullStructure>, NoMemory> {
-        if let Some(known) = self.mothers.made(rule, parts) {
-            let told = again(known)?;
-            return Ok(told);
+        let place = self.line.place(rule);
+        match self.mothers.mother(alloc, work, place, parts) {
+            Ok(full) => Ok(full),
+            Err(_) => Err(NoMemory),
         }
-        let full = self.line.apply(alloc, work, rule, parts)?;
-        self.mothers.keep_made(alloc, rule, parts, &full).ok();
-        Ok(full)
     }
 
     fn same(&self, full: &FullStructure, other: &FullStructure) -> bool {

@@ -1,16 +1,19 @@
 //! What is remembered of full structures.
 
-ghost use Rattle.std.specs.Prelude.{◌≡◌, IfOk, IfSome};
-ghost use Rattle.rule_trees.specs.Mothers.{view_in};
-ghost use Rattle.grammar_rules.specs.Told.{all_seen, IsUnderPhrase, TellsRooted};
+ghost use Rattle.std.specs.Prelude.{◌≡◌, All, IfOk, IfSome};
+ghost use Rattle.forest_unpack.specs.Parts.{AreParts, parts_of};
+ghost use Rattle.book_signs.specs.Trees.{signs_of};
+ghost use Rattle.rule_trees.specs.Mothers.{view_in, IsMade, HasDaughters};
+ghost use Rattle.grammar_rules.specs.Told.{all_seen, TellsMother, TellsRooted};
 
 use crate::NoMemory;
-use crate::asked::{Rooted, UnderPhrases};
+use crate::asked::{Rooted, UnderRules};
 use crate::parts::{full_again, parts_again};
 use answer_memo::Memo;
 use book_signs::SignBook;
 use forest_unpack::FullParts;
-use rule_trees::FullStructure;
+use fs_unify::Scratch;
+use rule_trees::{FullStructure, mother_of};
 use std::alloc::Global;
 use std::marker::Model;
 
@@ -20,14 +23,13 @@ const MOST_MADE: u64 = 655_360;
 
 const MOST_ROOTED: u64 = 131_072;
 
-/// What the phrase rules of a grammar made of full structures, and which of these are rooted. In contracts it is the grammar's
-/// signs.
+/// What the rules of a grammar made of full structures, and which of these are rooted. In contracts it is the grammar's signs.
 ///
 /// One is made for a whole run: what is asked of it depends on the grammar alone. Threads may share it by reference.
 #[derive(Drop)]
 pub struct RememberedMothers<'a> {
     signs: &'a SignBook<'a>,
-    made: Memo<UnderPhrases<'a>>,
+    made: Memo<UnderRules<'a>>,
     roots: Memo<Rooted<'a>>,
 }
 
@@ -47,39 +49,58 @@ impl<'a> RememberedMothers<'a> {
     pub fn new(alloc: Global, signs: &'a SignBook<'a>) -> Result<RememberedMothers<'a>, NoMemory>
         ensures { IfOk result (λ s. s ≡ signs.now) }
     {
-        let made = Memo::new(alloc, UnderPhrases { signs }, MOST_MADE)?;
+        let made = Memo::new(alloc, UnderRules { signs }, MOST_MADE)?;
         let roots = Memo::new(alloc, Rooted { signs }, MOST_ROOTED)?;
         Ok(RememberedMothers { signs, made, roots })
     }
 
-    // What the phrase rule of this number makes of full structures, where it is known.
-    pub(crate) fn made(
-        &self,
-        rule: u32,
-        parts: &FullParts<FullStructure>,
-    ) -> Option<&Option<FullStructure>>
-        ensures { IfSome result (λ told. IsUnderPhrase self.now rule (all_seen self.now parts.now) told.now) }
+    // What the rule at a place makes of full structures, where it is known.
+    fn made(&self, place: u32, parts: &FullParts<FullStructure>) -> Option<&Option<FullStructure>>
+        ensures { IfSome result (λ told. TellsMother self.now place (all_seen self.now parts.now) told.now) }
     {
-        self.made.find(rule, parts)
+        self.made.find(place, parts)
     }
 
-    // Remembers what the phrase rule of this number made of full structures, or that it made none, where there is room.
-    pub(crate) fn keep_made(
+    // Remembers what the rule at a place made of full structures, or that it made none, where there is room.
+    fn keep_made(
         &self,
         alloc: Global,
-        rule: u32,
+        place: u32,
         parts: &FullParts<FullStructure>,
         told: &Option<FullStructure>,
     ) -> Result<(), NoMemory>
-        requires { IsUnderPhrase self.now rule (all_seen self.now parts.now) told.now }
+        requires { TellsMother self.now place (all_seen self.now parts.now) told.now }
     {
         if self.made.is_full() {
             return Ok(());
         }
         let key = parts_again(self.signs, parts)?;
         let copy = full_again(told)?;
-        self.made.keep(alloc, rule, key, copy);
+        self.made.keep(alloc, place, key, copy);
         Ok(())
+    }
+
+    /// The full structure under the rule at a place over its daughters' full structures; none exactly where the rule makes none of these.
+    /// It is made where it isn't remembered. There is a structure for each of the rule's daughters, each an entry's or made by a rule.
+    pub fn mother(
+        &self,
+        alloc: Global,
+        work: &mut Scratch,
+        place: u32,
+        parts: &FullParts<FullStructure>,
+    ) -> Result<Option<FullStructure>, NoMemory>
+        requires parts { AreParts parts.now }
+        requires made { All (λ f. IsMade (signs_of self.now) (view_in self.now f.graph)) (parts_of parts.now) }
+        requires rule { HasDaughters (signs_of self.now) place parts.now.count }
+        ensures { IfOk result (TellsMother self.now place (all_seen self.now parts.now)) }
+    {
+        if let Some(known) = self.made(place, parts) {
+            let told = full_again(known)?;
+            return Ok(told);
+        }
+        let full = mother_of(alloc, work, self.signs, place, parts)?;
+        self.keep_made(alloc, place, parts, &full).ok();
+        Ok(full)
     }
 
     // Whether a full structure is rooted, where it is known.

@@ -1,4 +1,4 @@
-//! What lines share: the full structures of lexical trees with their shapes, and what phrase rules made of full structures.
+//! What lines share: the full structures of lexical trees with their shapes, and what rules made of full structures.
 
 ghost use Rattle.std.specs.Prelude.{IfOk, IfSome, ◌≡◌};
 ghost use Rattle.tree_model.specs.Structures.{Structure};
@@ -83,8 +83,8 @@ fn shape_again(
     Ok(again)
 }
 
-/// What lines share of full structures: those of a grammar's lexical trees with their shapes, and what the phrase rules made of full
-/// structures, each with what was found. None of what is remembered enters into an answer. One is made for a whole run.
+/// What lines share of full structures: those of a grammar's lexical trees with their shapes, and what rules made of full structures,
+/// each with what was found. None of what is remembered enters into an answer. One is made for a whole run.
 #[derive(Drop)]
 pub struct RunMemory<'a> {
     fulls: RememberedFulls<SignFulls<'a>>,
@@ -123,14 +123,14 @@ impl<'a> RunMemory<'a> {
     }
 
     /// The full structures of the lexical trees.
-    pub(crate) fn fulls(&self) -> &RememberedFulls<SignFulls<'a>>
+    pub fn fulls(&self) -> &RememberedFulls<SignFulls<'a>>
         ensures { result.now.signs.now ≡ self.now.signs }
     {
         &self.fulls
     }
 
-    /// What phrase rules made of full structures.
-    pub(crate) fn mothers(&self) -> &RememberedMothers<'a>
+    /// What rules made of full structures.
+    pub fn mothers(&self) -> &RememberedMothers<'a>
         ensures { result.now ≡ self.now.signs }
     {
         &self.mothers

@@ -11,7 +11,7 @@ use Rattle.fs_unify.specs.Placing.{PlacedGraph, IsPlacedIn, source_of}
 use Rattle.book_signs.specs.Conditions.{IsClosed}
 use Rattle.book_signs.specs.Signed.{facts_of}
 use Rattle.book_signs.specs.Trees.{SignTree, signs_of, facts_at}
-use Rattle.rule_trees.specs.Mothers.{view_in, IsShortIn}
+use Rattle.rule_trees.specs.Mothers.{graph_view, IsShortIn}
 use Rattle.rule_trees.specs.Inner.Placed.{placed_both}
 use Rattle.rule_trees.specs.Inner.Rooting.{IsRootedBy}
 use Rattle.rule_trees.proofs.MakingLemmas.{closed_part}
@@ -31,7 +31,7 @@ abbrev no_rules : OwedRules
 no_rules = record { at_root = []; further = [] }
 
 pub rooted_open : (t : SignTree) (place : ℕ) (root graph : GraphMap) (parts : List PlacedGraph) (good : Bool) → place < length (signs_of t).instances → facts_at (signs_of t) place ≡ Some (facts_of t.book.system root) → IsShortIn t root → IsShortIn t graph →
-    parts ≡ placed_open root graph → IsTrue good ↔ IsConsistent (system_of t.book.system) (Told (source_of parts)) → IsTrue good ↔ IsRootedBy (signs_of t) (view_in t graph) place
+    parts ≡ placed_open root graph → IsTrue good ↔ IsConsistent (system_of t.book.system) (Told (source_of parts)) → IsTrue good ↔ IsRootedBy (signs_of t) (graph_view t graph) place
 rooted_open t place root graph parts good lt facts own short are h =
     rooted_here t no_rules place root graph (placed_both no_rules root graph) good lt facts own short refl
     (subst (λ (ps : List PlacedGraph). IsTrue good ↔ IsConsistent (system_of t.book.system) (Told (source_of ps))) are h)

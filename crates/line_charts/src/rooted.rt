@@ -3,7 +3,7 @@
 ghost use Rattle.std.specs.Prelude.{◌↔◌, ◌<◌, length, IfOk, IsTrue};
 ghost use Rattle.tree_model.specs.Trees.{IsRooted};
 ghost use Rattle.book_signs.specs.Trees.{signs_of};
-ghost use Rattle.rule_trees.specs.Mothers.{IsShortIn, view_in};
+ghost use Rattle.rule_trees.specs.Mothers.{IsShortIn, graph_view};
 ghost use Rattle.rule_trees.specs.Inner.Rooting.{IsRootedBy};
 
 use crate::NoMemory;
@@ -23,7 +23,7 @@ fn rooted_by(
 ) -> Result<bool, fs_unify::NoMemory>
     requires within { place < length (signs_of signs.now).instances }
     requires short { IsShortIn signs.now graph.now }
-    ensures { IfOk result (λ yes. IsTrue yes ↔ IsRootedBy (signs_of signs.now) (view_in signs.now graph.now) place) }
+    ensures { IfOk result (λ yes. IsTrue yes ↔ IsRootedBy (signs_of signs.now) (graph_view signs.now graph.now) place) }
 {
     signs.laws();
     let mut parts = Parts::new(alloc);
@@ -42,7 +42,7 @@ pub(crate) fn is_rooted(
     graph: &Graph,
 ) -> Result<bool, NoMemory>
     requires { IsShortIn signs.now graph.now }
-    ensures { IfOk result (λ yes. IsTrue yes ↔ IsRooted (signs_of signs.now) (view_in signs.now graph.now)) }
+    ensures { IfOk result (λ yes. IsTrue yes ↔ IsRooted (signs_of signs.now) (graph_view signs.now graph.now)) }
 {
     let roots = signs.roots();
     for i in 0..roots.len() {

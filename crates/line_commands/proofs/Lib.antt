@@ -13,3 +13,4 @@ pub mod OneExplained
 pub mod ExplainLaws
 pub mod TreeFaults
 pub mod Explainings
+pub mod Shared

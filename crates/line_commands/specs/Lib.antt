@@ -4,5 +4,6 @@ pub mod Notes
 pub mod Parsing
 pub mod Charting
 pub mod Explaining
+pub mod Remembered
 pub mod Views
 pub mod Inner

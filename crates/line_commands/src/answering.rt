@@ -1,6 +1,7 @@
 //! The answers to lines by trees.
 
 ghost use Rattle.chart_core.specs.Kept.{InRange};
+ghost use Rattle.line_commands.specs.Remembered.{IsMrsMemoryOf};
 
 use crate::NoMemory;
 use crate::lattices::{NoLattice, lattice_of_line};
@@ -15,7 +16,7 @@ use fs_unify::Scratch;
 use grammar_rules::ItemAnswer;
 use line_charts::unknown_words;
 use morph_analysis::Lattice;
-use mrs_lines::TreeLines;
+use mrs_lines::{MrsMemory, TreeLines};
 use std::alloc::Global;
 use std::sync::Wait;
 use std::thread::Threads;
@@ -34,7 +35,10 @@ pub struct Parser<'e, 'r, 'k> {
     pub verbose: bool,
     /// What lines are worked out with where they are served.
     pub desks: Desks,
+    /// The lines of MRSs that were written.
+    pub lines: MrsMemory<'e>,
     ghost in_range: { InRange limits },
+    ghost written: { IsMrsMemoryOf engine lines },
 }
 
 impl Parser<'_, '_, '_> {
@@ -73,9 +77,10 @@ impl Parser<'_, '_, '_> {
         if !self.mrs {
             return report_of(alloc, number, answer, names, self.lattice);
         }
+        let fulls = self.engine.fulls();
         let lines = TreeLines {
-            signs: self.engine.signs,
-            paths: self.engine.paths,
+            fulls: &fulls,
+            memory: &self.lines,
             names,
             nodes: self.lattice,
         };

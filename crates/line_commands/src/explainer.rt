@@ -2,6 +2,7 @@
 
 ghost use Rattle.std.specs.Prelude.{◌≡◌, ◌∷◌, [], true, map, IfOk};
 ghost use Rattle.tree_faults.specs.Texts.{no_tree_line};
+ghost use Rattle.line_commands.specs.Remembered.{IsMrsMemoryOf};
 
 use crate::NoMemory;
 use crate::trees::tree_of_line;
@@ -11,7 +12,7 @@ use endings::pieces::Report;
 use engine::Engine;
 use engine::desks::Desks;
 use fs_unify::Scratch;
-use mrs_lines::line_of_tree;
+use mrs_lines::{MrsMemory, line_of_tree};
 use std::alloc::Global;
 use std::sync::Wait;
 use std::thread::Threads;
@@ -46,6 +47,9 @@ pub struct Explainer<'e, 'r, 'k> {
     pub mrs: bool,
     /// What lines are worked out with where they are served.
     pub desks: Desks,
+    /// The lines of MRSs that were written.
+    pub lines: MrsMemory<'e>,
+    ghost written: { IsMrsMemoryOf engine lines },
 }
 
 impl Explainer<'_, '_, '_> {
@@ -130,14 +134,8 @@ impl Explainer<'_, '_, '_> {
     {
         self.engine.laws();
         let mut memo = FullMemo::new(alloc);
-        let line = line_of_tree(
-            alloc,
-            work,
-            &mut memo,
-            self.engine.signs,
-            self.engine.paths,
-            tree,
-        )?;
+        let fulls = self.engine.fulls();
+        let line = line_of_tree(alloc, work, &mut memo, &fulls, &self.lines, tree)?;
         Ok(line)
     }
 

@@ -23,6 +23,7 @@ use engine::{Engine, Use, with_engine};
 use grammar_load::Grammar;
 use grammar_names::loaded_names;
 use lkb_io::{Shelf, Sink, Source};
+use mrs_lines::MrsMemory;
 use std::alloc::Global;
 use std::sync::Wait;
 use std::thread::Threads;
@@ -76,11 +77,16 @@ impl<I: Source, O: Sink, X> Use<I, O, X> for Explaining {
             flush_at_stop(b);
             return Err(Stop::NoMemory);
         };
+        let Ok(lines) = MrsMemory::new(alloc, engine.signs, engine.paths) else {
+            flush_at_stop(b);
+            return Err(Stop::NoMemory);
+        };
         let explainer = Explainer {
             engine: *engine,
             names,
             mrs: self.mrs,
             desks: Desks::new(alloc, self.workers),
+            lines,
         };
         explainer.made();
         serve(rt, alloc, &explainer, a, b, gate)

@@ -20,12 +20,14 @@ use book_signs::laws::whole_book;
 use chart_core::Limits;
 use command_files::load_grammar;
 use endings::lines::serve_noted;
+use endings::pieces::flush_at_stop;
 use endings::{Fault, Stop};
 use engine::desks::Desks;
 use engine::{Engine, Use, with_engine};
 use grammar_load::Grammar;
 use grammar_names::loaded_names;
 use lkb_io::{Shelf, Sink, Source};
+use mrs_lines::MrsMemory;
 use std::alloc::Global;
 use std::sync::Wait;
 use std::thread::Threads;
@@ -80,6 +82,10 @@ impl<I: Source, O: Sink, X: Sink> Use<I, O, X> for Serving {
         c: &mut X,
         gate: &dyn Gate,
     ) -> Result<bool, Stop> {
+        let Ok(lines) = MrsMemory::new(alloc, engine.signs, engine.paths) else {
+            flush_at_stop(b);
+            return Err(Stop::NoMemory);
+        };
         let parser = Parser {
             engine: *engine,
             limits: self.limits,
@@ -87,6 +93,7 @@ impl<I: Source, O: Sink, X: Sink> Use<I, O, X> for Serving {
             mrs: self.mrs,
             verbose: self.verbose,
             desks: Desks::new(alloc, self.workers),
+            lines,
         };
         serve_noted(rt, alloc, &parser, a, b, c, gate)
     }

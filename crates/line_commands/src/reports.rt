@@ -4,8 +4,8 @@ ghost use Rattle.std.specs.Prelude.{◌≡◌, length, map, IfOk, string_bytes};
 ghost use Rattle.grammar_rules.specs.Views.{item_answer};
 ghost use Rattle.item_reports.specs.Reports.{answer_lines, is_refused};
 ghost use Rattle.book_signs.specs.Trees.{signs_of};
-ghost use Rattle.mrs_places.specs.Paths.{paths_of};
 ghost use Rattle.mrs_lines.specs.Lines.{AreAnswerLines};
+ghost use Rattle.mrs_lines.specs.Remembered.{semantics_in};
 ghost use Rattle.engine.specs.Named.{AreNamed, AreFull};
 ghost use Rattle.engine.specs.Semantic.{ArePathsOf};
 ghost use Rattle.line_commands.specs.Inner.Lattices.{IsReportWithout};
@@ -75,12 +75,13 @@ fn lines_with_mrs(
     work: &mut Scratch,
     number: u64,
     answer: &ItemAnswer,
-    lines: TreeLines<'_>,
+    lines: TreeLines<'_, '_, '_>,
 ) -> Result<Vec<Vec<u8>>, NoMemory>
     requires named { AreNamed (length lines.names.now) (item_answer answer.now) }
-    requires full { AreFull (signs_of lines.signs.now) (item_answer answer.now) }
-    requires paths { ArePathsOf lines.signs.now (paths_of lines.paths.now) }
-    ensures { IfOk result (λ written. AreAnswerLines (signs_of lines.entry.signs.now) (record { types = lines.entry.signs.now.book.system.types; paths = paths_of lines.entry.paths.now })
+    requires same { lines.memory.now.signs ≡ lines.fulls.now }
+    requires full { AreFull (signs_of lines.fulls.now) (item_answer answer.now) }
+    requires paths { ArePathsOf lines.fulls.now lines.memory.now.paths }
+    ensures { IfOk result (λ written. AreAnswerLines (signs_of lines.entry.fulls.now) (semantics_in lines.entry.memory.now)
         (map string_bytes lines.entry.names.now) lines.entry.nodes number (item_answer answer.now) (map (λ l. l.items) written.items)) }
 {
     if let ItemAnswer::Trees { classes, trees } = answer {
@@ -97,12 +98,13 @@ pub(crate) fn report_with_mrs(
     work: &mut Scratch,
     number: u64,
     answer: &ItemAnswer,
-    lines: TreeLines<'_>,
+    lines: TreeLines<'_, '_, '_>,
 ) -> Result<Report, NoMemory>
     requires named { AreNamed (length lines.names.now) (item_answer answer.now) }
-    requires full { AreFull (signs_of lines.signs.now) (item_answer answer.now) }
-    requires paths { ArePathsOf lines.signs.now (paths_of lines.paths.now) }
-    ensures lines { IfOk result (λ r. AreAnswerLines (signs_of lines.entry.signs.now) (record { types = lines.entry.signs.now.book.system.types; paths = paths_of lines.entry.paths.now })
+    requires same { lines.memory.now.signs ≡ lines.fulls.now }
+    requires full { AreFull (signs_of lines.fulls.now) (item_answer answer.now) }
+    requires paths { ArePathsOf lines.fulls.now lines.memory.now.paths }
+    ensures lines { IfOk result (λ r. AreAnswerLines (signs_of lines.entry.fulls.now) (semantics_in lines.entry.memory.now)
         (map string_bytes lines.entry.names.now) lines.entry.nodes number (item_answer answer.now) (map (λ l. l.items) r.lines.items)) }
     ensures refused { IfOk result (λ r. r.refused ≡ is_refused (item_answer answer.now)) }
 {

@@ -11,7 +11,8 @@ use Rattle.chart_core.specs.declared.Limits.{Limits}
 use Rattle.generate_model.specs.Contributions.{Input}
 use Rattle.generate_model.specs.Covers.{IsCount}
 use Rattle.generate_model.proofs.Told.{leaves_are_counted}
-use Rattle.tree_structures.specs.Laws.{FullsAreSound}
+use Rattle.rule_trees.specs.Mothers.{IsMade}
+use Rattle.tree_structures.specs.Laws.{FullsAreSound, FullsAreMade}
 use Rattle.generated_leaves.specs.Placed.{own_by_place}
 use Rattle.generated_leaves.specs.Leaves.{WordLeaf}
 use Rattle.mrs_generate.specs.Inner.Known.{IsKnown}
@@ -21,6 +22,10 @@ module _ {A : Type 0} (f : A → WordLeaf) (g : Signs) (words : Words) (input : 
   -- what its full structure means is consistent
   pub known_sound : FullsAreSound → All (λ a. AreConsistent g.system (Meant (rule_system g) (f a).full)) xs
   known_sound sound = all_of f (λ x. AreConsistent g.system (Meant (rule_system g) x.full)) xs (λ n x at. sound g x.tree x.full (known.leaves.each n x at).full)
+
+  -- it is an entry's, or made by a rule
+  pub known_made : FullsAreMade → All (λ a. IsMade g (f a).full) xs
+  known_made made = all_of f (λ x. IsMade g x.full) xs (λ n x at. made g x.tree x.full (known.leaves.each n x at).full)
 
   -- its cover is one that may be
   pub known_proper : IsOrder g.system → All (λ a. IsCount bound (f a).cover) xs

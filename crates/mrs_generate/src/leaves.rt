@@ -8,7 +8,7 @@ ghost use Rattle.tree_model.specs.Mothers.{Meant, IsAbstract};
 ghost use Rattle.tree_model.specs.Signs.{rule_system};
 ghost use Rattle.book_signs.specs.Trees.{signs_of};
 ghost use Rattle.grammar_shapes.specs.Systems.{meaning_of, Belongs};
-ghost use Rattle.rule_trees.specs.Mothers.{view_in};
+ghost use Rattle.rule_trees.specs.Mothers.{IsMade, view_in};
 ghost use Rattle.generate_model.specs.Covers.{IsCount};
 ghost use Rattle.generated_leaves.specs.Leaves.{WordLeaf};
 ghost use Rattle.generated_leaves.specs.Views.{leaf_seen};
@@ -46,12 +46,11 @@ fn shape_of(
 ) -> Result<Arc<Place>, NoMemory>
     requires shapes { AreShapesOf signs.now shapes.now }
     requires sound { AreConsistent (signs_of signs.now).system (Meant (rule_system (signs_of signs.now)) (view_in signs.now full.now.graph)) }
+    requires made { IsMade (signs_of signs.now) (view_in signs.now full.now.graph) }
     ensures belongs { IfOk result (Belongs shapes.now) }
     ensures shape { IfOk result (λ s. IsAbstract (rule_system (signs_of signs.now)) (Meant (rule_system (signs_of signs.now)) (view_in signs.now full.now.graph)) (meaning_of shapes.now s)) }
 {
-    if !full.is_within(signs) {
-        return Err(NoMemory);
-    }
+    full.laws(signs);
     let shape = shapes.shape(alloc, work, full.graph())?;
     Ok(shape)
 }
@@ -68,6 +67,7 @@ fn add_leaf<'g, 's>(
 ) -> Result<(), NoMemory>
     requires shapes { AreShapesOf signs.now shapes.now }
     requires sound { AreConsistent (signs_of signs.now).system (Meant (rule_system (signs_of signs.now)) (view_in signs.now (arc_value leaf.now.full).graph)) }
+    requires made { IsMade (signs_of signs.now) (view_in signs.now (arc_value leaf.now.full).graph) }
     requires proper { IsCount _bound.now leaf.now.cover }
     ensures lined { OnOk result ((xs : List WordLeaf) → AreLined (signs_of signs.now) (meaning_of shapes.now) xs into.old.items
         → AreLined (signs_of signs.now) (meaning_of shapes.now) (xs ++ leaf_seen signs.now leaf.now ∷ []) into.new.items) }
@@ -91,6 +91,7 @@ pub(crate) fn chart_leaves<'g, 's>(
 ) -> Result<Vec<Leaf<CountedShapes<'g, 's>>>, NoMemory>
     requires shapes { AreShapesOf signs.now shapes.now }
     requires sound { All (λ l. AreConsistent (signs_of signs.now).system (Meant (rule_system (signs_of signs.now)) (leaf_seen signs.now l).full)) leaves.now }
+    requires made { All (λ l. IsMade (signs_of signs.now) (leaf_seen signs.now l).full) leaves.now }
     requires proper { All (λ l. IsCount bound.now l.cover) leaves.now }
     ensures lined { IfOk result (λ v. AreLined (signs_of signs.now) (meaning_of shapes.now) (map (leaf_seen signs.now) leaves.now) v.items) }
     ensures stand { IfOk result (λ v. All (MayStand (Belongs shapes.now) bound.now) v.items) }

@@ -1,3 +1,4 @@
 pub mod Unique
 pub mod Growing
 pub mod Telling
+pub mod Whole

@@ -1,5 +1,5 @@
 -- A tree has one line of its MRS, and an answer one list of lines.
-use Rattle.std.proofs.Common.{ℕ, ◌≡◌, Bool, List, [], ◌∷◌, refl, sym, ap, subst, ◌∙◌}
+use Rattle.std.proofs.Common.{ℕ, ◌≡◌, Bool, List, ◌∷◌, refl, sym, ap, subst, ◌∙◌}
 use Rattle.fs_model.specs.Claims.{IsOrder}
 use Rattle.fs_graph.specs.GraphMap.{GraphMap}
 use Rattle.derivation.specs.Trees.{Derivation}

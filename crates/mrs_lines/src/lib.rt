@@ -4,9 +4,11 @@
 ghost use Rattle.mrs_lines.specs.Laws.{MrsLinesAreOne, LinesAreOne};
 
 mod line;
+mod memory;
 mod trees;
 
 pub use line::{line_of_mrs, line_of_no_mrs, line_of_tree};
+pub use memory::MrsMemory;
 use mrs_extract::mrs_is_one;
 pub use std::alloc::AllocError as NoMemory;
 use tree_structures::structure_laws;

@@ -2,7 +2,11 @@
 
 ghost use Rattle.std.specs.Prelude.{◌≡◌, ◌++◌, length, map, IfOk, OnOk, string_bytes};
 ghost use Rattle.derivation.specs.Views.{derivation_of};
+ghost use Rattle.fs_model.specs.Closure.{AreConsistent};
 ghost use Rattle.tree_model.specs.Structures.{Structure};
+ghost use Rattle.tree_model.specs.Mothers.{Meant};
+ghost use Rattle.tree_model.specs.Signs.{rule_system};
+ghost use Rattle.rule_trees.specs.Mothers.{view_in, IsMade};
 ghost use Rattle.tree_model.specs.Trees.{Full};
 ghost use Rattle.book_signs.specs.Trees.{signs_of};
 ghost use Rattle.mrs_model.specs.Valid.{IsValid};
@@ -15,8 +19,10 @@ ghost use Rattle.mrs_extract.specs.Asked.{ArePaths, IsOf};
 ghost use Rattle.mrs_extract.specs.Extraction.{Extracts};
 ghost use Rattle.tree_structures.specs.Known.{IsRight};
 ghost use Rattle.mrs_lines.specs.Lines.{mrs_line, no_mrs_line, sought_line, IsMrsLine};
+ghost use Rattle.mrs_lines.specs.Remembered.{IsLineIn, semantics_in};
 
 use crate::NoMemory;
+use crate::memory::MrsMemory;
 use book_signs::SignBook;
 use derivation::Tree;
 use fs_graph::Graph;
@@ -25,8 +31,9 @@ use mrs_extract::extract;
 use mrs_model::Mrs;
 use mrs_places::{MrsPaths, NoMrs};
 use mrs_text::write;
+use rule_trees::FullStructure;
 use std::alloc::Global;
-use tree_structures::{FullMemo, closed_of, full_of, structure_laws};
+use tree_structures::{FullMemo, SharedFulls, closed_of, full_of, structure_laws};
 
 /// Two blanks and the text of an MRS.
 pub fn line_of_mrs(alloc: Global, mrs: &Mrs) -> Result<Vec<u8>, NoMemory>
@@ -83,27 +90,47 @@ fn line_of_graph(
     }
 }
 
-/// The line of a tree's MRS, or of the path that is missing first. The tree has a full structure; `paths` say where MRSs stand in
-/// structures of the same grammar.
-pub fn line_of_tree<'a>(
+/// The line of a full structure's MRS, or of the path that is missing in it first. The structure is an entry's or made by a rule, and what it
+/// means is consistent, as that of each tree's structure is.
+pub(crate) fn line_of_full(
+    alloc: Global,
+    work: &mut Scratch,
+    signs: &SignBook<'_>,
+    paths: &MrsPaths,
+    full: &FullStructure,
+) -> Result<Vec<u8>, NoMemory>
+    requires sound { AreConsistent (signs_of signs.now).system (Meant (rule_system (signs_of signs.now)) (view_in signs.now full.now.graph)) }
+    requires made { IsMade (signs_of signs.now) (view_in signs.now full.now.graph) }
+    requires paths { ArePaths signs.now.book.system.types (paths_of paths.now) }
+    requires feats { length (paths_of paths.now).feats ≡ length signs.now.book.system.introducers }
+    ensures { IfOk result (λ line. IsLineIn (record { signs = signs.now; paths = paths_of paths.now }) (view_in signs.now full.now.graph) line.items) }
+{
+    let graph = closed_of(alloc, work, signs, full)?;
+    line_of_graph(alloc, signs, paths, &graph)
+}
+
+/// The line of a tree's MRS, or of the path that is missing first. The tree has a full structure; `lines` are those of the same grammar.
+/// What is remembered of full structures and of lines enters into no line.
+pub fn line_of_tree(
     alloc: Global,
     work: &mut Scratch,
     memo: &mut FullMemo,
-    signs: &'a SignBook<'a>,
-    paths: &MrsPaths,
+    fulls: &SharedFulls<'_, '_>,
+    lines: &MrsMemory<'_>,
     tree: &Tree,
 ) -> Result<Vec<u8>, NoMemory>
-    requires right { IsRight signs.now memo.old }
-    requires full { (f : Structure) × Full (signs_of signs.now) (derivation_of tree.now) f }
-    requires paths { ArePaths signs.now.book.system.types (paths_of paths.now) }
-    requires feats { length (paths_of paths.now).feats ≡ length signs.now.book.system.introducers }
-    ensures right { IfOk result (λ _. IsRight signs.now memo.new) }
-    ensures line { IfOk result (λ line. IsMrsLine (signs_of signs.now) (record { types = signs.now.book.system.types; paths = paths_of paths.now }) (derivation_of tree.now) line.items) }
+    requires right { IsRight fulls.now memo.old }
+    requires same { lines.now.signs ≡ fulls.now }
+    requires full { (f : Structure) × Full (signs_of fulls.now) (derivation_of tree.now) f }
+    requires paths { ArePaths fulls.now.book.system.types lines.now.paths }
+    requires feats { length lines.now.paths.feats ≡ length fulls.now.book.system.introducers }
+    ensures right { IfOk result (λ _. IsRight fulls.now memo.new) }
+    ensures line { IfOk result (λ line. IsMrsLine (signs_of fulls.now) (semantics_in lines.now) (derivation_of tree.now) line.items) }
 {
     structure_laws();
-    let Some(full) = full_of(alloc, work, memo, signs, tree)? else {
+    let Some(full) = full_of(alloc, work, memo, fulls, tree)? else {
         unreachable!()
     };
-    let graph = closed_of(alloc, work, signs, &full)?;
-    line_of_graph(alloc, signs, paths, &graph)
+    let line = lines.line(alloc, work, &full)?;
+    Ok(line)
 }

@@ -1,5 +1,5 @@
 -- What is dropped is hopeless, so dropping it changes nothing of what is asked for.
-use Rattle.std.specs.Prelude.{ℕ, ◌≡◌, ◌↔◌, ◌<◌, true, Option, Some, None, IfSome, List, [], ◌∷◌, length, map, All, slice_get}
+use Rattle.std.specs.Prelude.{ℕ, ◌≡◌, ◌↔◌, true, Option, Some, None, IfSome, List, [], ◌∷◌, map, All, slice_get}
 use Rattle.std.proofs.Common.{refl, sym, ◌∙◌, ap, subst, arith, zero, suc, eq-eqb}
 use Rattle.chart_model.specs.Calculus.{Calculus}
 use Rattle.chart_model.specs.declared.counts.Counts.{Counts}
@@ -19,11 +19,10 @@ use Rattle.mrs_model.specs.Meanings.{Meaning}
 use Rattle.mrs_places.specs.Paths.{Paths}
 use Rattle.mrs_extract.specs.Asked.{ArePaths}
 use Rattle.book_signs.specs.Trees.{SignTree, signs_of}
-use Rattle.rule_trees.specs.Mothers.{view_in, IsShortIn}
+use Rattle.rule_trees.specs.Mothers.{graph_view, IsShortIn}
 use Rattle.rule_trees.proofs.MakingLemmas.{inside}
-use Rattle.generate_model.specs.Contributions.{Input, Means}
+use Rattle.generate_model.specs.Contributions.{Input}
 use Rattle.generate_model.specs.Threading.{Fit, Hopeless}
-use Rattle.generate_model.specs.Pruning.{pruned}
 use Rattle.generate_model.proofs.Dropped.{hopeless_may_be_dropped}
 use Rattle.generate_model.proofs.Pruned.{pruning_is_exact}
 use Rattle.generated_leaves.specs.Leaves.{WordLeaf}
@@ -32,7 +31,7 @@ use Rattle.relation_fit.specs.Fits.{IsAskedOf, IsPartOf}
 use Rattle.relation_fit.specs.Lists.{RelList, list_seen}
 use Rattle.relation_fit.proofs.Misfits.{misfit_of, misfit_hopeless}
 use Rattle.realized_trees.specs.declared.sifting.Sieve.{Sieve}
-use Rattle.realized_trees.specs.Sieves.{IsThreaded, IsSieve, IsDropped, MayDrop, sifted}
+use Rattle.realized_trees.specs.Sieves.{IsSieve, IsDropped, sifted}
 use Rattle.realized_trees.specs.PrunedLaws.{counted_rules, SievesAreExact}
 use Rattle.realized_trees.proofs.OneGraph.{has_pair}
 
@@ -54,7 +53,7 @@ module _ (ps : List Path) (r : Reader) (is : IsInside ps r) where
       (subst (λ t. let pq : Path × Path = (p, q) in Beside pq t (pairs_of ps) (view ps r).equal) (same_one (r.node_at p) (r.node_at q) n a b)
       (beside_mapped (λ (pq : Path × Path). same_node (r.node_at pq.0) (r.node_at pq.1)) (has_pair ps ps (is p n a) (is q n b))))
 
-pub graph_part : (t : SignTree) (graph : GraphMap) → IsShortIn t graph → IsPartOf (Meant (rule_system (signs_of t)) (view_in t graph)) (reader_of graph)
+pub graph_part : (t : SignTree) (graph : GraphMap) → IsShortIn t graph → IsPartOf (Meant (rule_system (signs_of t)) (graph_view t graph)) (reader_of graph)
 graph_part t graph short = record {
   equal = λ p q n a b. given_claim (same p q) (said_equal (signs_of t).paths (reader_of graph) (inside t graph short) p q n a b);
   typed = λ p n a. given_claim (below p ((reader_of graph).type_of n)) (said_type (signs_of t).paths (reader_of graph) (inside t graph short) p n a);

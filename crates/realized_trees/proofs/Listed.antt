@@ -1,7 +1,7 @@
 -- The list by which structures may be dropped.
-use Rattle.std.specs.Prelude.{ℕ, ◌≡◌, ◌<◌, not, true, false, Bool, Option, Some, None, IfSome, List, [], length, option_map}
+use Rattle.std.specs.Prelude.{ℕ, ◌≡◌, ◌<◌, not, true, false, Bool, Option, Some, None, IfSome, List, [], option_map}
 use Rattle.std.specs.Option.{is_some}
-use Rattle.std.proofs.Common.{refl, sym, ◌∙◌, ap, subst}
+use Rattle.std.proofs.Common.{sym, ◌∙◌, ap, subst}
 use Rattle.type_hierarchy.specs.declared.types.Ty.{Ty}
 use Rattle.fs_graph.specs.declared.facts.Feat.{Feat}
 use Rattle.fs_graph.specs.Facts.{path_of}

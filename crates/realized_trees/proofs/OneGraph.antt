@@ -1,6 +1,6 @@
 -- A graph is told by the structure that it is on the paths that may be.
-use Rattle.std.specs.Prelude.{ℕ, ◌≡◌, ◌<◌, ◌==◌, Bool, true, false, Option, Some, None, List, [], ◌∷◌, ◌++◌, length, map}
-use Rattle.std.proofs.Common.{refl, sym, ◌∙◌, ap, subst, arith, eq-eqb}
+use Rattle.std.specs.Prelude.{ℕ, ◌≡◌, ◌<◌, true, Option, Some, None, List, [], ◌∷◌, ◌++◌, length, map}
+use Rattle.std.proofs.Common.{refl, sym, ◌∙◌, ap, arith, eq-eqb}
 use Rattle.std.proofs.lemmas.Bool.{eqb-true}
 use Rattle.std.proofs.lemmas.List.{ext_get_or}
 use Rattle.fs_model.specs.Claims.{Path, Has, here, there}
@@ -10,7 +10,7 @@ use Rattle.fs_graph.proofs.SameLemmas.{one_graph}
 use Rattle.tree_model.specs.Structures.{Structure, pairs_from, pairs_of}
 use Rattle.tree_model.specs.Views.{view_type, same_node, view, IsInside}
 use Rattle.book_signs.specs.Trees.{SignTree, signs_of}
-use Rattle.rule_trees.specs.Mothers.{view_in, IsShortIn}
+use Rattle.rule_trees.specs.Mothers.{graph_view, IsShortIn}
 use Rattle.rule_trees.proofs.MakingLemmas.{inside}
 
 same_nodes : (g h : GraphMap) → IsGraph g → IsGraph h → length g.types ≡ length h.types → ((n : ℕ) → n < length g.types → IsSameNode g h n) → g ≡ h
@@ -80,7 +80,7 @@ readers_alike ps a b ia ib e = record {
   types = λ p n m x y. type_in a b p n m x y (types_alike ps a b ia ib e p (ia p n x));
 }
 
-pub graph_told : (t : SignTree) (a b : GraphMap) → IsGraph a → IsGraph b → IsShortIn t a → IsShortIn t b → view_in t a ≡ view_in t b → a ≡ b
+pub graph_told : (t : SignTree) (a b : GraphMap) → IsGraph a → IsGraph b → IsShortIn t a → IsShortIn t b → graph_view t a ≡ graph_view t b → a ≡ b
 graph_told t a b ga gb sa sb e =
     let same = one_graph a b ga gb (readers_alike (signs_of t).paths (reader_of a) (reader_of b) (inside t a sa) (inside t b sb) e) in
     same_nodes a b ga gb same.0 same.1

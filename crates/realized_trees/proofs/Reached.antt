@@ -1,10 +1,7 @@
 -- What is reached without what is dropped is reached with it; and what stands between tests and full structures.
-use Rattle.std.specs.Prelude.{ℕ, ◌≡◌, ◌↔◌, ◌++◌, Bool, true, false, IsTrue, Option, Some, None, List, [], ◌∷◌, map, All, Result, Ok, Err, IfOk, MatchOption}
-use Rattle.std.proofs.Common.{refl, sym, ◌∙◌, ap, subst, Global}
-use Rattle.std.specs.Arc.{arc_value}
-use Rattle.std.specs.declared.sync.Arc.{Arc}
-use Rattle.chart_model.specs.Tuples.{on_list}
-use Rattle.fs_model.specs.Claims.{Has, here, there, IsOrder}
+use Rattle.std.specs.Prelude.{ℕ, ◌≡◌, Option, Some, None, List, map, All}
+use Rattle.std.proofs.Common.{subst}
+use Rattle.fs_model.specs.Claims.{Has, IsOrder}
 use Rattle.tree_model.specs.Readings.{Wholes}
 use Rattle.forest_unpack.specs.Reached.{IsReached, reached_leaf, reached_phrase}
 use Rattle.tree_model.specs.Structures.{Structure}
@@ -13,7 +10,6 @@ use Rattle.tree_model.proofs.Closures.{closure_ends, kept_ends}
 use Rattle.tree_model.specs.Signs.{Signs, rule_system}
 use Rattle.tree_model.proofs.Once.{one_structure}
 use Rattle.generate_model.specs.Pruning.{pruned}
-use Rattle.realized_trees.specs.Inner.Parts.{of_part}
 
 module _ {V C : Type 0} (w : Wholes V C) (dropped : V → Type 0) (named : ℕ → Type 0) where
   pub reached_back : (v : V) → IsReached (pruned w dropped) named v → IsReached w named v

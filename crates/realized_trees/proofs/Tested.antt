@@ -1,6 +1,7 @@
 -- Tests of structures and of daughters.
 use Rattle.std.specs.Prelude.{◌≡◌, ◌⊎◌, ◌<◌, All, Bool, true, false, IsTrue, Option, Some, None, List, [], ◌∷◌, map}
 use Rattle.std.proofs.Common.{refl, sym, ◌∙◌, ap, subst, inl, inr, Global}
+use Rattle.std.proofs.lemmas.List.Elements.{All-head, All-tail, All-nil, All-cons}
 use Rattle.std.specs.Arc.{arc_value}
 use Rattle.std.specs.declared.sync.Arc.{Arc}
 use Rattle.chart_model.specs.Tuples.{on_list}
@@ -10,7 +11,7 @@ use Rattle.fs_graph.specs.GraphMap.{GraphMap, IsGraph}
 use Rattle.tree_model.specs.Structures.{Structure}
 use Rattle.mrs_places.specs.Paths.{Paths}
 use Rattle.book_signs.specs.Trees.{SignTree}
-use Rattle.rule_trees.specs.Mothers.{view_in, IsShortIn}
+use Rattle.rule_trees.specs.Mothers.{graph_view, IsShortIn}
 use Rattle.forest_unpack.specs.declared.fulls.FullParts.{FullParts}
 use Rattle.forest_unpack.specs.Parts.{parts_of}
 use Rattle.relation_fit.specs.Lists.{list_seen}
@@ -20,13 +21,45 @@ use Rattle.realized_trees.specs.Sieves.{IsDropped, MayDrop}
 use Rattle.realized_trees.specs.Inner.Parts.{HasDropped, of_part}
 use Rattle.realized_trees.proofs.OneGraph.{graph_told}
 
+-- each daughter alone, of all of them
+module _ {T : Type 0} (P : T → Type 0) where
+  one_of : (part : Option (Arc T Global)) (rest : List (Arc T Global)) → All P (map arc_value (on_list part rest)) → All P (of_part part)
+  one_of None rest all = All-nil P
+  one_of (Some a) rest all = All-cons P (arc_value a) [] (All-head P (arc_value a) (map arc_value rest) all) (All-nil P)
+
+  rest_of : (part : Option (Arc T Global)) (rest : List (Arc T Global)) → All P (map arc_value (on_list part rest)) → All P (map arc_value rest)
+  rest_of None rest all = all
+  rest_of (Some a) rest all = All-tail P (arc_value a) (map arc_value rest) all
+
+  module _ (ps : FullParts T) (all : All P (parts_of ps)) where
+    abbrev behind_c : List (Arc T Global)
+    behind_c = on_list ps.d []
+
+    abbrev behind_b : List (Arc T Global)
+    behind_b = on_list ps.c behind_c
+
+    abbrev behind_a : List (Arc T Global)
+    behind_a = on_list ps.b behind_b
+
+    pub all_a : All P (of_part ps.a)
+    all_a = one_of ps.a behind_a all
+
+    pub all_b : All P (of_part ps.b)
+    all_b = one_of ps.b behind_b (rest_of ps.a behind_a all)
+
+    pub all_c : All P (of_part ps.c)
+    all_c = one_of ps.c behind_c (rest_of ps.b behind_b (rest_of ps.a behind_a all))
+
+    pub all_d : All P (of_part ps.d)
+    all_d = one_of ps.d [] (rest_of ps.c behind_c (rest_of ps.b behind_b (rest_of ps.a behind_a all)))
+
 -- what the test asks of a graph
 pub typed_in : (t : SignTree) (types : TypeTable) → types ≡ t.book.system.types → (graph other : GraphMap) → graph ≡ other → IsShortIn t other → All (λ u. u < count_of types) graph.types
 typed_in t types e graph other g short = subst (λ x. All (λ u. u < count_of types) x.types) (sym g) (subst (λ y. All (λ u. u < count_of y) other.types) (sym e) short.graph_in.types_in)
 
 -- the test of a graph is that of the structure that it is
 pub tested : (t : SignTree) (p : Paths) (s : Sieve) (graph : GraphMap) → IsGraph graph → IsShortIn t graph → (b : Bool) → b ≡ has_misfit t.book.system.types graph p s.sought.eps.items (list_seen s.list.now) →
-    (IsTrue b → IsDropped t p s (view_in t graph)) × (IsDropped t p s (view_in t graph) → IsTrue b)
+    (IsTrue b → IsDropped t p s (graph_view t graph)) × (IsDropped t p s (graph_view t graph) → IsTrue b)
 tested t p s graph is short b e = (
   λ y. record { graph = graph; is = is; short = short; seen = refl; misfit = sym e ∙ y },
   λ d. e ∙ ap (λ x. has_misfit t.book.system.types x p s.sought.eps.items (list_seen s.list.now)) (graph_told t graph d.graph is d.is short d.short (sym d.seen)) ∙ d.misfit,

@@ -1,5 +1,5 @@
 -- When structures may be dropped, and which are.
-use Rattle.std.specs.Prelude.{ℕ, ◌≡◌, true, Option, Some, None, All, List}
+use Rattle.std.specs.Prelude.{◌≡◌, true, Option, Some, None, All, List}
 use Rattle.fs_graph.specs.GraphMap.{GraphMap, IsGraph}
 use Rattle.chart_model.specs.declared.counts.Counts.{Counts}
 use Rattle.tree_model.specs.Readings.{Wholes}
@@ -8,7 +8,7 @@ use Rattle.tree_model.specs.Signs.{rule_system}
 use Rattle.mrs_model.specs.Meanings.{Meaning}
 use Rattle.mrs_places.specs.Paths.{Paths}
 use Rattle.book_signs.specs.Trees.{SignTree, signs_of}
-use Rattle.rule_trees.specs.Mothers.{view_in, IsShortIn}
+use Rattle.rule_trees.specs.Mothers.{graph_view, IsShortIn}
 use Rattle.generate_model.specs.Embedding.{IsOutside}
 use Rattle.generate_model.specs.Threading.{AllThread, Fit}
 use Rattle.generate_model.specs.Pruning.{pruned}
@@ -37,7 +37,7 @@ pub record IsDropped (t : SignTree) (p : Paths) (s : Sieve) (f : Structure) : Ty
   pub graph : GraphMap
   pub is : IsGraph graph
   pub short : IsShortIn t graph
-  pub seen : view_in t graph ≡ f
+  pub seen : graph_view t graph ≡ f
   pub misfit : has_misfit t.book.system.types graph p s.sought.eps.items (list_seen s.list.now) ≡ true
 
 -- without a sieve nothing is dropped

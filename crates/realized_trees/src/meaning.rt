@@ -98,10 +98,7 @@ pub(crate) fn is_realized(
     ensures { IfOk result (λ yes. IsTrue yes ↔ (IsRooted (signs_of signs.now) (view_in signs.now full.now.graph)
         × Means (signs_of signs.now) (input_of signs.now (paths_of paths.now) (meaning_of mrs.now)) (view_in signs.now full.now.graph))) }
 {
-    if !full.is_within(signs) {
-        return Err(NoMemory);
-    }
-    if !rooted(alloc, work, signs, full.graph())? {
+    if !rooted(alloc, work, signs, full)? {
         return Ok(false);
     }
     means(alloc, work, signs, paths, mrs, full)

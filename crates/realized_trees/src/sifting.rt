@@ -7,7 +7,7 @@ ghost use Rattle.generate_model.specs.Threading.{Fit};
 ghost use Rattle.mrs_model.specs.Views.{meaning_of};
 ghost use Rattle.mrs_places.specs.Paths.{paths_of};
 ghost use Rattle.book_signs.specs.Trees.{signs_of};
-ghost use Rattle.rule_trees.specs.Mothers.{view_in};
+ghost use Rattle.rule_trees.specs.Mothers.{IsMade, view_in};
 ghost use Rattle.generated_leaves.specs.Views.{leaf_seen};
 ghost use Rattle.relation_fit.specs.Lists.{list_seen};
 ghost use Rattle.realized_trees.specs.Sieves.{IsThreaded, IsSieve};
@@ -35,11 +35,10 @@ fn leaf_reaches(
     list: &RelationList,
     full: &FullStructure,
 ) -> Result<bool, NoMemory>
+    requires { IsMade (signs_of signs.now) (view_in signs.now full.now.graph) }
     ensures { IfOk result (λ yes. yes ≡ true → Fit (rule_system (signs_of signs.now)) (list_seen list.now).rest (list_seen list.now).ends (view_in signs.now full.now.graph)) }
 {
-    if !full.is_within(signs) {
-        return Ok(false);
-    }
+    full.laws(signs);
     let yes = reaches(alloc, full.graph(), list)?;
     Ok(yes)
 }
@@ -51,6 +50,7 @@ fn leaves_reach(
     list: &RelationList,
     leaves: &[GenLeaf],
 ) -> Result<bool, NoMemory>
+    requires { All (λ l. IsMade (signs_of signs.now) (leaf_seen signs.now l).full) leaves.now }
     ensures { IfOk result (λ yes. yes ≡ true → All (λ x. Fit (rule_system (signs_of signs.now)) (list_seen list.now).rest (list_seen list.now).ends x.full) (map (leaf_seen signs.now) leaves.now)) }
 {
     for leaf in leaves {
@@ -62,7 +62,7 @@ fn leaves_reach(
 }
 
 /// What may be dropped in unpacking over these leaves, for an MRS, by the list of the grammar; nothing where the grammar has none, or the
-/// list of a leaf doesn't reach its end.
+/// list of a leaf doesn't reach its end. The structures of the leaves are of entries, or made by rules.
 pub fn sieve_of<'a>(
     alloc: Global,
     signs: &SignBook<'_>,
@@ -71,7 +71,8 @@ pub fn sieve_of<'a>(
     mrs: &Mrs,
     leaves: &[GenLeaf],
 ) -> Result<Option<Sieve<'a>>, NoMemory>
-    requires { IfSome list.now (λ l. IsThreaded signs.now (paths_of paths.now) (list_seen l)) }
+    requires threaded { IfSome list.now (λ l. IsThreaded signs.now (paths_of paths.now) (list_seen l)) }
+    requires made { All (λ l. IsMade (signs_of signs.now) (leaf_seen signs.now l).full) leaves.now }
     ensures { IfOk result (λ o. IfSome o (IsSieve signs.now (paths_of paths.now) (meaning_of mrs.now) (map (leaf_seen signs.now) leaves.now))) }
 {
     let Some(list) = list else {

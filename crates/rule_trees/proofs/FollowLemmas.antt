@@ -20,7 +20,7 @@ use Rattle.tree_model.specs.Signs.{Instance, Signs, rule_system}
 use Rattle.tree_model.specs.Lexical.{IsUnderRule}
 use Rattle.book_signs.specs.Signed.{facts_of}
 use Rattle.book_signs.specs.Trees.{SignTree, signs_of, rule_at, facts_at, places_at}
-use Rattle.rule_trees.specs.Mothers.{view_in, IsShortIn}
+use Rattle.rule_trees.specs.Mothers.{graph_view, IsShortIn}
 use Rattle.rule_trees.specs.Inner.Placed.{placed_with}
 use Rattle.rule_trees.specs.Inner.Following.{IsOwnOf, NeverApplies}
 use Rattle.rule_trees.proofs.MakingLemmas.{inside, rule_with, rule_by, rule_is, same_source}
@@ -68,7 +68,7 @@ module _ (t : SignTree) where
       λ k. not_true good off (answer.1 (subst (λ src. IsConsistent g.system (Told src)) (sym source) k)) in
       none_applies S (rule_by t structure places) (reader_of daughter ∷ []) (inside_more (inside t daughter short) inside_none)
       (λ k. refused ((said_is_consistent g.system g.paths (reader_of structure) places (reader_of daughter ∷ []) (inside t structure own)).1 k))
-      (subst (λ x. Applies S x (view_in t daughter ∷ [])) same ok)
+      (subst (λ x. Applies S x (graph_view t daughter ∷ [])) same ok)
     where
       not_true : (b : Bool) → b ≡ false → IsTrue b → ⊥
       not_true true e h = cc
@@ -83,12 +83,12 @@ module _ (t : SignTree) where
   no_follow inner outer own is never d e f u o =
       never o.instance.rule (ap (option_map (λ (i : Instance). i.rule)) o.at) (falls g.system (λ c a. grows g.system by_part a) o.full.0)
     where
-      meant : (c : Claim) → Says g.paths (view_in t own) c → Meant S e c
+      meant : (c : Claim) → Says g.paths (graph_view t own) c → Meant S e c
       meant c x =
           full_meant S u.instance.rule (d ∷ []) e u.full
           (given_claim c (keeps_more (λ k a. grows g.system (λ m y. given_claim m (of_rule m y)) a) (is u.instance.rule (ap (option_map (λ (i : Instance). i.rule)) u.at) c x)))
 
-      by_part : (c : Claim) → Parts g.paths o.instance.rule (view_in t own ∷ []) c → Whole S o.instance.rule (e ∷ []) c
+      by_part : (c : Claim) → Parts g.paths o.instance.rule (graph_view t own ∷ []) c → Whole S o.instance.rule (e ∷ []) c
       by_part c (of_rule _ h) = given_claim c (of_rule c h)
       by_part _ (of_daughter place m c h x) =
           let z = one_beside h in

@@ -17,7 +17,7 @@ use Rattle.tree_model.specs.Lexical.{IsEntry, IsUnderRule}
 use Rattle.book_signs.specs.Conditions.{IsClosed}
 use Rattle.book_signs.specs.Signed.{facts_of}
 use Rattle.book_signs.specs.Trees.{SignTree, signs_of, facts_at, entries_of, lexical_rules_of, HaveArities}
-use Rattle.rule_trees.specs.Mothers.{view_in, IsShortIn, IsMother}
+use Rattle.rule_trees.specs.Mothers.{graph_view, IsShortIn, IsMother}
 use Rattle.rule_trees.proofs.MakingLemmas.{inside}
 use Rattle.rule_trees.proofs.PlaceLemmas.{entry_at, lexical_at}
 
@@ -38,7 +38,7 @@ module _ (t : SignTree) (x : GraphMap) (is : IsClosed t.book.system x) (short : 
   said_shows =
       shows_same s (reader_of x) (λ c a. alone_said s (signs_of t).paths (reader_of x) [] [] (inside t x short) a) (λ c a. said_alone s (signs_of t).paths (reader_of x) [] [] a) alone_shows
 
-  pub said_structure : IsStructureOf s (signs_of t).paths (Closure s (Told said)) (view_in t x)
+  pub said_structure : IsStructureOf s (signs_of t).paths (Closure s (Told said)) (graph_view t x)
   said_structure = viewed s (signs_of t).paths (reader_of x) said_shows (inside t x short)
 
   pub said_consistent : IsConsistent s (Told said)
@@ -50,7 +50,7 @@ facts_here g place i facts at h =
 
 -- the full structure of an entry is that of its structure
 pub entry_full : (t : SignTree) (place : ℕ) (x : GraphMap) (f : Structure) → Has place (entries_of (signs_of t)) → facts_at (signs_of t) place ≡ Some (facts_of t.book.system x) → IsClosed t.book.system x → IsShortIn t x
-    → view_in t x ≡ f → IsEntry (signs_of t) place f
+    → graph_view t x ≡ f → IsEntry (signs_of t) place f
 entry_full t place x f has facts is short same =
     let g = signs_of t in
     let e = entry_at g place has in
@@ -61,7 +61,7 @@ entry_full t place x f has facts is short same =
       at = e.at;
       kind = e.kind;
       consistent = subst (λ src. IsConsistent g.system (Told src)) (sym h) (said_consistent t x is short);
-      structure = subst (λ src. IsStructureOf g.system g.paths (Closure g.system (Told src)) (view_in t x)) (sym h) (said_structure t x is short);
+      structure = subst (λ src. IsStructureOf g.system g.paths (Closure g.system (Told src)) (graph_view t x)) (sym h) (said_structure t x is short);
     })
 
 -- what a lexical rule makes of a full structure

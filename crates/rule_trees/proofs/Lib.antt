@@ -4,6 +4,7 @@ pub mod CopyLemmas
 pub mod PlaceLemmas
 pub mod LexicalLemmas
 pub mod WithinLemmas
+pub mod BoundLemmas
 pub mod LineLemmas
 pub mod FollowLemmas
 pub mod OweLemmas

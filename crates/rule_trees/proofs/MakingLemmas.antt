@@ -20,7 +20,7 @@ use Rattle.tree_model.specs.Signs.{Instance, Signs, rule_system}
 use Rattle.book_signs.specs.Conditions.{IsClosed}
 use Rattle.book_signs.specs.Signed.{facts_of}
 use Rattle.book_signs.specs.Trees.{SignTree, signs_of, rule_at, facts_at, places_at, ArePathsIn}
-use Rattle.rule_trees.specs.Mothers.{view_in, IsShortIn, IsMotherOf, HasDaughters}
+use Rattle.rule_trees.specs.Mothers.{graph_view, IsShortIn, IsMotherOf, HasDaughters}
 use Rattle.rule_trees.specs.Inner.Placed.{daughters_at, placed_with}
 
 none_at : (owed : OwedRules) (ps : List Path) → daughters_at owed ps [] ≡ []
@@ -49,9 +49,9 @@ pub all_inside : (t : SignTree) (ds : List GraphMap) → All (IsShortIn t) ds �
 all_inside t [] all = inside_none
 all_inside t (d ∷ ds) all = inside_more (inside t d (all 0 d (omega arith))) (all_inside t ds (λ k x l. all (suc k) x (omega (arith, l))))
 
-pub fused : (t : SignTree) (ds : List GraphMap) → map (view (signs_of t).paths) (map reader_of ds) ≡ map (view_in t) ds
+pub fused : (t : SignTree) (ds : List GraphMap) → map (view (signs_of t).paths) (map reader_of ds) ≡ map (graph_view t) ds
 fused t [] = refl
-fused t (d ∷ ds) = ap (λ ms. view_in t d ∷ ms) (fused t ds)
+fused t (d ∷ ds) = ap (λ ms. graph_view t d ∷ ms) (fused t ds)
 
 same_parts : (owed : OwedRules) (ps : List Path) (gs : List GraphMap) → map part_of (daughters_at owed ps gs) ≡ parts_at ps (map reader_of gs)
 same_parts owed [] gs = refl
@@ -87,7 +87,7 @@ made t owed place structure places ds parts o facts at own short are trimmed kno
 
     by_answer : (o : Option GraphMap) → IsTrimmed (system_of t.book.system) (source_of parts) [] (daughters_cut (rule_system (signs_of t))) (option_map reader_of o) → IfSome o (IsShort t.book.system) → IsMotherOf t place ds o
     by_answer None clash known = λ may.
-        let z : AppliesAt (rule_system (signs_of t)) (Some (rule_by t structure places)) (map (view_in t) ds) = subst (λ r. AppliesAt (rule_system (signs_of t)) r (map (view_in t) ds)) rule may in
+        let z : AppliesAt (rule_system (signs_of t)) (Some (rule_by t structure places)) (map (graph_view t) ds) = subst (λ r. AppliesAt (rule_system (signs_of t)) r (map (graph_view t) ds)) rule may in
         let y : Applies (rule_system (signs_of t)) (rule_by t structure places) (map (view (signs_of t).paths) (map reader_of ds)) = subst (λ fs. Applies (rule_system (signs_of t)) (rule_by t structure places) fs) (sym (fused t ds)) z in
         let refused = subst (λ src. IsConsistent (system_of t.book.system) (Told src) → ⊥) source clash in
         none_applies (rule_system (signs_of t)) (rule_by t structure places) (map reader_of ds) (all_inside t ds short)
@@ -96,7 +96,7 @@ made t owed place structure places ds parts o facts at own short are trimmed kno
         let by_graph = subst (λ src. IsTrimmed (system_of t.book.system) src [] (daughters_cut (rule_system (signs_of t))) (Some (reader_of graph))) source is in
         let z = trimmed_full (rule_system (signs_of t)) (rule_by t structure places) (map reader_of ds) (reader_of graph) (all_inside t ds short) (inside t graph known)
         (said_trims (system_of t.book.system) (signs_of t).paths (reader_of structure) places (map reader_of ds) (inside t structure own) [] (daughters_cut (rule_system (signs_of t))) (Some (reader_of graph)) by_graph) in
-        (subst (λ r. IsFullAt (rule_system (signs_of t)) r (map (view_in t) ds) (view_in t graph)) (sym rule) (subst (λ fs. IsFull (rule_system (signs_of t)) (rule_by t structure places) fs (view_in t graph)) (fused t ds) z), known)
+        (subst (λ r. IsFullAt (rule_system (signs_of t)) r (map (graph_view t) ds) (graph_view t graph)) (sym rule) (subst (λ fs. IsFull (rule_system (signs_of t)) (rule_by t structure places) fs (graph_view t graph)) (fused t ds) z), known)
 
 abbrev pub Owes : Grammar → OwedFacts → GraphMap → Type 0
 Owes g facts graph = IsWellFormedBut (system_of g) (reader_of graph) facts

@@ -13,28 +13,30 @@ use Rattle.lexical_items.specs.Fulls.{IsLexicalFull}
 use Rattle.lexical_items.specs.Listed.{Lexeme}
 use Rattle.forest_unpack.specs.Reached.{IsReached, reached_leaf, reached_phrase}
 use Rattle.book_signs.specs.Trees.{SignTree, signs_of}
-use Rattle.rule_trees.specs.Mothers.{view_in, IsShortIn, IsMade, made_entry, made_mother}
+use Rattle.rule_trees.specs.declared.bounded.BoundedGraph.{BoundedGraph}
+use Rattle.rule_trees.specs.Mothers.{graph_view, view_in, IsShortIn, IsMade, made_entry, made_mother}
 use Rattle.rule_trees.specs.Wholes.{wholes_of, full_named, IsLexicalAt}
 use Rattle.rule_trees.specs.Inner.Owing.{OwesDaughters}
 use Rattle.rule_trees.proofs.MakingLemmas.{inside}
+use Rattle.rule_trees.proofs.BoundLemmas.{made_short, made_seen}
 
 -- a graph of such a structure
-pub made_owes : (t : SignTree) (graph : GraphMap) → IsShortIn t graph → IsMade (signs_of t) (view_in t graph) → OwesDaughters t graph
+pub made_owes : (t : SignTree) (graph : GraphMap) → IsShortIn t graph → IsMade (signs_of t) (graph_view t graph) → OwesDaughters t graph
 made_owes t graph short (made_entry entry is) =
     let g = rule_system (signs_of t) in
     closures_owe g is.instance.rule.facts (reader_of graph) (owed_of g.daughters) (inside t graph short) is.structure
 made_owes t graph short (made_mother rule fs is) = fulls_owe (rule_system (signs_of t)) rule fs (reader_of graph) (inside t graph short) is
 
--- all of some graphs
-pub all_owe : {T : Type 0} (t : SignTree) (graph : T → GraphMap) (ds : List GraphMap) (fulls : List T) → ds ≡ map graph fulls → All (IsShortIn t) ds → All (λ f. IsMade (signs_of t) (view_in t (graph f))) fulls → All (OwesDaughters t) ds
-all_owe {T} t graph ds fulls is short made = subst (All (OwesDaughters t)) (sym is) (each fulls (subst (All (IsShortIn t)) is short) made)
-  where
-    each : (fs : List T) → All (IsShortIn t) (map graph fs) → All (λ f. IsMade (signs_of t) (view_in t (graph f))) fs → All (OwesDaughters t) (map graph fs)
-    each [] s m = All-nil (OwesDaughters t)
-    each (f ∷ fs) s m =
-        All-cons (OwesDaughters t) (graph f) (map graph fs)
-        (made_owes t (graph f) (All-head (IsShortIn t) (graph f) (map graph fs) s) (All-head (λ f. IsMade (signs_of t) (view_in t (graph f))) f fs m))
-        (each fs (All-tail (IsShortIn t) (graph f) (map graph fs) s) (All-tail (λ f. IsMade (signs_of t) (view_in t (graph f))) f fs m))
+pub full_owes : (t : SignTree) (x : BoundedGraph) → IsMade (signs_of t) (view_in t x) → OwesDaughters t x.plain
+full_owes t x is = made_owes t x.plain (made_short t x is) (subst (IsMade (signs_of t)) (made_seen t x is) is)
+
+-- all of some structures
+pub all_owe : {T : Type 0} (t : SignTree) (graph : T → BoundedGraph) (fulls : List T) → All (λ f. IsMade (signs_of t) (view_in t (graph f))) fulls → All (OwesDaughters t) (map (λ f. (graph f).plain) fulls)
+all_owe t graph [] made = All-nil (OwesDaughters t)
+all_owe t graph (f ∷ fs) made =
+    All-cons (OwesDaughters t) (graph f).plain (map (λ f. (graph f).plain) fs)
+    (full_owes t (graph f) (All-head (λ f. IsMade (signs_of t) (view_in t (graph f))) f fs made))
+    (all_owe t graph fs (All-tail (λ f. IsMade (signs_of t) (view_in t (graph f))) f fs made))
 
 pub one_owes : (t : SignTree) (graph : GraphMap) → OwesDaughters t graph → All (OwesDaughters t) (graph ∷ [])
 one_owes t graph is = All-cons (OwesDaughters t) graph [] is (All-nil (OwesDaughters t))

@@ -22,7 +22,7 @@ use Rattle.book_signs.specs.Trees.{SignTree, signs_of, facts_at, places_where, k
 use Rattle.book_signs.specs.Conditions.{IsClosed}
 use Rattle.book_signs.specs.Signed.{facts_of}
 use Rattle.book_signs.proofs.KindLemmas.{kinded, has_kind, root_kind}
-use Rattle.rule_trees.specs.Mothers.{view_in, IsShortIn}
+use Rattle.rule_trees.specs.Mothers.{graph_view, IsShortIn}
 use Rattle.rule_trees.specs.Inner.Placed.{placed_both}
 use Rattle.rule_trees.specs.Inner.Rooting.{IsRootedBy}
 use Rattle.rule_trees.proofs.MakingLemmas.{inside, closed_part, cut_part}
@@ -53,19 +53,19 @@ module _ (t : SignTree) (owed : OwedRules) (i : Instance) (root full : GraphMap)
   source : source_at (over_root i.rule.facts) (reader_of full ∷ []) ≡ source_at (rule_said g.paths (reader_of root) ([] ∷ [])) (reader_of full ∷ [])
   source = ap (λ (s : Source). source_at (over_root s) (reader_of full ∷ [])) facts
 
-  to_both : (c : Claim) → Told (source_of (placed_both owed root full)) c → Closure g.system (Both g i (view_in t full)) c
+  to_both : (c : Claim) → Told (source_of (placed_both owed root full)) c → Closure g.system (Both g i (graph_view t full)) c
   to_both c h =
-      grows g.system (λ d x. grows g.system (λ e y. given_claim e (parts_both g i (view_in t full) e y))
+      grows g.system (λ d x. grows g.system (λ e y. given_claim e (parts_both g i (graph_view t full) e y))
       (parts_to (rule_system g) (over_root i.rule.facts) (reader_of full ∷ []) all d (subst (λ s. Told s d) (sym source) x)))
       (alone_said g.system g.paths (reader_of root) ([] ∷ []) (reader_of full ∷ []) (inside t root own) (given_claim c h))
 
-  from_both : (c : Claim) → Both g i (view_in t full) c → Closure g.system (Told (source_of (placed_both owed root full))) c
+  from_both : (c : Claim) → Both g i (graph_view t full) c → Closure g.system (Told (source_of (placed_both owed root full))) c
   from_both c h =
       said_alone g.system g.paths (reader_of root) ([] ∷ []) (reader_of full ∷ [])
-      (subst (λ s. Closure g.system (Told s) c) source (parts_back (rule_system g) (over_root i.rule.facts) (reader_of full ∷ []) c (both_parts g i (view_in t full) c h)))
+      (subst (λ s. Closure g.system (Told s) c) source (parts_back (rule_system g) (over_root i.rule.facts) (reader_of full ∷ []) c (both_parts g i (graph_view t full) c h)))
 
   -- unification of a root and a structure
-  pub rooted_together : IsConsistent (system_of t.book.system) (Told (source_of (placed_both owed root full))) ↔ AreConsistent g.system (Closure g.system (Both g i (view_in t full)))
+  pub rooted_together : IsConsistent (system_of t.book.system) (Told (source_of (placed_both owed root full))) ↔ AreConsistent g.system (Closure g.system (Both g i (graph_view t full)))
   rooted_together = (λ ok. falls g.system (λ c a. grows g.system from_both a) ok, λ ok. falls g.system (λ c a. grows g.system to_both a) ok)
 
 got : {A : Type 0} (xs : List A) (n : ℕ) → n < length xs → (x : A) × (slice_get xs n ≡ Some x)
@@ -78,7 +78,7 @@ facts_here g place i facts at h =
     let z : Some i.rule.facts ≡ Some facts = sym (ap (λ o. option_map (λ (r : Rule). r.facts) (option_map (λ (i : Instance). i.rule) o)) at) ∙ h in cc
 
 pub rooted_here : (t : SignTree) (owed : OwedRules) (place : ℕ) (root full : GraphMap) (parts : List PlacedGraph) (good : Bool) → place < length (signs_of t).instances → facts_at (signs_of t) place ≡ Some (facts_of t.book.system root) → IsShortIn t root → IsShortIn t full →
-    parts ≡ placed_both owed root full → IsTrue good ↔ IsConsistent (system_of t.book.system) (Told (source_of parts)) → IsTrue good ↔ IsRootedBy (signs_of t) (view_in t full) place
+    parts ≡ placed_both owed root full → IsTrue good ↔ IsConsistent (system_of t.book.system) (Told (source_of parts)) → IsTrue good ↔ IsRootedBy (signs_of t) (graph_view t full) place
 rooted_here t owed place root full parts good lt facts own short are h =
     let i = got (signs_of t).instances place lt in
     let e = facts_here (signs_of t) place i.0 (facts_of t.book.system root) i.1 facts in
@@ -86,7 +86,7 @@ rooted_here t owed place root full parts good lt facts own short are h =
     let k = subst (λ ps. IsTrue good ↔ IsConsistent (system_of t.book.system) (Told (source_of ps))) are h in (
       λ y. record { root = i.0; at = i.1; unifies = both.0 (k.0 y) },
       λ r. k.1 (both.1 (let same : r.root ≡ i.0 = (let z : Some r.root ≡ Some i.0 = sym r.at ∙ i.1 in cc) in
-          subst (λ x. AreConsistent (signs_of t).system (Closure (signs_of t).system (Both (signs_of t) x (view_in t full)))) same r.unifies)),
+          subst (λ x. AreConsistent (signs_of t).system (Closure (signs_of t).system (Both (signs_of t) x (graph_view t full)))) same r.unifies)),
     )
 
 pub both_in : (t : SignTree) (facts : OwedFacts) (owed : OwedRules) → ListsOwed t.book.system facts owed → (root full : GraphMap) → IsClosed t.book.system root → IsShortIn t full → IsWellFormedBut (system_of t.book.system) (reader_of full) facts → (p : PlacedGraph) → Has p (placed_both owed root full) → IsPlacedIn t.book.system p

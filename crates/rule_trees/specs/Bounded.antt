@@ -1,4 +1,4 @@
--- Full structures with the bounds within which their types, features and paths are.
+-- Bounds within which types, features and paths of a graph are.
 use Rattle.std.specs.Prelude.{ℕ, ◌≡◌, ◌<◌, ◌≤◌, Some, All, length}
 use Rattle.fs_model.specs.Claims.{Path}
 use Rattle.fs_graph.specs.GraphMap.{GraphMap, node_at}

@@ -3,3 +3,4 @@ pub mod Placed
 pub mod Owing
 pub mod Rooting
 pub mod Following
+pub mod Wholes

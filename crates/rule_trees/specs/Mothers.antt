@@ -1,5 +1,6 @@
 -- Full structures as graphs: what rules make of them, and which are rooted.
-use Rattle.std.specs.Prelude.{ℕ, ◌≡◌, Option, Some, None, List, map, length, slice_get}
+use Rattle.std.specs.Prelude.{ℕ, ◌≡◌, ◌==◌, ◌&&◌, if◌then◌else◌, Bool, Option, Some, None, List, [], map, length, slice_get}
+use Rattle.type_hierarchy.specs.Table.{count_of}
 use Rattle.fs_graph.specs.GraphMap.{GraphMap, reader_of}
 use Rattle.fs_trim.specs.Cutting.{IsShort}
 use Rattle.tree_model.specs.Structures.{Structure}
@@ -8,10 +9,23 @@ use Rattle.tree_model.specs.Views.{view}
 use Rattle.tree_model.specs.Signs.{Instance, Signs, rule_system}
 use Rattle.tree_model.specs.Lexical.{IsEntry}
 use Rattle.book_signs.specs.Trees.{SignTree, signs_of, rule_at}
+use Rattle.rule_trees.specs.declared.bounded.BoundedGraph.{BoundedGraph}
 
 -- the structure that a graph is, on the paths that may be
-abbrev pub view_in : SignTree → GraphMap → Structure
-view_in t graph = view (signs_of t).paths (reader_of graph)
+abbrev pub graph_view : SignTree → GraphMap → Structure
+graph_view t graph = view (signs_of t).paths (reader_of graph)
+
+-- the bounds are those of a grammar
+abbrev pub has_bounds : SignTree → BoundedGraph → Bool
+has_bounds t x = (x.types == count_of t.book.system.types) && (x.feats == length t.book.system.introducers) && (x.limit == t.book.system.path_limit)
+
+-- what no entry has and no rule makes: not even the empty path is there
+abbrev pub no_structure : Structure
+no_structure = record { types = []; equal = [] }
+
+-- the structure that a full structure's graph is to a grammar, on the paths that may be; that of other bounds is none to it
+unfoldable pub view_in : SignTree → BoundedGraph → Structure
+view_in t x = if has_bounds t x then graph_view t x.plain else no_structure
 
 -- the rule at a place makes this full structure of its daughters'
 abbrev pub IsMother : Signs → ℕ → List Structure → Structure → Type 0
@@ -32,8 +46,8 @@ IsShortIn t graph = IsShort t.book.system graph
 
 -- the full structure that the rule at a place makes of its daughters', or that it doesn't apply to them
 abbrev pub IsMotherOf : SignTree → ℕ → List GraphMap → Option GraphMap → Type 0
-IsMotherOf t place daughters None = AppliesTo (signs_of t) place (map (view_in t) daughters) → ⊥
-IsMotherOf t place daughters (Some graph) = IsMother (signs_of t) place (map (view_in t) daughters) (view_in t graph) × IsShortIn t graph
+IsMotherOf t place daughters None = AppliesTo (signs_of t) place (map (graph_view t) daughters) → ⊥
+IsMotherOf t place daughters (Some graph) = IsMother (signs_of t) place (map (graph_view t) daughters) (graph_view t graph) × IsShortIn t graph
 
 -- at a place stands an instance with so many daughters
 pub record HasDaughters (g : Signs) (place count : ℕ) : Type 0 where

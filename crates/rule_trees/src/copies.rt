@@ -1,7 +1,7 @@
 //! Copies of graphs.
 
 ghost use Rattle.std.specs.Prelude.{◌≡◌, IfOk};
-ghost use Rattle.rule_trees.specs.Mothers.{view_in, IsShortIn};
+ghost use Rattle.rule_trees.specs.Mothers.{graph_view, IsShortIn};
 
 use crate::NoMemory;
 use book_signs::SignBook;
@@ -12,7 +12,7 @@ use std::alloc::Global;
 /// The same structure once more.
 pub(crate) fn copied(alloc: Global, signs: &SignBook<'_>, graph: &Graph) -> Result<Graph, NoMemory>
     requires { IsShortIn signs.now graph.now }
-    ensures same { IfOk result (λ g. view_in signs.now graph.now ≡ view_in signs.now g) }
+    ensures same { IfOk result (λ g. graph_view signs.now graph.now ≡ graph_view signs.now g) }
     ensures short { IfOk result (IsShortIn signs.now) }
 {
     signs.laws();

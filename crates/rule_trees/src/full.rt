@@ -1,9 +1,9 @@
 //! Full structures.
 
-ghost use Rattle.std.specs.Prelude.{◌≡◌, ◌<◌, true, length, IfOk};
+ghost use Rattle.std.specs.Prelude.{◌≡◌, true, IfOk};
 ghost use Rattle.std.specs.Arc.{arc_value};
-ghost use Rattle.rule_trees.specs.Fulls.{FullTree};
-ghost use Rattle.rule_trees.specs.Mothers.{IsShortIn, view_in};
+ghost use Rattle.book_signs.specs.Trees.{signs_of};
+ghost use Rattle.rule_trees.specs.Mothers.{IsShortIn, IsMade, graph_view, view_in};
 
 use crate::NoMemory;
 use crate::whole::Whole;
@@ -14,8 +14,8 @@ use std::marker::Model;
 use std::sync::Arc;
 
 /// A full structure, by the part of it that isn't a daughter's, with the bounds within which its types, features and paths
-/// are. These are those of the grammar that made it, so that another grammar's structure is told apart. One more of it costs
-/// next to nothing.
+/// are. These are those of the grammar that made it, so that what another grammar's entries have, or its rules make, is within its
+/// own. One more of it costs next to nothing.
 #[derive(Drop)]
 pub struct FullStructure {
     whole: Arc<Whole>,
@@ -27,7 +27,7 @@ impl Model for FullStructure {
 
     ghost Value = { FullTree };
 
-    ghost view = { λ f. record { graph = (arc_value f.whole).graph } };
+    ghost view = { λ f. record { graph = (arc_value f.whole).bounded } };
 }
 
 impl FullStructure {
@@ -38,7 +38,7 @@ impl FullStructure {
         graph: Graph,
     ) -> Result<FullStructure, NoMemory>
         requires { IsShortIn signs.now graph }
-        ensures { IfOk result (λ f. f.graph ≡ graph) }
+        ensures { IfOk result (λ f. view_in signs.now f.graph ≡ graph_view signs.now graph) }
     {
         let whole = Arc::new(alloc, Whole::of(signs, graph))?;
         Ok(FullStructure { whole })
@@ -46,16 +46,19 @@ impl FullStructure {
 
     /// The structure as a graph.
     pub fn graph(&self) -> &Graph
-        ensures { result.now ≡ self.now.graph }
+        ensures { result.now ≡ self.now.graph.plain }
     {
-        &self.whole.graph
+        &self.whole.bounded.plain
     }
 
-    /// Whether the structure is within the bounds of a grammar: those that the grammar made are.
-    pub fn is_within(&self, signs: &SignBook<'_>) -> bool
-        ensures { result ≡ true → IsShortIn signs.now self.now.graph }
+    /// A law: what an entry of a grammar has, or a rule makes, is what its graph is (`seen`), and within the bounds of the grammar
+    /// (`short`). It does nothing.
+    pub fn laws(&self, signs: &SignBook<'_>)
+        requires { IsMade (signs_of signs.now) (view_in signs.now self.now.graph) }
+        ensures seen { view_in signs.now self.now.graph ≡ graph_view signs.now self.now.graph.plain }
+        ensures short { IsShortIn signs.now self.now.graph.plain }
     {
-        self.whole.is_within(signs)
+        signs.laws();
     }
 
     /// Whether the structures are seen to be the same; where they aren't, nothing is said.

@@ -1,7 +1,7 @@
 //! The full structures of entries and lexical rules.
 
 ghost use Rattle.std.specs.Prelude.{◌≡◌, IfOk};
-ghost use Rattle.rule_trees.specs.Mothers.{IsShortIn};
+ghost use Rattle.rule_trees.specs.Mothers.{IsShortIn, graph_view, view_in};
 
 use crate::copies::copied;
 use crate::following::may_follow;
@@ -22,7 +22,7 @@ pub struct SignFulls<'a> {
 // The full structure of a graph.
 fn kept(alloc: Global, signs: &SignBook<'_>, graph: Graph) -> Result<FullStructure, NoMemory>
     requires { IsShortIn signs.now graph }
-    ensures { IfOk result (λ f. f.graph ≡ graph) }
+    ensures { IfOk result (λ f. view_in signs.now f.graph ≡ graph_view signs.now graph) }
 {
     match FullStructure::of(alloc, signs, graph) {
         Ok(full) => Ok(full),
@@ -76,9 +76,7 @@ impl<'a> LexicalFulls for SignFulls<'a> {
         full: &FullStructure,
     ) -> Result<Option<FullStructure>, NoMemory> {
         self.signs.laws();
-        if !full.is_within(self.signs) {
-            return Err(NoMemory);
-        }
+        full.laws(self.signs);
         match made(alloc, work, self.signs, place, &[full.graph()]) {
             Ok(Some(graph)) => {
                 let full = kept(alloc, self.signs, graph)?;

@@ -2,6 +2,7 @@
 //! 2002).
 #![tactic(auto)]
 
+mod bounded;
 mod copies;
 mod following;
 mod full;
@@ -16,6 +17,6 @@ pub use book_signs::SignBook;
 pub use full::FullStructure;
 pub use lexical::SignFulls;
 pub use line::LineFulls;
-pub use mothers::mother_of;
+pub use mothers::{graphs_of, mother_of};
 pub use roots::rooted;
 pub use std::alloc::AllocError as NoMemory;

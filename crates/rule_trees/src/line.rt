@@ -36,10 +36,7 @@ fn is_rooted(
     requires { IsMade (signs_of signs.now) (view_in signs.now full.now.graph) }
     ensures { IfOk result (λ yes. IsTrue yes ↔ IsRooted (signs_of signs.now) (view_in signs.now full.now.graph)) }
 {
-    if !full.is_within(signs) {
-        return Err(NoMemory);
-    }
-    match rooted(alloc, work, signs, full.graph()) {
+    match rooted(alloc, work, signs, full) {
         Ok(yes) => Ok(yes),
         Err(_) => Err(NoMemory),
     }

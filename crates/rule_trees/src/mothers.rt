@@ -4,7 +4,7 @@ ghost use Rattle.std.specs.Prelude.{◌≡◌, ◌++◌, map, All, IfOk, OnOk, M
 ghost use Rattle.tree_model.specs.Structures.{Structure};
 ghost use Rattle.forest_unpack.specs.Parts.{AreParts, parts_of};
 ghost use Rattle.book_signs.specs.Trees.{signs_of};
-ghost use Rattle.rule_trees.specs.Mothers.{IsShortIn, IsMade, IsMother, AppliesTo, view_in, HasDaughters};
+ghost use Rattle.rule_trees.specs.Mothers.{IsMade, IsMother, AppliesTo, view_in, HasDaughters};
 ghost use Rattle.rule_trees.specs.Inner.Placed.{full_in};
 
 use crate::NoMemory;
@@ -17,38 +17,31 @@ use fs_unify::Scratch;
 use std::alloc::Global;
 use std::sync::Arc;
 
-// Adds a daughter's structure, if there is one; it is one of this grammar.
+// Adds a daughter's graph, if there is one.
 fn add<'x>(
     daughters: &mut Vec<&'x Graph>,
-    signs: &SignBook<'_>,
     part: &'x Option<Arc<FullStructure>>,
 ) -> Result<(), NoMemory>
-    ensures all { OnOk result (map (λ d. d.now) daughters.new.items ≡ map (λ d. d.now) daughters.old.items ++ map (λ f. f.graph) (full_in part.now)) }
-    ensures short { OnOk result (All (λ f. IsShortIn signs.now f.graph) (full_in part.now)) }
+    ensures { OnOk result (map (λ d. d.now) daughters.new.items ≡ map (λ d. d.now) daughters.old.items ++ map (λ f. f.graph.plain) (full_in part.now)) }
 {
     if let Some(full) = part {
-        if !full.is_within(signs) {
-            return Err(NoMemory);
-        }
         daughters.push(full.graph())?;
     }
     Ok(())
 }
 
-// The daughters' structures, from the left.
-fn in_order<'x>(
+/// The graphs of daughters' full structures, from the left.
+pub fn graphs_of<'x>(
     alloc: Global,
-    signs: &SignBook<'_>,
     parts: &'x FullParts<FullStructure>,
 ) -> Result<Vec<&'x Graph>, NoMemory>
-    ensures all { IfOk result (λ v. map (λ d. d.now) v.items ≡ map (λ f. f.graph) (parts_of parts.now)) }
-    ensures short { IfOk result (λ v. All (IsShortIn signs.now) (map (λ d. d.now) v.items)) }
+    ensures { IfOk result (λ v. map (λ d. d.now) v.items ≡ map (λ f. f.graph.plain) (parts_of parts.now)) }
 {
     let mut daughters = Vec::new(alloc);
-    add(&mut daughters, signs, &parts.a)?;
-    add(&mut daughters, signs, &parts.b)?;
-    add(&mut daughters, signs, &parts.c)?;
-    add(&mut daughters, signs, &parts.d)?;
+    add(&mut daughters, &parts.a)?;
+    add(&mut daughters, &parts.b)?;
+    add(&mut daughters, &parts.c)?;
+    add(&mut daughters, &parts.d)?;
     Ok(daughters)
 }
 
@@ -70,7 +63,7 @@ pub fn mother_of(
         (λ full. IsMother (signs_of signs.now) place (map (λ f. view_in signs.now f.graph) (parts_of parts.now)) (view_in signs.now full.graph))) }
     ensures never { IfOk result (λ o. o ≡ None → AppliesTo (signs_of signs.now) place (map (λ f. view_in signs.now f.graph) (parts_of parts.now)) → ⊥) }
 {
-    let daughters = in_order(alloc, signs, parts)?;
+    let daughters = graphs_of(alloc, parts)?;
     match made(alloc, work, signs, place, &daughters)? {
         Some(graph) => {
             let full = FullStructure::of(alloc, signs, graph)?;

@@ -1,21 +1,19 @@
 //! What all of one full structure share.
 
 ghost use Rattle.std.specs.Prelude.{◌≡◌, ◌<◌, true, length};
-ghost use Rattle.rule_trees.specs.Mothers.{IsShortIn, view_in};
-ghost use Rattle.rule_trees.specs.Bounded.{IsWithin};
+ghost use Rattle.type_hierarchy.specs.Table.{count_of};
+ghost use Rattle.rule_trees.specs.Mothers.{IsShortIn};
+ghost use Rattle.rule_trees.specs.Inner.Wholes.{IsAgain};
 
+use crate::bounded::BoundedGraph;
 use book_signs::SignBook;
 use fs_graph::{Graph, Node};
 
-/// A graph with the bounds within which its types, features and paths are, and a hash of its types and arcs.
+/// A graph with its bounds, and a hash of its types and arcs.
 #[derive(Drop)]
 pub struct Whole {
-    pub(crate) graph: Graph,
+    pub(crate) bounded: BoundedGraph,
     pub(crate) mark: u64,
-    types: u32,
-    feats: usize,
-    limit: u32,
-    ghost within: { IsWithin types feats limit graph },
 }
 
 /// A hash with one more number.
@@ -49,36 +47,43 @@ impl Whole {
     /// A graph that is in range and has no path longer than the limit.
     pub(crate) fn of(signs: &SignBook<'_>, graph: Graph) -> Whole
         requires { IsShortIn signs.now graph }
-        ensures { result.graph ≡ graph }
+        ensures graph { result.bounded.plain ≡ graph }
+        ensures types { result.bounded.types ≡ count_of signs.now.book.system.types }
+        ensures feats { result.bounded.feats ≡ length signs.now.book.system.introducers }
+        ensures limit { result.bounded.limit ≡ signs.now.book.system.path_limit }
     {
         signs.laws();
         let system = signs.system();
         let mark = mark_of(&graph);
-        Whole {
-            graph,
-            mark,
+        let bounded = BoundedGraph {
+            plain: graph,
             types: system.types().counts().all,
             feats: signs.book().feats.len(),
             limit: system.path_limit(),
-        }
+        };
+        Whole { bounded, mark }
     }
 
-    /// Whether the graph is within the bounds of a grammar: those that the grammar made are.
-    pub(crate) fn is_within(&self, signs: &SignBook<'_>) -> bool
-        ensures { result ≡ true → IsShortIn signs.now self.now.graph }
+    /// Whether the marks and the bounds are the same.
+    fn may_be(&self, other: &Whole) -> bool
+        ensures types { result ≡ true → self.now.bounded.types ≡ other.now.bounded.types }
+        ensures feats { result ≡ true → self.now.bounded.feats ≡ other.now.bounded.feats }
+        ensures limit { result ≡ true → self.now.bounded.limit ≡ other.now.bounded.limit }
     {
-        signs.laws();
-        let system = signs.system();
-        self.types == system.types().counts().all
-            && self.feats == signs.book().feats.len()
-            && self.limit == system.path_limit()
+        self.mark == other.mark
+            && self.bounded.types == other.bounded.types
+            && self.bounded.feats == other.bounded.feats
+            && self.bounded.limit == other.bounded.limit
     }
 
-    /// Whether the graphs are seen to be the same; where they aren't, nothing is said.
+    /// Whether the graphs and their bounds are seen to be the same; where they aren't, nothing is said.
     pub(crate) fn same(&self, other: &Whole, signs: &SignBook<'_>) -> bool
-        ensures { result ≡ true → view_in signs.now self.now.graph ≡ view_in signs.now other.now.graph }
+        ensures { result ≡ true → IsAgain signs.now self.now.bounded other.now.bounded }
     {
         signs.laws();
-        self.mark == other.mark && self.graph.same(&other.graph)
+        if !self.may_be(other) {
+            return false;
+        }
+        self.bounded.plain.same(&other.bounded.plain)
     }
 }

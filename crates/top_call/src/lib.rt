@@ -91,7 +91,7 @@ pub fn run<S: Shelf, I: Source, O: Sink, X: Sink, Rt: AllocGlobal + Threads + Wa
         × (told.text ≡ fault.text) × Tells (X.written err.old) (X.written err.new) (X.faults err.old) (X.faults err.new) (told.text ++ told.details)) }
 
     // `ReadFault` only where the source failed, a line is too long, or a line has no number; and always where a line
-    // that the command reads can't be read. Exactly the report over the lines before was written.
+    // that the command reads can't be read. Exactly the report over the lines before was written, and flushed, unless the sink failed.
     ensures read_fault { let h = shelves S.files S.faults S.asked shelf.old shelf.new in
         let o = streams I.left I.faults O.written O.flushed O.faults input.old input.new out.old out.new in
         result ≡ Status.ReadFault → (form : Form) × IsForm (map (λ w. string_bytes w) words.now) form × StopsReading (meaning_of form) h o }
@@ -110,7 +110,7 @@ pub fn run<S: Shelf, I: Source, O: Sink, X: Sink, Rt: AllocGlobal + Threads + Wa
 
     // After `Gaps` the input was read to its end, where the command reads it, and the whole report was written and flushed, but that memory
     // was wanting for some items, which are told by a line each. After `NoMemory` a front of such a report, with gaps or without, over
-    // lines that were read was written; where memory was wanting before the first line, nothing was read or written.
+    // lines that were read was written, and flushed, unless the sink failed; where memory was wanting before the first line, nothing was read or written.
     ensures gaps { (bytes before after : List ℕ) → result ≡ Status.Gaps
         → I.left input.old ≡ Some bytes → O.written out.old ≡ Some before → O.written out.new ≡ Some after
         → (form : Form) × (pieces : List (List ℕ)) × IsForm (map (λ w. string_bytes w) words.now) form

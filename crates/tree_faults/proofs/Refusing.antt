@@ -18,7 +18,7 @@ use Rattle.tree_model.specs.Said.{rule_alone}
 use Rattle.tree_model.specs.Signs.{rule_system}
 use Rattle.book_signs.specs.Signed.{facts_of}
 use Rattle.book_signs.specs.Trees.{SignTree, signs_of, rule_at, facts_at, places_at, ArePathsIn}
-use Rattle.rule_trees.specs.Mothers.{view_in, IsShortIn, AppliesTo}
+use Rattle.rule_trees.specs.Mothers.{graph_view, IsShortIn, AppliesTo}
 use Rattle.rule_trees.proofs.MakingLemmas.{inside, all_inside, fused, rule_is, rule_by}
 use Rattle.forced_types.specs.declared.placed.PlacedGraph.{PlacedGraph}
 use Rattle.forced_types.specs.Verdicts.{Verdict, Fits, IsVerdict}
@@ -135,12 +135,12 @@ module _ (t : SignTree) where
       all : AllInside (signs_of t).paths (map reader_of gs)
       all = all_inside t gs short
 
-      pub verdict_forced : (v : Verdict) → IsVerdict (system_of b) (Told (source_of parts)) v → IsForcedAt t place (map (view_in t) gs) v
+      pub verdict_forced : (v : Verdict) → IsVerdict (system_of b) (Told (source_of parts)) v → IsForcedAt t place (map (graph_view t) gs) v
       verdict_forced v h r at =
           let same : rule_by t structure ps ≡ r = (let z : Some (rule_by t structure ps) ≡ Some r = sym rule ∙ at in cc) in
           let graphs : IsVerdict (system_of b) (Told (source_at (rule_alone (reader_of structure) ps) (map reader_of gs))) v = subst (λ s. IsVerdict (system_of b) (Told s) v) (source_is structure ps gs parts are) h in
           let said = (verdict_on_graphs (system_of b) (signs_of t).paths (reader_of structure) ps (map reader_of gs) (inside t structure own) all v).0 graphs in
-          subst (λ x. IsVerdict (system_of b) (Parts (signs_of t).paths x (map (view_in t) gs)) v) same
+          subst (λ x. IsVerdict (system_of b) (Parts (signs_of t).paths x (map (graph_view t) gs)) v) same
           (subst (λ fs. IsVerdict (system_of b) (Parts (signs_of t).paths (rule_by t structure ps) fs) v) (fused t gs) said)
 
 -- parts that fit are those to which the rule applies

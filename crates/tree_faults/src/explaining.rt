@@ -50,23 +50,6 @@ pub enum Explanation {
     Unrooted,
 }
 
-// Whether some root unifies with a structure.
-fn is_rooted(
-    alloc: Global,
-    work: &mut Scratch,
-    signs: &SignBook<'_>,
-    full: &FullStructure,
-) -> Result<bool, NoMemory>
-    requires { IsMade (signs_of signs.now) (view_in signs.now full.now.graph) }
-    ensures { IfOk result (λ yes. IsTrue yes ↔ IsRooted (signs_of signs.now) (view_in signs.now full.now.graph)) }
-{
-    if !full.is_within(signs) {
-        return Err(NoMemory);
-    }
-    let yes = rooted(alloc, work, signs, full.graph())?;
-    Ok(yes)
-}
-
 // What explains a tree that has a structure.
 fn judged(
     alloc: Global,
@@ -87,7 +70,7 @@ fn judged(
         let Misspelled { place, instance } = fault;
         return Ok(Explanation::Misspelled { place, instance });
     }
-    if is_rooted(alloc, work, signs, full)? {
+    if rooted(alloc, work, signs, full)? {
         Ok(Explanation::Licensed)
     } else {
         Ok(Explanation::Unrooted)

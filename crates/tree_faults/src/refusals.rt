@@ -1,10 +1,9 @@
 //! Why a rule makes nothing of structures.
 
-ghost use Rattle.std.specs.Prelude.{◌≡◌, ◌++◌, length, map, All, IfOk, OnOk};
+ghost use Rattle.std.specs.Prelude.{◌≡◌, length, map, All, IfOk};
 ghost use Rattle.forest_unpack.specs.Parts.{AreParts, parts_of};
 ghost use Rattle.book_signs.specs.Trees.{signs_of, paths_of};
-ghost use Rattle.rule_trees.specs.Mothers.{IsShortIn, HasDaughters};
-ghost use Rattle.rule_trees.specs.Inner.Placed.{full_in};
+ghost use Rattle.rule_trees.specs.Mothers.{IsMade, HasDaughters, view_in};
 ghost use Rattle.forced_types.specs.Views.{verdict_of};
 ghost use Rattle.tree_faults.specs.Inner.Structures.{views_of, placed_of, placed_with, IsForcedAt, IsNamedVerdict};
 
@@ -13,44 +12,8 @@ use book_signs::SignBook;
 use forced_types::{PlacedGraph, Verdict, verdict_on};
 use forest_unpack::FullParts;
 use fs_graph::{Feat, Graph};
-use rule_trees::FullStructure;
+use rule_trees::{FullStructure, graphs_of};
 use std::alloc::Global;
-use std::sync::Arc;
-
-// Adds the graph of a daughter's structure, if there is one; it is one of this grammar.
-fn add<'x>(
-    graphs: &mut Vec<&'x Graph>,
-    signs: &SignBook<'_>,
-    part: &'x Option<Arc<FullStructure>>,
-) -> Result<(), NoMemory>
-    ensures all { OnOk result (map (λ d. d.now) graphs.new.items ≡ map (λ d. d.now) graphs.old.items ++ map (λ f. f.graph) (full_in part.now)) }
-    ensures short { OnOk result (All (λ f. IsShortIn signs.now f.graph) (full_in part.now)) }
-{
-    if let Some(full) = part {
-        if !full.is_within(signs) {
-            return Err(NoMemory);
-        }
-        graphs.push(full.graph())?;
-    }
-    Ok(())
-}
-
-// The graphs of the daughters' structures, from the left.
-fn graphs_of<'x>(
-    alloc: Global,
-    signs: &SignBook<'_>,
-    known: &'x FullParts<FullStructure>,
-) -> Result<Vec<&'x Graph>, NoMemory>
-    ensures all { IfOk result (λ v. map (λ d. d.now) v.items ≡ map (λ f. f.graph) (parts_of known.now)) }
-    ensures short { IfOk result (λ v. All (IsShortIn signs.now) (map (λ d. d.now) v.items)) }
-{
-    let mut graphs = Vec::new(alloc);
-    add(&mut graphs, signs, &known.a)?;
-    add(&mut graphs, signs, &known.b)?;
-    add(&mut graphs, signs, &known.c)?;
-    add(&mut graphs, signs, &known.d)?;
-    Ok(graphs)
-}
 
 // A rule's structure at the root, and its daughters' graphs at their places.
 fn placed<'x>(
@@ -84,6 +47,7 @@ pub(crate) fn verdict_at(
     known: &FullParts<FullStructure>,
 ) -> Result<Verdict, NoMemory>
     requires parts { AreParts known.now }
+    requires made { All (λ f. IsMade (signs_of signs.now) (view_in signs.now f.graph)) (parts_of known.now) }
     requires rule { HasDaughters (signs_of signs.now) place known.now.count }
     ensures forced { IfOk result (λ v. IsForcedAt signs.now place (views_of signs.now known.now) (verdict_of v)) }
     ensures named { IfOk result (λ v. IsNamedVerdict signs.now.book.system (verdict_of v)) }
@@ -94,7 +58,7 @@ pub(crate) fn verdict_at(
     let types = system.types();
     types.laws();
     let _counts = types.counts();
-    let graphs = graphs_of(alloc, signs, known)?;
+    let graphs = graphs_of(alloc, known)?;
     let parts = placed(alloc, signs.structure(place), signs.places(place), &graphs)?;
     let verdict = verdict_on(alloc, system, &parts)?;
     Ok(verdict)

@@ -8,7 +8,10 @@ use Rattle.std.proofs.lemmas.Option.{slice_get-get_or}
 use Rattle.std.proofs.lemmas.List.{length-take}
 use Rattle.fs_model.specs.Claims.{IsOrder}
 use Rattle.tree_model.specs.Structures.{Structure}
-use Rattle.tree_model.specs.Lexical.{IsEntry, FullLexical}
+use Rattle.tree_model.specs.Signs.{Signs}
+use Rattle.tree_model.specs.Lexical.{IsEntry, IsUnderRule, FullLexical, under_none}
+use Rattle.lexical_items.specs.Fulls.{IsLexicalFull}
+use Rattle.lexical_items.proofs.Under.{under_more}
 use Rattle.book_signs.specs.Trees.{SignTree, signs_of, HaveArities}
 use Rattle.rule_trees.specs.Mothers.{view_in, IsMother}
 use Rattle.rule_trees.specs.Fulls.{FullTree}
@@ -18,7 +21,7 @@ use Rattle.tree_structures.specs.declared.question.Question.TheVariants.{Entry, 
 use Rattle.tree_structures.specs.declared.memo.Known.{Known}
 use Rattle.tree_structures.specs.declared.memo.FullMemo.{FullMemo}
 use Rattle.tree_structures.specs.Formed.{IsLexicalRuleAt}
-use Rattle.tree_structures.specs.Known.{view_of, numbers_of, kept, AreAt, none_at, more_at, IsAnswer, IsRight}
+use Rattle.tree_structures.specs.Known.{view_of, numbers_of, kept, AreAt, IsAnswer, IsRight}
 use Rattle.tree_structures.specs.Inner.Stays.{Stays, IsNumbered}
 use Rattle.tree_structures.proofs.Climbing.{Leads, leads_first, leads_next, leads_nowhere, leads_here}
 use Rattle.tree_structures.proofs.Climbs.{under_mother, mother_under}
@@ -39,6 +42,10 @@ IsFound memo q n = (known : Known) × (slice_get memo.known.items n ≡ Some kno
 -- what was kept of one
 abbrev pub IsKept : FullMemo → FullMemo → Question → FullTree → Type 0
 IsKept old new q full = (shared : Arc FullTree Global) × (arc_value shared ≡ full) × (new.known.items ≡ old.known.items ++ record { question = q; full = shared } ∷ [])
+
+-- under one lexical rule more
+lexical_more : (g : Signs) (rule : ℕ) (d e : Structure) → IsLexicalFull g d → IsUnderRule g rule d e → IsLexicalFull g e
+lexical_more g rule d e h x = record { entry = h.entry; rules = h.rules ++ rule ∷ []; full = (h.full.0, h.full.1, under_more h.full.2 x) }
 
 pub numbers_long : (n : Numbers) → n.count ≤ 4 → length (numbers_of n) ≡ n.count
 numbers_long n most = let long = length-take n.count (n.a ∷ n.b ∷ n.c ∷ n.d ∷ []) in omega (arith, long, most)
@@ -79,21 +86,25 @@ module _ (t : SignTree) where
     pub structure : Structure
     pub at : slice_get (kept t memo.known.items) number ≡ Some structure
     pub leads : Leads (signs_of t) entry rules structure rest
+    pub lexical : IsLexicalFull (signs_of t) structure
 
   pub climb_first : (o : IsOrder (signs_of t).system) (begin memo : FullMemo) (entry : ℕ) (rules : List ℕ) (number : ℕ) → Stays t begin memo → IsNumbered t memo (IsEntry (signs_of t) entry) (Some number) → IsClimbing begin memo entry rules rules number
-  climb_first o begin memo entry rules number s n = record { stays = s; structure = n.0; at = n.1; leads = leads_first (signs_of t) o entry rules n.0 n.2 }
+  climb_first o begin memo entry rules number s n = record {
+    stays = s;
+    structure = n.0;
+    at = n.1;
+    leads = leads_first (signs_of t) o entry rules n.0 n.2;
+    lexical = record { entry = entry; rules = []; full = (n.0, n.2, under_none) };
+  }
 
   module _ (o : IsOrder (signs_of t).system) (begin memo : FullMemo) (entry rule : ℕ) (rules rest : List ℕ) (number : ℕ) (here : IsClimbing begin memo entry rules (rule ∷ rest) number) where
-    -- the number as that of the one daughter
-    pub climb_known : (over : Numbers) → numbers_of over ≡ number ∷ [] → AreAt (kept t memo.known.items) (numbers_of over) (here.structure ∷ [])
-    climb_known over is = subst (λ ns. AreAt (kept t memo.known.items) ns (here.structure ∷ [])) (sym is) (more_at here.at none_at)
-
     pub climb_next : (new : FullMemo) (above : ℕ) → HaveArities (signs_of t) → IsLexicalRuleAt (signs_of t) rule → Stays t memo new → IsNumbered t new (IsMother (signs_of t) rule (here.structure ∷ [])) (Some above) → IsClimbing begin new entry rules rest above
     climb_next new above arities r s n = record {
       stays = stays_on begin memo new here.stays s;
       structure = n.0;
       at = n.1;
       leads = leads_next (signs_of t) o entry rules here.structure n.0 rule rest (mother_under (signs_of t) rule here.structure n.0 arities r n.2) here.leads;
+      lexical = lexical_more (signs_of t) rule here.structure n.0 here.lexical (mother_under (signs_of t) rule here.structure n.0 arities r n.2);
     }
 
     pub climb_never : ((f : Structure) → IsMother (signs_of t) rule (here.structure ∷ []) f → ⊥) → (f : Structure) → FullLexical (signs_of t) entry rules f → ⊥

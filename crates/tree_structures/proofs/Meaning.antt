@@ -12,7 +12,7 @@ use Rattle.tree_model.proofs.Closures.{grows, falls}
 use Rattle.tree_model.proofs.ViewLemmas.{says_tells, tells_says, alone_to, alone_back}
 use Rattle.tree_model.specs.Signs.{rule_system}
 use Rattle.book_signs.specs.Trees.{SignTree, signs_of}
-use Rattle.rule_trees.specs.Mothers.{view_in, IsShortIn}
+use Rattle.rule_trees.specs.Mothers.{graph_view, IsShortIn}
 use Rattle.rule_trees.proofs.MakingLemmas.{Owes, inside, cut_part}
 
 -- one graph at the root, which owes the facts of some rules
@@ -23,16 +23,16 @@ module _ (t : SignTree) (owed : OwedRules) (graph : GraphMap) (short : IsShortIn
   abbrev pub s : System
   s = (signs_of t).system
 
-  to_said : {c : Claim} → Closure s (Told (source_of (alone_at owed graph))) c → Closure s (Says (signs_of t).paths (view_in t graph)) c
+  to_said : {c : Claim} → Closure s (Told (source_of (alone_at owed graph))) c → Closure s (Says (signs_of t).paths (graph_view t graph)) c
   to_said a = grows s (λ e x. tells_says s (signs_of t).paths (reader_of graph) (inside t graph short) e (alone_to (reader_of graph) e x)) a
 
-  from_said : {c : Claim} → Closure s (Says (signs_of t).paths (view_in t graph)) c → Closure s (Told (source_of (alone_at owed graph))) c
+  from_said : {c : Claim} → Closure s (Says (signs_of t).paths (graph_view t graph)) c → Closure s (Told (source_of (alone_at owed graph))) c
   from_said a = grows s (λ e x. given_claim e (alone_back (reader_of graph) e (says_tells s (signs_of t).paths (reader_of graph) e x))) a
 
-  pub alone_consistent : AreConsistent s (Meant (rule_system (signs_of t)) (view_in t graph)) → IsConsistent s (Told (source_of (alone_at owed graph)))
+  pub alone_consistent : AreConsistent s (Meant (rule_system (signs_of t)) (graph_view t graph)) → IsConsistent s (Told (source_of (alone_at owed graph)))
   alone_consistent ok = falls s (λ c a. to_said a) ok
 
-  pub alone_meant : (r : Reader) → IsGraphOf s (Told (source_of (alone_at owed graph))) r → IsGraphOf s (Says (signs_of t).paths (view_in t graph)) r
+  pub alone_meant : (r : Reader) → IsGraphOf s (Told (source_of (alone_at owed graph))) r → IsGraphOf s (Says (signs_of t).paths (graph_view t graph)) r
   alone_meant r is = record {
     paths = λ p. (λ x. (is.paths p).0 (from_said x), λ x. to_said ((is.paths p).1 x));
     equalities = λ p q. (λ x. (is.equalities p q).0 (from_said x), λ x. to_said ((is.equalities p q).1 x));

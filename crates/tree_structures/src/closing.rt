@@ -33,9 +33,7 @@ pub fn closed_of(
     ensures within { IfOk result (IsAnswerIn signs.now.book.system) }
 {
     signs.laws();
-    if !full.is_within(signs) {
-        return Err(NoMemory);
-    }
+    full.laws(signs);
     let mut parts = Parts::new(alloc);
     parts.add_cut(Vec::new(alloc), full.graph(), signs.owed())?;
     match unify(alloc, work, signs.system(), &parts)? {

@@ -1,6 +1,6 @@
 //! The full structures of trees.
 
-ghost use Rattle.std.specs.Prelude.{◌≡◌, map, IfOk, MatchOption};
+ghost use Rattle.std.specs.Prelude.{map, IfOk, MatchOption};
 ghost use Rattle.std.specs.Arc.{arc_value};
 ghost use Rattle.derivation.specs.Trees.{phrase};
 ghost use Rattle.derivation.specs.Views.{derivation_of, in_order};
@@ -16,7 +16,7 @@ use crate::NoMemory;
 use crate::lexical::lexical_number;
 use crate::memo::FullMemo;
 use crate::opened::{Opened, Walk, next_of, step};
-use book_signs::SignBook;
+use crate::shared::SharedFulls;
 use derivation::Tree;
 use fs_unify::Scratch;
 use rule_trees::FullStructure;
@@ -28,21 +28,21 @@ use std::sync::Arc;
 /// every tree that has a full structure. Whatever the scratch holds, the answer is the same.
 ///
 /// It looks at each node of the tree once, without recursion, and unifies where the memo has no rule over the same structures.
-pub fn full_of<'a>(
+pub fn full_of(
     alloc: Global,
     work: &mut Scratch,
     memo: &mut FullMemo,
-    signs: &'a SignBook<'a>,
+    fulls: &SharedFulls<'_, '_>,
     tree: &Tree,
 ) -> Result<Option<Arc<FullStructure>>, NoMemory>
-    requires right { IsRight signs.now memo.old }
-    requires formed { IsFormed (signs_of signs.now) (derivation_of tree.now) }
-    ensures right { IfOk result (λ _. IsRight signs.now memo.new) }
+    requires right { IsRight fulls.now memo.old }
+    requires formed { IsFormed (signs_of fulls.now) (derivation_of tree.now) }
+    ensures right { IfOk result (λ _. IsRight fulls.now memo.new) }
     ensures full { IfOk result (λ o. MatchOption o
-        ((f : Structure) → Full (signs_of signs.now) (derivation_of tree.now) f → ⊥)
-        (λ full. Full (signs_of signs.now) (derivation_of tree.now) (view_in signs.now (arc_value full).graph))) }
+        ((f : Structure) → Full (signs_of fulls.now) (derivation_of tree.now) f → ⊥)
+        (λ full. Full (signs_of fulls.now) (derivation_of tree.now) (view_in fulls.now (arc_value full).graph))) }
 {
-    match number_of(alloc, work, memo, signs, tree)? {
+    match number_of(alloc, work, memo, fulls, tree)? {
         Some(number) => {
             let full = memo.full(number)?;
             Ok(Some(full))
@@ -52,49 +52,49 @@ pub fn full_of<'a>(
 }
 
 // The number of a tree's structure.
-fn number_of<'a>(
+fn number_of(
     alloc: Global,
     work: &mut Scratch,
     memo: &mut FullMemo,
-    signs: &'a SignBook<'a>,
+    fulls: &SharedFulls<'_, '_>,
     tree: &Tree,
 ) -> Result<Option<u32>, NoMemory>
-    requires right { IsRight signs.now memo.old }
-    requires formed { IsFormed (signs_of signs.now) (derivation_of tree.now) }
-    ensures right { IfOk result (λ _. IsRight signs.now memo.new) }
-    ensures number { IfOk result (IsNumbered signs.now memo.new (Full (signs_of signs.now) (derivation_of tree.now))) }
+    requires right { IsRight fulls.now memo.old }
+    requires formed { IsFormed (signs_of fulls.now) (derivation_of tree.now) }
+    ensures right { IfOk result (λ _. IsRight fulls.now memo.new) }
+    ensures number { IfOk result (IsNumbered fulls.now memo.new (Full (signs_of fulls.now) (derivation_of tree.now))) }
 {
     match tree {
         Tree::Lexical { entry, rules, .. } => {
-            lexical_number(alloc, work, memo, signs, *entry, rules)
+            lexical_number(alloc, work, memo, fulls, *entry, rules)
         }
         Tree::Phrase {
             rule,
             daughters,
             ..
-        } => phrase_number(alloc, work, memo, signs, *rule, daughters),
+        } => phrase_number(alloc, work, memo, fulls, *rule, daughters),
     }
 }
 
 // The number of a phrase's structure. The phrases that are open wait on a stack, the innermost on top.
-fn phrase_number<'a>(
+fn phrase_number(
     alloc: Global,
     work: &mut Scratch,
     memo: &mut FullMemo,
-    signs: &'a SignBook<'a>,
+    fulls: &SharedFulls<'_, '_>,
     rule: u32,
     daughters: &[Tree],
 ) -> Result<Option<u32>, NoMemory>
-    requires right { IsRight signs.now memo.old }
-    requires formed { IsFormed (signs_of signs.now) (phrase rule (in_order (map derivation_of daughters.now))) }
-    ensures right { IfOk result (λ _. IsRight signs.now memo.new) }
-    ensures number { IfOk result (IsNumbered signs.now memo.new (Full (signs_of signs.now) (phrase rule (in_order (map derivation_of daughters.now))))) }
+    requires right { IsRight fulls.now memo.old }
+    requires formed { IsFormed (signs_of fulls.now) (phrase rule (in_order (map derivation_of daughters.now))) }
+    ensures right { IfOk result (λ _. IsRight fulls.now memo.new) }
+    ensures number { IfOk result (IsNumbered fulls.now memo.new (Full (signs_of fulls.now) (phrase rule (in_order (map derivation_of daughters.now))))) }
 {
-    signs.laws();
+    fulls.laws();
     let mut waiting: Vec<Opened<'_>> = Vec::new(alloc);
     let mut here = Opened::new(rule, daughters);
     'walk: loop {
-        let next = next_of(alloc, work, memo, signs, &here)?;
+        let next = next_of(alloc, work, memo, fulls, &here)?;
         match step(&mut waiting, here, next)? {
             Walk::On(on) => here = on,
             Walk::Done(number) => return Ok(Some(number)),

@@ -9,34 +9,32 @@ ghost use Rattle.tree_structures.specs.Inner.Stays.{Stays, IsNumbered};
 
 use crate::NoMemory;
 use crate::memo::FullMemo;
-use crate::numbering::{entry_number, mother_number};
-use crate::question::Numbers;
-use book_signs::SignBook;
+use crate::numbering::{entry_number, under_number};
+use crate::shared::SharedFulls;
 use fs_unify::Scratch;
 use std::alloc::Global;
 
 /// The number of the full structure of an entry under lexical rules, from the inside out; none exactly where there is none.
-pub(crate) fn lexical_number<'a>(
+pub(crate) fn lexical_number(
     alloc: Global,
     work: &mut Scratch,
     memo: &mut FullMemo,
-    signs: &'a SignBook<'a>,
+    fulls: &SharedFulls<'_, '_>,
     entry: u32,
     rules: &[u32],
 ) -> Result<Option<u32>, NoMemory>
-    requires right { IsRight signs.now memo.old }
-    requires entry { IsEntryAt (signs_of signs.now) entry }
-    requires rules { All (IsLexicalRuleAt (signs_of signs.now)) rules.now }
-    ensures stays { IfOk result (λ _. Stays signs.now memo.old memo.new) }
-    ensures number { IfOk result (IsNumbered signs.now memo.new (FullLexical (signs_of signs.now) entry rules.now)) }
+    requires right { IsRight fulls.now memo.old }
+    requires entry { IsEntryAt (signs_of fulls.now) entry }
+    requires rules { All (IsLexicalRuleAt (signs_of fulls.now)) rules.now }
+    ensures stays { IfOk result (λ _. Stays fulls.now memo.old memo.new) }
+    ensures number { IfOk result (IsNumbered fulls.now memo.new (FullLexical (signs_of fulls.now) entry rules.now)) }
 {
-    signs.laws();
-    let Some(mut number) = entry_number(alloc, work, memo, signs, entry)? else {
+    fulls.laws();
+    let Some(mut number) = entry_number(alloc, work, memo, fulls, entry)? else {
         return Ok(None);
     };
     for rule in rules {
-        let over = Numbers::none().with(number);
-        match mother_number(alloc, work, memo, signs, *rule, over)? {
+        match under_number(alloc, work, memo, fulls, *rule, number)? {
             Some(above) => number = above,
             None => return Ok(None),
         }

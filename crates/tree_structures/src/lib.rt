@@ -12,10 +12,12 @@ mod numbering;
 mod opened;
 mod parts;
 mod question;
+mod shared;
 
 pub use closing::closed_of;
 pub use fulls::full_of;
 pub use memo::FullMemo;
+pub use shared::SharedFulls;
 pub use std::alloc::AllocError as NoMemory;
 
 /// A law: a tree that has a full structure is formed of entries and rules (`formed`), its structure is an entry's or made by a rule

@@ -14,7 +14,7 @@ use crate::lexical::lexical_number;
 use crate::memo::FullMemo;
 use crate::numbering::mother_number;
 use crate::question::Numbers;
-use book_signs::SignBook;
+use crate::shared::SharedFulls;
 use derivation::Tree;
 use fs_unify::Scratch;
 use std::alloc::Global;
@@ -70,30 +70,30 @@ pub(crate) enum Next<'t> {
 }
 
 /// What comes next in an open phrase.
-pub(crate) fn next_of<'a, 't>(
+pub(crate) fn next_of<'t>(
     alloc: Global,
     work: &mut Scratch,
     memo: &mut FullMemo,
-    signs: &'a SignBook<'a>,
+    fulls: &SharedFulls<'_, '_>,
     here: &Opened<'t>,
 ) -> Result<Next<'t>, NoMemory>
-    requires right { IsRight signs.now memo.old }
-    requires formed { IsFormed (signs_of signs.now) (open_tree here.now) }
-    requires begun { IsBegun (signs_of signs.now) (kept signs.now memo.old.known.items) here.now }
-    ensures stays { IfOk result (λ _. Stays signs.now memo.old memo.new) }
-    ensures follows { IfOk result (Follows signs.now memo.new here.now) }
+    requires right { IsRight fulls.now memo.old }
+    requires formed { IsFormed (signs_of fulls.now) (open_tree here.now) }
+    requires begun { IsBegun (signs_of fulls.now) (kept fulls.now memo.old.known.items) here.now }
+    ensures stays { IfOk result (λ _. Stays fulls.now memo.old memo.new) }
+    ensures follows { IfOk result (Follows fulls.now memo.new here.now) }
 {
-    signs.laws();
+    fulls.laws();
     let place = here.known.count as usize;
     if place >= here.daughters.len() {
-        match mother_number(alloc, work, memo, signs, here.rule, here.known)? {
+        match mother_number(alloc, work, memo, fulls, here.rule, here.known)? {
             Some(number) => Ok(Next::Made(number)),
             None => Ok(Next::Never),
         }
     } else {
         match &here.daughters[place] {
             Tree::Lexical { entry, rules, .. } => {
-                match lexical_number(alloc, work, memo, signs, *entry, rules)? {
+                match lexical_number(alloc, work, memo, fulls, *entry, rules)? {
                     Some(number) => Ok(Next::Leaf(number)),
                     None => Ok(Next::Never),
                 }

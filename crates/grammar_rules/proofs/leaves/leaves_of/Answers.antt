@@ -1,12 +1,10 @@
 use Rattle.std.proofs.Common.{All, [], map, take, sym, subst, arith}
 use Rattle.chart_core.specs.Leaves.{LeafBelongs}
-use Rattle.fs_model.specs.Closure.{AreConsistent}
-use Rattle.tree_model.specs.Mothers.{Meant}
-use Rattle.tree_model.specs.Signs.{rule_system}
 use Rattle.book_signs.specs.Trees.{signs_of}
 use Rattle.grammar_shapes.specs.Systems.{rules_of, meaning_of, Belongs}
 use Rattle.grammar_shapes.specs.Spanned.{span_calculus}
 use Rattle.rule_trees.specs.Mothers.{view_in}
+use Rattle.lexical_items.specs.Fulls.{IsLexicalFull}
 use Rattle.lexical_items.specs.Views.{lexeme_seen}
 use Rattle.grammar_rules.specs.Lined.{AreLined}
 use Rattle.grammar_rules.proofs.Lined.{lined_none}
@@ -19,10 +17,9 @@ loop-tree-init c = record {
   belong = subst (λ ls. All (LeafBelongs (span_calculus (rules_of c.args.shapes.now)) (Belongs c.args.shapes.now)) ls) (sym c.new-leaves.ensures.items) (λ k d q. absurd (omega (arith, q)));
 }
 
-pub add_leaf-requires-clause-sound : goal.add_leaf-requires-clause-sound
-add_leaf-requires-clause-sound c =
-    let g = signs_of c.args.signs.now in
-    all_at (λ x. AreConsistent g.system (Meant (rule_system g) (view_in c.args.signs.now x.full.graph))) c.args.trees.now c.loop-tree.tree-index c.tree-item.result c.requires.sound c.loop-tree-test.true c.tree-item.is
+pub add_leaf-requires-clause-lexical : goal.add_leaf-requires-clause-lexical
+add_leaf-requires-clause-lexical c =
+    all_at (λ x. IsLexicalFull (signs_of c.args.signs.now) (view_in c.args.signs.now x.full.graph)) c.args.trees.now c.loop-tree.tree-index c.tree-item.result c.requires.lexical c.loop-tree-test.true c.tree-item.is
 
 pub loop-tree-preserved : goal.loop-tree-preserved
 loop-tree-preserved c =

@@ -17,7 +17,7 @@ lines_of_trees-requires-clause-named c =
 
 pub lines_of_trees-requires-clause-full : goal.lines_of_trees-requires-clause-full
 lines_of_trees-requires-clause-full c =
-    let g = signs_of c.args.lines.signs.now in
+    let g = signs_of c.args.lines.fulls.now in
     let full = subst (λ a. AreFull g (item_answer a)) c.in-Trees.is c.requires.full in
     let items = unmap (λ t. (f : Structure) × Full g t f) derivation_of c.in-Trees.trees.items full in
     subst (λ ts. All (λ t. (f : Structure) × Full g (derivation_of t) f) ts) (sym c.deref.ensures.value) items

@@ -13,7 +13,7 @@ use Rattle.mrs_generate.specs.Inner.Put.{IsPut}
 use Rattle.mrs_generate.specs.Views.{answer_seen}
 use Rattle.mrs_generate.proofs.Calls.{call_belong, over_answer, over_order}
 use Rattle.mrs_generate.proofs.Sifted.{sifted_fit, unsifted}
-use Rattle.mrs_generate.proofs.Sound.{known_sound, known_proper}
+use Rattle.mrs_generate.proofs.Sound.{known_sound, known_made, known_proper}
 use Rattle.mrs_generate.proofs.answering.answer_alone.Goals as goal
 
 pub make-counted-requires-clause-system : goal.make-counted-requires-clause-system
@@ -30,6 +30,12 @@ chart_leaves-requires-clause-sound g c =
     let t = c.args.grammar.now.signs.now in
     let input = input_of t.book.system.types (paths_of c.args.grammar.now.paths.now) (map feature_of c.args.grammar.now.c_cont.now) (meaning_of c.args.leafed.mrs.now) in
     known_sound (leaf_seen t) (signs_of t) (words_by t c.args.grammar.now.lexicon.now c.args.grammar.now.spelling.now) input c.args.limits.now c.args.leafed.own.items c.args.leafed.bound.now c.args.leafed.leaves.now c.requires.known c.structure_laws.ensures.sound
+
+pub chart_leaves-requires-clause-made : goal.chart_leaves-requires-clause-made
+chart_leaves-requires-clause-made g c =
+    let t = c.args.grammar.now.signs.now in
+    let input = input_of t.book.system.types (paths_of c.args.grammar.now.paths.now) (map feature_of c.args.grammar.now.c_cont.now) (meaning_of c.args.leafed.mrs.now) in
+    known_made (leaf_seen t) (signs_of t) (words_by t c.args.grammar.now.lexicon.now c.args.grammar.now.spelling.now) input c.args.limits.now c.args.leafed.own.items c.args.leafed.bound.now c.args.leafed.leaves.now c.requires.known c.structure_laws.ensures.made
 
 pub chart_leaves-requires-clause-proper : goal.chart_leaves-requires-clause-proper
 chart_leaves-requires-clause-proper g c =
@@ -85,5 +91,11 @@ returns-in-Ok g c =
     c.pruned_laws.ensures c.requires.grammar.paths c.in_ok-sieve.sieve c.in_ok-sieve.ensures c.in-Ok.found c.in-Ok.ensures) put)
     c.put_together.ensures
 
-pub sieve_of-requires : goal.sieve_of-requires
-sieve_of-requires g c = c.requires.grammar.contributors.list
+pub sieve_of-requires-clause-made : goal.sieve_of-requires-clause-made
+sieve_of-requires-clause-made g c =
+    let t = c.args.grammar.now.signs.now in
+    let input = input_of t.book.system.types (paths_of c.args.grammar.now.paths.now) (map feature_of c.args.grammar.now.c_cont.now) (meaning_of c.args.leafed.mrs.now) in
+    known_made (leaf_seen t) (signs_of t) (words_by t c.args.grammar.now.lexicon.now c.args.grammar.now.spelling.now) input c.args.limits.now c.args.leafed.own.items c.args.leafed.bound.now c.args.leafed.leaves.now c.requires.known c.structure_laws.ensures.made
+
+pub sieve_of-requires-clause-threaded : goal.sieve_of-requires-clause-threaded
+sieve_of-requires-clause-threaded g c = c.requires.grammar.contributors.list

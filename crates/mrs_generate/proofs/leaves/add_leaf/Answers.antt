@@ -18,5 +18,8 @@ returns-clause-stand c = λ h.
     all_more (MayStand (Belongs c.args.shapes.now) c.args._bound.now) c.args.into.now.items c.push.new.self.items (record { cover = c.in_ok-cover.cover; shape = c.in_ok-shape.shape; name = c.in_ok-name.name })
     c.in_ok-push.ensures.items (c.in_ok-shape.ensures.belongs, subst (IsCount c.args._bound.now) (sym c.in_ok-cover.ensures) c.requires.proper) h
 
+pub shape_of-requires-clause-made : goal.shape_of-requires-clause-made
+shape_of-requires-clause-made c = rw c.deref.ensures c.requires.made
+
 pub shape_of-requires-clause-sound : goal.shape_of-requires-clause-sound
 shape_of-requires-clause-sound c = rw c.deref.ensures c.requires.sound

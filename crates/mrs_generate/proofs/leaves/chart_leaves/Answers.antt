@@ -3,6 +3,7 @@ use Rattle.fs_model.specs.Closure.{AreConsistent}
 use Rattle.tree_model.specs.Mothers.{Meant}
 use Rattle.tree_model.specs.Signs.{rule_system}
 use Rattle.book_signs.specs.Trees.{signs_of}
+use Rattle.rule_trees.specs.Mothers.{IsMade}
 use Rattle.generate_model.specs.Covers.{IsCount}
 use Rattle.generated_leaves.specs.Views.{leaf_seen}
 use Rattle.grammar_shapes.specs.Systems.{meaning_of, Belongs}
@@ -21,6 +22,10 @@ pub add_leaf-requires-clause-sound : goal.add_leaf-requires-clause-sound
 add_leaf-requires-clause-sound c =
     let g = signs_of c.args.signs.now in
     all_at (λ l. AreConsistent g.system (Meant (rule_system g) (leaf_seen c.args.signs.now l).full)) c.args.leaves.now c.loop-leaf.leaf-index c.leaf-item.result c.requires.sound c.loop-leaf-test.true c.leaf-item.is
+
+pub add_leaf-requires-clause-made : goal.add_leaf-requires-clause-made
+add_leaf-requires-clause-made c =
+    all_at (λ l. IsMade (signs_of c.args.signs.now) (leaf_seen c.args.signs.now l).full) c.args.leaves.now c.loop-leaf.leaf-index c.leaf-item.result c.requires.made c.loop-leaf-test.true c.leaf-item.is
 
 pub add_leaf-requires-clause-proper : goal.add_leaf-requires-clause-proper
 add_leaf-requires-clause-proper c = all_at (λ l. IsCount c.args.bound.now l.cover) c.args.leaves.now c.loop-leaf.leaf-index c.leaf-item.result c.requires.proper c.loop-leaf-test.true c.leaf-item.is

@@ -2,11 +2,25 @@ use Rattle.std.proofs.Common.{◌≡◌, ◌∙◌, true, false, sym, refl}
 use Rattle.std.specs.Prelude.{◌↔◌, IsTrue, map}
 use Rattle.std.proofs.lemmas.Result.{IfOk-weaker}
 use Rattle.mrs_places.specs.Paths.{paths_of}
-use Rattle.rule_trees.specs.Mothers.{view_in}
+use Rattle.book_signs.specs.Trees.{signs_of}
+use Rattle.rule_trees.specs.Fulls.{FullTree}
+use Rattle.rule_trees.specs.Mothers.{IsMade, view_in}
 use Rattle.forest_unpack.specs.Parts.{parts_of}
 use Rattle.realized_trees.specs.Inner.Parts.{HasDropped, of_part}
-use Rattle.realized_trees.proofs.Tested.{dropped_a, dropped_b, dropped_c, dropped_d, last_dropped}
+use Rattle.realized_trees.proofs.Tested.{all_a, all_b, all_c, all_d, dropped_a, dropped_b, dropped_c, dropped_d, last_dropped}
 use Rattle.realized_trees.proofs.dropping.has_dropped.Goals as goal
+
+pub is_part_dropped-requires : goal.is_part_dropped-requires
+is_part_dropped-requires c = all_a (λ (f : FullTree). IsMade (signs_of c.args.signs.now) (view_in c.args.signs.now f.graph)) c.args.parts.now c.requires
+
+pub is_part_dropped-requires-2 : goal.is_part_dropped-requires-2
+is_part_dropped-requires-2 c = all_b (λ (f : FullTree). IsMade (signs_of c.args.signs.now) (view_in c.args.signs.now f.graph)) c.args.parts.now c.requires
+
+pub is_part_dropped-requires-3 : goal.is_part_dropped-requires-3
+is_part_dropped-requires-3 c = all_c (λ (f : FullTree). IsMade (signs_of c.args.signs.now) (view_in c.args.signs.now f.graph)) c.args.parts.now c.requires
+
+pub is_part_dropped-requires-4 : goal.is_part_dropped-requires-4
+is_part_dropped-requires-4 c = all_d (λ (f : FullTree). IsMade (signs_of c.args.signs.now) (view_in c.args.signs.now f.graph)) c.args.parts.now c.requires
 
 pub returns-then-branch : goal.returns-then-branch
 returns-then-branch c =

@@ -1,4 +1,4 @@
-use Rattle.std.proofs.Common.{refl, sym, subst}
+use Rattle.std.proofs.Common.{sym, subst}
 use Rattle.fs_graph.specs.GraphMap.{reader_of}
 use Rattle.tree_model.specs.Mothers.{Meant}
 use Rattle.tree_model.specs.Signs.{rule_system}
@@ -12,5 +12,7 @@ pub returns : goal.returns
 returns c = λ told.
     let t = c.args.signs.now in
     let g = rule_system (signs_of t) in
-    let f = c.args.full.now.graph in
-    c.in_ok-yes.ensures told g (view_in t f) (subst (λ x. IsPartOf (Meant g (view_in t f)) (reader_of x)) (sym c.graph.ensures) (graph_part t f (c.if-not-is_within.ensures refl)))
+    let f = c.args.full.now.graph.plain in
+    c.in_ok-yes.ensures told g (view_in t c.args.full.now.graph)
+    (subst (λ x. IsPartOf (Meant g (view_in t c.args.full.now.graph)) (reader_of x)) (sym c.graph.ensures)
+    (subst (λ m. IsPartOf (Meant g m) (reader_of f)) (sym c.laws.ensures.seen) (graph_part t f c.laws.ensures.short)))

@@ -13,7 +13,7 @@ returns c =
     let t = c.args.signs.now in
     let p = paths_of c.args.paths.now in
     record {
-      threaded = subst (λ o. IfSome o (λ l. IsThreaded t p (list_seen l))) c.in-Some.is c.requires;
+      threaded = subst (λ o. IfSome o (λ l. IsThreaded t p (list_seen l))) c.in-Some.is c.requires.threaded;
       reach = c.in_ok-leaves_reach.ensures c.if-not-branch.false;
       sought = subst (λ (ty : TypeTable). AreSought ty p (meaning_of c.args.mrs.now) c.in_ok-sought.sought.eps.items) (c.types.ensures ∙ ap (λ (g : Grammar). g.types) c.system.ensures) c.in_ok-sought.ensures;
     }

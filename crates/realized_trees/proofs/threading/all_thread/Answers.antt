@@ -1,4 +1,4 @@
-use Rattle.std.proofs.Common.{ℕ, ◌≡◌, ◌+◌, Some, refl, arith}
+use Rattle.std.proofs.Common.{◌≡◌, ◌+◌, Some, refl, arith}
 use Rattle.std.specs.Prelude.{slice_get}
 use Rattle.tree_model.specs.Mothers.{Rule}
 use Rattle.tree_model.specs.Signs.{rule_system}

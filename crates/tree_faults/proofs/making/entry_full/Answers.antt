@@ -2,7 +2,7 @@ use Rattle.std.proofs.Common.{refl}
 use Rattle.tree_model.specs.Structures.{Structure}
 use Rattle.tree_model.specs.Lexical.{IsEntry}
 use Rattle.book_signs.specs.Trees.{signs_of, entries_of}
-use Rattle.rule_trees.specs.Mothers.{view_in}
+use Rattle.rule_trees.specs.Mothers.{graph_view}
 use Rattle.rule_trees.proofs.PlaceLemmas.{has_at, entry_places}
 use Rattle.rule_trees.proofs.LexicalLemmas.{entry_full}
 use Rattle.tree_faults.proofs.making.entry_full.Goals as goal
@@ -15,5 +15,5 @@ unreachable-requires c =
     let none : (f : Structure) → IsEntry g c.args.entry f → ⊥ = rw c.in_default.is at c.in_ok-full.ensures in
     let places = entry_places g in
     let there = places.all c.args.entry c.requires.instance c.requires.at c.requires.kind_is in
-    none (view_in t graph)
-    (entry_full t c.args.entry graph (view_in t graph) (has_at (entries_of g) there.0 c.args.entry there.1) c.structure-structure.ensures.facts c.structure-structure.ensures.closed c.structure-structure.ensures.short refl)
+    none (graph_view t graph)
+    (entry_full t c.args.entry graph (graph_view t graph) (has_at (entries_of g) there.0 c.args.entry there.1) c.structure-structure.ensures.facts c.structure-structure.ensures.closed c.structure-structure.ensures.short refl)

@@ -14,11 +14,11 @@ use Rattle.tree_structures.proofs.Steps.{numbered_map, right_of}
 use Rattle.tree_structures.proofs.fulls.number_of.Goals as goal
 
 pub returns-in-Lexical-clause-right : goal.returns-in-Lexical-clause-right
-returns-in-Lexical-clause-right c = right_of c.args.signs.now c.args.memo.now c.lexical_number.new.memo c.lexical_number.result c.lexical_number.ensures.stays
+returns-in-Lexical-clause-right c = right_of c.args.fulls.now c.args.memo.now c.lexical_number.new.memo c.lexical_number.result c.lexical_number.ensures.stays
 
 pub returns-in-Lexical-clause-number : goal.returns-in-Lexical-clause-number
 returns-in-Lexical-clause-number c =
-    let t = c.args.signs.now in
+    let t = c.args.fulls.now in
     let g = signs_of t in
     let a = c.in-Lexical in
     let read = c.deref-in-Lexical.ensures.value ∙ ap (λ (rs : Vec ℕ Global). rs.items) c.deref.ensures in
@@ -29,7 +29,7 @@ returns-in-Lexical-clause-number c =
 
 pub phrase_number-requires-clause-formed : goal.phrase_number-requires-clause-formed
 phrase_number-requires-clause-formed c =
-    let g = signs_of c.args.signs.now in
+    let g = signs_of c.args.fulls.now in
     let a = c.in-Phrase in
     let read = c.deref-in-Phrase-2.ensures.value ∙ ap (λ (ds : Vec Tree Global). ds.items) c.deref-in-Phrase.ensures in
     let is = ap derivation_of a.is ∙ derivation_of-Phrase a.rule a.words a.daughters in
@@ -37,7 +37,7 @@ phrase_number-requires-clause-formed c =
 
 pub returns-in-Phrase-clause-number : goal.returns-in-Phrase-clause-number
 returns-in-Phrase-clause-number c =
-    let t = c.args.signs.now in
+    let t = c.args.fulls.now in
     let g = signs_of t in
     let a = c.in-Phrase in
     let read = c.deref-in-Phrase-2.ensures.value ∙ ap (λ (ds : Vec Tree Global). ds.items) c.deref-in-Phrase.ensures in

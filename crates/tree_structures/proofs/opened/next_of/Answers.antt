@@ -12,12 +12,12 @@ use Rattle.tree_structures.proofs.opened.next_of.Goals as goal
 
 pub mother_number-requires-clause-rule : goal.mother_number-requires-clause-rule
 mother_number-requires-clause-rule c =
-    let t = c.args.signs.now in
+    let t = c.args.fulls.now in
     all_has (signs_of t) c.laws.ensures.arities c.args.here.now c.requires.formed (kept t c.args.memo.now.known.items) c.requires.begun (omega arith)
 
 pub mother_number-requires-clause-count : goal.mother_number-requires-clause-count
 mother_number-requires-clause-count c =
-    let t = c.args.signs.now in
+    let t = c.args.fulls.now in
     all_most (signs_of t) c.laws.ensures.arities c.args.here.now c.requires.formed (kept t c.args.memo.now.known.items) c.requires.begun (omega arith)
 
 pub mother_number-requires-clause-known : goal.mother_number-requires-clause-known
@@ -25,7 +25,7 @@ mother_number-requires-clause-known c = (c.requires.begun.fulls, c.requires.begu
 
 pub lexical_number-requires-clause-entry : goal.lexical_number-requires-clause-entry
 lexical_number-requires-clause-entry c =
-    let g = signs_of c.args.signs.now in
+    let g = signs_of c.args.fulls.now in
     let here = c.args.here.now in
     let a = c.in-Lexical in
     let item = c.index-here-place.result in
@@ -35,7 +35,7 @@ lexical_number-requires-clause-entry c =
 
 pub lexical_number-requires-clause-rules : goal.lexical_number-requires-clause-rules
 lexical_number-requires-clause-rules c =
-    let g = signs_of c.args.signs.now in
+    let g = signs_of c.args.fulls.now in
     let here = c.args.here.now in
     let a = c.in-Lexical in
     let item = c.index-here-place.result in
@@ -51,7 +51,7 @@ returns-in-Some-2-clause-follows c =
     let item = c.index-here-place.result in
     let next = next_is here item (omega arith) c.index-here-place.is in
     let read = c.deref-in-Lexical.ensures.value ∙ ap (λ (rs : Vec ℕ Global). rs.items) c.deref.ensures in
-    leaf_follows c.args.signs.now c.lexical_number.new.memo here a.entry a.rules a.words a.nodes item c.deref-in-Lexical.result.now next (c.index-here-place.is ∙ a.is) read c.in-Some-2.number (rw c.in-Some-2.is at c.in_ok-number-in-Lexical.ensures.number)
+    leaf_follows c.args.fulls.now c.lexical_number.new.memo here a.entry a.rules a.words a.nodes item c.deref-in-Lexical.result.now next (c.index-here-place.is ∙ a.is) read c.in-Some-2.number (rw c.in-Some-2.is at c.in_ok-number-in-Lexical.ensures.number)
 
 pub returns-in-None-2-clause-follows : goal.returns-in-None-2-clause-follows
 returns-in-None-2-clause-follows c =
@@ -60,7 +60,7 @@ returns-in-None-2-clause-follows c =
     let item = c.index-here-place.result in
     let next = next_is here item (omega arith) c.index-here-place.is in
     let read = c.deref-in-Lexical.ensures.value ∙ ap (λ (rs : Vec ℕ Global). rs.items) c.deref.ensures in
-    leaf_never c.args.signs.now c.lexical_number.new.memo here a.entry a.rules a.words a.nodes item c.deref-in-Lexical.result.now next (c.index-here-place.is ∙ a.is) read (rw c.in-None-2.is at c.in_ok-number-in-Lexical.ensures.number)
+    leaf_never c.args.fulls.now c.lexical_number.new.memo here a.entry a.rules a.words a.nodes item c.deref-in-Lexical.result.now next (c.index-here-place.is ∙ a.is) read (rw c.in-None-2.is at c.in_ok-number-in-Lexical.ensures.number)
 
 pub returns-in-Phrase-clause-follows : goal.returns-in-Phrase-clause-follows
 returns-in-Phrase-clause-follows c =
@@ -69,11 +69,11 @@ returns-in-Phrase-clause-follows c =
     let item = c.index-here-place.result in
     let next = next_is here item (omega arith) c.index-here-place.is in
     let read = c.deref-in-Phrase-2.ensures.value ∙ ap (λ (ds : Vec Tree Global). ds.items) c.deref-in-Phrase.ensures in
-    phrase_follows c.args.signs.now c.args.memo.now here c.new.result item a.rule a.words a.daughters c.deref-in-Phrase-2.result.now next (c.index-here-place.is ∙ a.is) read c.new.ensures.rule c.new.ensures.daughters c.new.ensures.none
+    phrase_follows c.args.fulls.now c.args.memo.now here c.new.result item a.rule a.words a.daughters c.deref-in-Phrase-2.result.now next (c.index-here-place.is ∙ a.is) read c.new.ensures.rule c.new.ensures.daughters c.new.ensures.none
 
 pub returns-in-Some-clause-follows : goal.returns-in-Some-clause-follows
 returns-in-Some-clause-follows c =
-    let t = c.args.signs.now in
+    let t = c.args.fulls.now in
     let ss = kept t c.args.memo.now.known.items in
     let begun = c.requires.begun in
     let m = (rw c.in-Some.is at c.in_ok-number.ensures.number) begun.fulls begun.at in
@@ -81,6 +81,6 @@ returns-in-Some-clause-follows c =
 
 pub returns-in-None-clause-follows : goal.returns-in-None-clause-follows
 returns-in-None-clause-follows c =
-    let t = c.args.signs.now in
+    let t = c.args.fulls.now in
     let begun = c.requires.begun in
     all_never (signs_of t) c.laws.ensures.arities c.args.here.now c.requires.formed (kept t c.args.memo.now.known.items) begun (omega arith) c.laws.ensures.order ((rw c.in-None.is at c.in_ok-number.ensures.number) begun.fulls begun.at)

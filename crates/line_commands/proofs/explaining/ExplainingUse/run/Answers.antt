@@ -13,3 +13,11 @@ returns-in_default g c =
     let o : Streams = streams g.I.Source.left g.I.Source.faults g.O.Sink.written g.O.Sink.flushed g.O.Sink.faults c.args.a.now c.args.a.now c.args.b.now c.flush_at_stop.new.out in
     let answers = IsExplainLine book.system.types (texts book.feats.items) (speech_of e) c.args.self.now.mrs in
     none-served (AreAnswers answers 1) (AreAnswers (OrNoMemory answers) 1) o refl c.flush_at_stop.ensures.same (no_line 1) c.flush_at_stop.ensures.flushed
+
+pub returns-in_default-new : goal.returns-in_default-new
+returns-in_default-new g c =
+    let e = c.args.engine.now in
+    let book = e.grammar.now.book in
+    let o : Streams = streams g.I.Source.left g.I.Source.faults g.O.Sink.written g.O.Sink.flushed g.O.Sink.faults c.args.a.now c.args.a.now c.args.b.now c.flush_at_stop-in_default-new.new.out in
+    let answers = IsExplainLine book.system.types (texts book.feats.items) (speech_of e) c.args.self.now.mrs in
+    none-served (AreAnswers answers 1) (AreAnswers (OrNoMemory answers) 1) o refl c.flush_at_stop-in_default-new.ensures.same (no_line 1) c.flush_at_stop-in_default-new.ensures.flushed

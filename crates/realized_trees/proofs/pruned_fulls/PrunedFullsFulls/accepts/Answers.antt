@@ -1,7 +1,4 @@
 use Rattle.std.proofs.Common.{map}
-use Rattle.chart_model.specs.declared.counts.Counts.{Counts}
-use Rattle.tree_model.specs.Readings.{Wholes}
-use Rattle.tree_model.specs.Structures.{Structure}
 use Rattle.mrs_model.specs.Views.{meaning_of}
 use Rattle.mrs_places.specs.Paths.{paths_of}
 use Rattle.book_signs.specs.Trees.{signs_of}

@@ -1,4 +1,4 @@
-use Rattle.std.proofs.Common.{◌∙◌, ap, sym}
+use Rattle.std.proofs.Common.{◌∙◌, sym}
 use Rattle.chart_model.specs.At.{from_get, at_below}
 use Rattle.book_signs.specs.Trees.{signs_of, entries_of}
 use Rattle.rule_trees.specs.Mothers.{view_in}
@@ -17,4 +17,4 @@ returns c =
     let t = c.args.self.now.signs.now in
     let g = signs_of t in
     entry_full t c.args.place c.structure.result.now (view_in t c.in_ok-full.full.graph) (has_at (entries_of g) c.requires.0 c.args.place c.requires.1) c.structure.ensures.facts c.structure.ensures.closed c.structure.ensures.short
-    (c.in-Ok.ensures.same ∙ sym (ap (view_in t) c.in_ok-full.ensures))
+    (c.in-Ok.ensures.same ∙ sym c.in_ok-full.ensures)

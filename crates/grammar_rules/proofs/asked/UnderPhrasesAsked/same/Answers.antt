@@ -1,6 +1,0 @@
-use Rattle.std.proofs.Common.{subst}
-use Rattle.grammar_rules.specs.Told.{IsUnderPhrase}
-use Rattle.grammar_rules.proofs.asked.UnderPhrasesAsked.same.Goals as goal
-
-pub returns : goal.returns
-returns c = λ yes number told h. subst (λ fs. IsUnderPhrase c.args.self.now.signs.now number fs told) (c.same_parts.ensures yes) h
