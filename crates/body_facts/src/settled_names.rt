@@ -28,4 +28,6 @@ pub struct Names {
     pub check_paths: Vec<Vec<String>>,
     /// The greatest number of features that a path may have.
     pub path_limit: u32,
+    /// The greatest number of paths that the structure of a type or an instance may have, beside its root's.
+    pub node_limit: u32,
 }

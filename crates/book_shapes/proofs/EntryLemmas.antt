@@ -8,7 +8,7 @@ use Rattle.std.proofs.lemmas.Option.{slice_get_within, get_or_from_slice_get}
 use Rattle.type_hierarchy.specs.Table.{TypeTable}
 use Rattle.constraint_expand.specs.declared.books.Book.{Book}
 use Rattle.constraint_expand.specs.Books.{numbered_of, InstanceMap}
-use Rattle.constraint_expand.proofs.RuleLemmas.{range_push}
+use Rattle.type_facts.proofs.RuleLemmas.{range_push}
 use Rattle.constraint_expand.proofs.SplitLemmas.{zip_push}
 use Rattle.lexicon.specs.Words.{Word}
 use Rattle.lexicon.specs.Entries.{EntryTree}

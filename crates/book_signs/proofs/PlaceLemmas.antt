@@ -13,7 +13,7 @@ use Rattle.fs_graph.specs.Facts.{path_of}
 use Rattle.fs_graph.specs.GraphMap.{GraphMap}
 use Rattle.constraint_expand.specs.declared.books.Book.{Book}
 use Rattle.constraint_expand.specs.Books.{numbered_of, InstanceMap}
-use Rattle.constraint_expand.proofs.RuleLemmas.{range_push}
+use Rattle.type_facts.proofs.RuleLemmas.{range_push}
 use Rattle.constraint_expand.proofs.SplitLemmas.{zip_push}
 use Rattle.closed_lists.specs.Names.{ListTree}
 use Rattle.closed_lists.specs.Lists.{arc_named, Elements, ends, goes_on, HasList, IsListAt}

@@ -38,7 +38,7 @@ abbrev pub expand_cause : ExpandFault → List ℕ
 expand_cause (UnknownName name at statement) = codes "a name that no type has; for a list, one of the types that lists are made of"
 expand_cause (NoIntro feature at statement) = codes "the feature is misspelled, or no type writes it at the beginning of a path in its own body"
 expand_cause (Intro feature a b statement) = codes "several types write the feature, and none of them is above the others"
-expand_cause (NoStructure name statement) = codes "two types at one path have no common subtype, or a path gets longer than `path-limit`, as where a type asks for itself below itself"
+expand_cause (NoStructure name statement) = codes "two types at one path have no common subtype, or a path gets longer than `path-limit`, as where a type asks for itself below itself, or there are more paths than `node-limit`"
 expand_cause ExpandNoMemory = codes "memory was wanting"
 
 -- No cause is a want of memory.

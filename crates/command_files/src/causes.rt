@@ -72,7 +72,7 @@ fn expand_cause(fault: &ExpandFault) -> &'static str
             "several types write the feature, and none of them is above the others"
         }
         ExpandFault::NoStructure { .. } => {
-            "two types at one path have no common subtype, or a path gets longer than `path-limit`, as where a type asks for itself below itself"
+            "two types at one path have no common subtype, or a path gets longer than `path-limit`, as where a type asks for itself below itself, or there are more paths than `node-limit`"
         }
         ExpandFault::NoMemory => "memory was wanting",
     }

@@ -1,18 +1,19 @@
 -- Types that nothing defines have constraints wherever the types that are defined have.
-use Rattle.std.proofs.Common.{ℕ, ◌≡◌, ◌<◌, ◌≤◌, ◌⊎◌, inl, inr, true, List, [], ◌∷◌, ◌++◌, length, refl, sym, ◌∙◌, ap, subst, arith}
+use Rattle.std.proofs.Common.{ℕ, ◌≡◌, ◌<◌, ◌≤◌, ◌⊎◌, inl, inr, true, List, [], ◌∷◌, ◌++◌, length, slice_index_or, refl, sym, ◌∙◌, ap, subst, arith}
 use Rattle.fs_model.specs.Claims.{Path, Claim, exists_at, same, below, Has, here}
 use Rattle.fs_model.specs.Closure.{Closure, given_claim, same_exists, below_exists, prefix, same_refl, same_sym, same_trans, same_extend, same_type, introduced, met, raised, topped, constrained, IsConsistent}
-use Rattle.fs_model.specs.Laws.{ConsistencyFalls}
+use Rattle.fs_model.specs.Laws.{ClosureGrows, ConsistencyFalls}
 use Rattle.fs_model.specs.Sources.{Told, told_claim, told_part}
 use Rattle.type_hierarchy.specs.Laws.{HasTypeLaws}
 use Rattle.type_hierarchy.specs.Table.{TypeTable, is_below}
 use Rattle.fs_unify.specs.Rules.{Grammar, facts_in, system_of}
 use Rattle.fs_unify.specs.Given.{facts_source}
+use Rattle.fs_unify.specs.Limits.{HasMorePaths}
 use Rattle.grammar_files.specs.Placings.{PlacedTree}
 use Rattle.constraint_expand.specs.Conditions.{IsDefined, HasLesserBelow, HasNoneAbove}
 use Rattle.constraint_expand.specs.Systems.{constraint_claims}
 use Rattle.constraint_expand.specs.Shaped.{HasNoConstraint, AreFactsDefined}
-use Rattle.constraint_expand.proofs.ListLemmas.{Has-one}
+use Rattle.type_facts.proofs.ListLemmas.{Has-one}
 
 empty_front : (p q : Path) → p ++ q ≡ [] → p ≡ []
 empty_front [] q e = refl
@@ -65,9 +66,17 @@ module _ (g : Grammar) (t : ℕ) (laws : HasTypeLaws g.types) (bare : (u : ℕ) 
         bounded = λ p h. subst (λ q. length q ≤ g.path_limit) (sym (stays (exists_at p) h)) (omega arith);
       }
 
+  -- it has no path but that of the root
+  pub bare_few : (limit : ℕ) → HasMorePaths (system_of g) (Told (facts_source (constraint_claims t))) limit → ⊥
+  bare_few limit m =
+      let more = m.more in
+      let first = stays (exists_at (slice_index_or m.paths 0 [])) (m.exist 0 (omega (arith, more))) in
+      let second = stays (exists_at (slice_index_or m.paths 1 [])) (m.exist 1 (omega (arith, more))) in
+      m.apart 0 1 (omega arith) (omega (arith, more)) (first ∙ sym second)
+
 -- a type below one without constraint has none
-pub constraint_falls : (g : Grammar) → ConsistencyFalls → (t u : ℕ) → is_below g.types u t ≡ true → HasNoConstraint g t → HasNoConstraint g u
-constraint_falls g falls t u low none consistent = none (falls (system_of g) (facts_source (constraint_claims t)) (facts_source (constraint_claims u)) (λ c h. follows c h) consistent)
+pub constraint_falls : (g : Grammar) (limit : ℕ) → ClosureGrows → ConsistencyFalls → (t u : ℕ) → is_below g.types u t ≡ true → HasNoConstraint g limit t → HasNoConstraint g limit u
+constraint_falls g limit grows falls t u low = go
   where
     one : Closure (system_of g) (Told (facts_source (constraint_claims u))) (below [] t)
     one = raised [] u t (given_claim (below [] u) (told_claim (below [] u) here)) low
@@ -76,9 +85,20 @@ constraint_falls g falls t u low none consistent = none (falls (system_of g) (fa
     follows c (told_claim _ h) = subst (Closure (system_of g) (Told (facts_source (constraint_claims u)))) (sym (Has-one c (below [] t) h)) one
     follows _ (told_part part c h k) = elim h [ ]
 
+    go : HasNoConstraint g limit t → HasNoConstraint g limit u
+    go (inl none) = inl (λ consistent. none (falls (system_of g) (facts_source (constraint_claims t)) (facts_source (constraint_claims u)) (λ c h. follows c h) consistent))
+    go (inr m) = inr (record {
+      paths = m.paths;
+      apart = m.apart;
+      exist = λ i h.
+          grows (system_of g) (facts_source (constraint_claims t)) (facts_source (constraint_claims u)) (λ c k. follows c k) (exists_at (slice_index_or m.paths i [])) (m.exist i h);
+      more = m.more;
+    })
+
 -- the first type without constraint is defined
-pub first_is_defined : (g : Grammar) (ps : List PlacedTree) (t : ℕ) → ConsistencyFalls → HasTypeLaws g.types → AreFactsDefined g ps →
-    (IsDefined g.types ps t ⊎ (HasLesserBelow g.types ps t ⊎ HasNoneAbove g.types ps t)) → HasNoConstraint g t → ((u : ℕ) → u < t → HasNoConstraint g u → ⊥) → IsDefined g.types ps t
-first_is_defined g ps t falls laws facts (inl d) none before = d
-first_is_defined g ps t falls laws facts (inr (inl (u, d, lt, low))) none before = absurd (before u lt (constraint_falls g falls t u low none))
-first_is_defined g ps t falls laws facts (inr (inr above)) none before = absurd (none (bare_consistent g t laws (λ u c low h. above u (facts u c h) low)))
+pub first_is_defined : (g : Grammar) (limit : ℕ) (ps : List PlacedTree) (t : ℕ) → ClosureGrows → ConsistencyFalls → HasTypeLaws g.types → AreFactsDefined g ps →
+    (IsDefined g.types ps t ⊎ (HasLesserBelow g.types ps t ⊎ HasNoneAbove g.types ps t)) → HasNoConstraint g limit t → ((u : ℕ) → u < t → HasNoConstraint g limit u → ⊥) → IsDefined g.types ps t
+first_is_defined g limit ps t grows falls laws facts (inl d) none before = d
+first_is_defined g limit ps t grows falls laws facts (inr (inl (u, d, lt, low))) none before = absurd (before u lt (constraint_falls g limit grows falls t u low none))
+first_is_defined g limit ps t grows falls laws facts (inr (inr above)) (inl none) before = absurd (none (bare_consistent g t laws (λ u c low h. above u (facts u c h) low)))
+first_is_defined g limit ps t grows falls laws facts (inr (inr above)) (inr more) before = absurd (bare_few g t laws (λ u c low h. above u (facts u c h) low) limit more)

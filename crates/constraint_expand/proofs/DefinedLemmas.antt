@@ -11,7 +11,7 @@ use Rattle.grammar_files.specs.Placings.{PlacedTree, placed_of}
 use Rattle.constraint_expand.specs.Statements.{name_of, defines_type}
 use Rattle.constraint_expand.specs.Unknowns.{is_defined}
 use Rattle.constraint_expand.specs.Found.{has_text_key, defines_named}
-use Rattle.constraint_expand.proofs.ListLemmas.{bools, map_next}
+use Rattle.type_facts.proofs.ListLemmas.{bools, map_next}
 use Rattle.constraint_expand.proofs.NameLemmas.{bytes_eq-same}
 
 or_false : (b : Bool) → (b || false) ≡ b

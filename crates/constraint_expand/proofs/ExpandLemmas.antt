@@ -32,7 +32,7 @@ use Rattle.constraint_expand.specs.Introducers.{IsIntroducer, numbers_of}
 use Rattle.constraint_expand.specs.Systems.{Settled, words_of, said_by, rule_of, rules_in, instance_claims, IsSystemOf}
 use Rattle.constraint_expand.specs.Found.{with_each, IsIntroduced}
 use Rattle.constraint_expand.specs.Shaped.{HaveClaimsIn, AreFactsDefined}
-use Rattle.constraint_expand.proofs.ListLemmas.{Has-left, Has-right, Has-either, Has-map, Has-at, Has-place}
+use Rattle.type_facts.proofs.ListLemmas.{Has-left, Has-right, Has-either, Has-map, Has-at, Has-place}
 use Rattle.constraint_expand.proofs.NameLemmas.{times, with_each-all, with_each-only, times_with_each, moved_distinct, moved_has}
 use Rattle.constraint_expand.proofs.RangeLemmas.{Each, said_in, each_cons}
 use Rattle.constraint_expand.proofs.SplitLemmas.{Has-of_flat, Has-of_filter, number_in, writers_within, zip_length}

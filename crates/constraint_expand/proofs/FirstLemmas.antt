@@ -4,12 +4,9 @@ use Rattle.std.proofs.lemmas.Bool.{cases_lt}
 use Rattle.std.proofs.lemmas.List.{get_or-map, length-map}
 use Rattle.grammar_files.specs.declared.placed.Placed.{Placed}
 use Rattle.grammar_files.specs.Placings.{PlacedTree, placed_of}
-use Rattle.constraint_expand.specs.Statements.{no_statement, statement_at, IsFirstAmong, HoldsOfNone}
+pub use Rattle.type_facts.proofs.Numbered.{at_placed}
+use Rattle.constraint_expand.specs.Statements.{statement_at, IsFirstAmong, HoldsOfNone}
 use Rattle.constraint_expand.specs.Found.{HasNoneBefore}
-
--- the statement that a loop reads
-pub at_placed : (xs : List Placed) (i : ℕ) (x : Placed) → i < length xs → x ≡ get_or xs i x → statement_at (map placed_of xs) i ≡ placed_of x
-at_placed xs i x h e = get_or-map placed_of xs i x no_statement h ∙ ap placed_of (sym e)
 
 pub placed_within : (xs : List Placed) (i : ℕ) → i < length xs → i < length (map placed_of xs)
 placed_within xs i h = omega (arith, length-map xs placed_of)

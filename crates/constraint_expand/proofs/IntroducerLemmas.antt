@@ -7,7 +7,7 @@ use Rattle.type_hierarchy.specs.declared.types.Ty.{Ty}
 use Rattle.type_hierarchy.specs.Laws.{HasTypeLaws}
 use Rattle.type_hierarchy.specs.Table.{TypeTable, is_below}
 use Rattle.constraint_expand.specs.Introducers.{numbers_of, IsMostGeneral, AreFirstTwo}
-use Rattle.constraint_expand.proofs.ListLemmas.{true_not_false, each_next, each_all, Has-read, Has-map, Has-of_map, Has-place, Has-at}
+use Rattle.type_facts.proofs.ListLemmas.{true_not_false, each_next, each_all, Has-read, Has-map, Has-of_map, Has-place, Has-at}
 
 -- the highest writer on the way up through those that were seen
 pub record IsHighestOf (types : TypeTable) (writers seen : List ℕ) (start h : ℕ) : Type 0 where

@@ -1,11 +1,9 @@
-pub mod ListLemmas
 pub mod IntroducerLemmas
 pub mod FirstLemmas
 pub mod NameLemmas
 pub mod UnknownLemmas
 pub mod MissingLemmas
 pub mod SplitLemmas
-pub mod RuleLemmas
 pub mod RangeLemmas
 pub mod StructureLemmas
 pub mod ExpandLemmas

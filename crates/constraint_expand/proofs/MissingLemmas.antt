@@ -20,7 +20,7 @@ use Rattle.constraint_expand.specs.Systems.{Settled}
 use Rattle.constraint_expand.specs.Features.{uses_in, writers_of}
 use Rattle.constraint_expand.specs.Faults.{IsUnwritten, UsesUnwritten, no_use, use_at, IsFirstUse, NamesFirstUse, AreWritten}
 use Rattle.constraint_expand.specs.Found.{HasNoneBefore, numbers_noted, HasNoWriter, UsesWithout, IsWithoutHere, IsWithoutAmong, IsUnwrittenFault}
-use Rattle.constraint_expand.proofs.ListLemmas.{true_not_false, Has-at, Has-place}
+use Rattle.type_facts.proofs.ListLemmas.{true_not_false, Has-at, Has-place}
 use Rattle.constraint_expand.proofs.FirstLemmas.{first_here, first_moved, none_moved}
 
 -- The best of the uses so far, if there is one: none before has P where there is none.

@@ -11,7 +11,7 @@ use Rattle.std.proofs.lemmas.Bool.{cases_lt}
 use Rattle.std.proofs.lemmas.List.{map-append, get_or_append_left, get_or_at, get_or-map, length-map, length-append}
 use Rattle.std.proofs.lemmas.List.Sums.{sum_by-cons, sum_by_push}
 use Rattle.std.proofs.lemmas.List.Sorted.{sum_by-IsPermutation, Contains-permutation}
-use Rattle.std.proofs.lemmas.Slice.Eq.{bytes_eq-Decides}
+pub use Rattle.type_facts.proofs.Bytes.{bytes_eq-same, bytes_eq-refl, bytes_eq-swap}
 use Rattle.fs_model.specs.Claims.{Has, here, there}
 use Rattle.type_hierarchy.specs.Decls.{Name, texts}
 use Rattle.type_hierarchy.specs.Table.{IsDistinct}
@@ -19,21 +19,7 @@ use Rattle.type_hierarchy.proofs.ListLemmas.{list_any-map}
 use Rattle.body_facts.specs.declared.brackets.Use.{Use}
 use Rattle.body_facts.specs.BracketUses.{used_of}
 use Rattle.constraint_expand.specs.Found.{has_name, with_each}
-use Rattle.constraint_expand.proofs.ListLemmas.{bools, true_not_false, Has-left, Has-right, Has-either, Has-one, Has-cons, Has-at, Has-place, flat_map_next}
-
-pub bytes_eq-same : (a b : Name) → bytes_eq a b ≡ true → a ≡ b
-bytes_eq-same a b = (bytes_eq-Decides a b).0
-
-pub bytes_eq-refl : (a b : Name) → a ≡ b → bytes_eq a b ≡ true
-bytes_eq-refl a b = (bytes_eq-Decides a b).1
-
-pub bytes_eq-swap : (a b : Name) → bytes_eq a b ≡ bytes_eq b a
-bytes_eq-swap a b = go (bools (bytes_eq a b)) (bools (bytes_eq b a))
-  where
-    go : (bytes_eq a b ≡ true) ⊎ (bytes_eq a b ≡ false) → (bytes_eq b a ≡ true) ⊎ (bytes_eq b a ≡ false) → bytes_eq a b ≡ bytes_eq b a
-    go (inl e) f = e ∙ sym (bytes_eq-refl b a (sym (bytes_eq-same a b e)))
-    go (inr e) (inl f) = true_not_false (bytes_eq a b) (bytes_eq-refl a b (sym (bytes_eq-same b a f))) e
-    go (inr e) (inr f) = e ∙ sym f
+use Rattle.type_facts.proofs.ListLemmas.{bools, true_not_false, Has-left, Has-right, Has-either, Has-one, Has-cons, Has-at, Has-place, flat_map_next}
 
 pub has_texts : (keys : List (String Global)) (n : Name) → has_name (texts keys) n ≡ list_any (λ k. bytes_eq n (string_bytes k)) keys
 has_texts keys n = list_any-map (bytes_eq n) string_bytes keys

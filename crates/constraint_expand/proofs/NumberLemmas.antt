@@ -9,7 +9,7 @@ use Rattle.std.proofs.lemmas.Simd.{map-map}
 use Rattle.std.proofs.lemmas.List.Quantifiers.{position-Some}
 use Rattle.type_hierarchy.specs.Decls.{Name, texts}
 use Rattle.type_hierarchy.proofs.SetLemmas.{position_at}
-use Rattle.constraint_expand.proofs.ListLemmas.{true_not_false}
+use Rattle.type_facts.proofs.ListLemmas.{true_not_false}
 
 pub text_at : (xs : List (String Global)) (i : ℕ) (x : String Global) → i < length xs → x ≡ get_or xs i x → slice_index_or (texts xs) i [] ≡ string_bytes x
 text_at xs i x h e = get_or-map string_bytes xs i x [] h ∙ ap string_bytes (sym e)

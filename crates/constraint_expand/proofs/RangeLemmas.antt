@@ -15,7 +15,7 @@ use Rattle.body_facts.specs.Numbers.{type_number, text_number}
 use Rattle.body_facts.specs.Sayings.{Saying, has_type, has_text, carries, is_there, are_equal, term_says, body_says, attrs_say, items_say, end_says}
 use Rattle.body_facts.specs.Claimed.{first_carrier, claim_said, claims_of_sayings, claims_said}
 use Rattle.grammar_files.specs.BodyStrings.{strings_of_term, strings_of_body, strings_of_attrs, strings_of_items, strings_of_rest}
-use Rattle.constraint_expand.proofs.ListLemmas.{Has-left, Has-right, Has-either, Has-of_map}
+use Rattle.type_facts.proofs.ListLemmas.{Has-left, Has-right, Has-either, Has-of_map}
 
 abbrev pub Each : {X : Type 0} → (X → Type 0) → List X → Type 0
 Each {X} P xs = (x : X) → Has x xs → P x

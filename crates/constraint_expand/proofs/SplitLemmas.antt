@@ -25,7 +25,7 @@ use Rattle.constraint_expand.specs.Introducers.{numbers_of, IsIntroducer, AreFir
 use Rattle.constraint_expand.specs.Systems.{Settled}
 use Rattle.constraint_expand.specs.Faults.{UsesUnwritten, IsUnwritten, AreKnown, AreWritten, HasIntroducer}
 use Rattle.constraint_expand.specs.Found.{with_each, AreNoted, HasNoted, IsSplitOf, IsSplitHere, IsSplitAmong, IsSplitFault}
-use Rattle.constraint_expand.proofs.ListLemmas.{bools, Has-either, Has-cons, Has-of_map, Has-place, map_next}
+use Rattle.type_facts.proofs.ListLemmas.{bools, Has-either, Has-cons, Has-of_map, Has-place, map_next}
 use Rattle.constraint_expand.proofs.NameLemmas.{first_met, bytes_eq-same}
 use Rattle.type_hierarchy.proofs.ListLemmas.{any_index}
 use Rattle.body_facts.specs.Mentions.{mention, unknown_in}

@@ -10,10 +10,11 @@ use Rattle.body_facts.specs.Writing.{ListNames}
 use Rattle.body_facts.specs.BracketUses.{Used, used_of}
 use Rattle.grammar_files.specs.declared.placed.Placed.{Placed}
 use Rattle.grammar_files.specs.Placings.{placed_of}
+pub use Rattle.type_facts.proofs.Numbered.{number_found}
 use Rattle.constraint_expand.specs.Statements.{speaks_of_type}
 use Rattle.constraint_expand.specs.Features.{is_writing, writings_in, writers_of}
 use Rattle.constraint_expand.specs.Found.{writings_by}
-use Rattle.constraint_expand.proofs.ListLemmas.{flat_map-map, flat_map-if}
+use Rattle.type_facts.proofs.ListLemmas.{flat_map-map, flat_map-if}
 
 pub on_ok : {T E P Q : Type 0} (r : Result T E) → (P → Q) → OnOk r P → OnOk r Q
 on_ok (Ok x) f h = f h
@@ -27,12 +28,6 @@ writings_flat f t uses all e =
     ∙ flat_map-if (is_writing f) (λ u. t ∷ []) (map used_of uses)
     ∙ flat_map_single (λ (u : Used). t) (filter (is_writing f) (map used_of uses))
     ∙ ap (λ l. map (λ u. t) (filter (is_writing f) l)) e
-
--- the number that is found for a name
-pub number_found : (types : TypeTable) (name : Name) (o : Option Ty) (t none : Ty) (m : Option ℕ) → option_map (λ y. y.0) o ≡ m → t ≡ unwrap_or o none → none.0 ≡ 0 →
-    t.0 ≡ unwrap_or m 0
-number_found types name None t none m found is zero = ap (λ y. y.0) is ∙ zero ∙ ap (λ k. unwrap_or k 0) found
-number_found types name (Some x) t none m found is zero = ap (λ y. y.0) is ∙ ap (λ k. unwrap_or k 0) found
 
 -- those of all statements of types
 pub writers_flat : (types : TypeTable) (n : ListNames) (f : Name) (xs : List Placed) →

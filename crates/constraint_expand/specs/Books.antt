@@ -20,6 +20,7 @@ use Rattle.grammar_files.specs.Placings.{PlacedTree}
 use Rattle.constraint_expand.specs.Statements.{instances_in, IsNowhere}
 use Rattle.constraint_expand.specs.Systems.{Settled, IsSystemOf, constraint_claims, instance_claims, words_of}
 use Rattle.constraint_expand.specs.Unknowns.{NamesUnknown}
+use Rattle.constraint_expand.specs.Faults.{HasNoStructure}
 
 -- what settings name, as numbers: none for what the grammar doesn't have
 pub record Numbered : Type 0 where
@@ -105,12 +106,13 @@ AreConstraints g graphs = AllZip (IsConstraintOf g) (range_with_len 0 (completed
 abbrev pub AreInstances : Grammar → Settled → List Name → List PlacedTree → List InstanceMap → Type 0
 AreInstances g s feats ps instances = AllZip (IsInstanceOf g s feats) (instances_in ps) instances
 
--- What the statements of a grammar expand to.
+-- What the statements of a grammar expand to, where no definition lacks a structure.
 pub record IsBookOf (types : TypeTable) (s : Settled) (ps : List PlacedTree) (b : Book) : Type 0 where
   pub known : IsNowhere ps (NamesUnknown types s.lists ps)
   pub system : IsSystemOf types s ps (texts b.feats.items) b.system
   pub in_range : IsGrammar b.system
   pub bare : IsBare (system_of b.system)
+  pub shaped : IsNowhere ps (HasNoStructure b.system s (texts b.feats.items))
   pub constraints : AreConstraints b.system b.constraints.items
   pub instances : AreInstances b.system s (texts b.feats.items) ps (map instance_of b.instances.items)
   pub names : numbered_of b.names ≡ numbered_in types (texts b.feats.items) s

@@ -1,12 +1,12 @@
 -- The faults of expansion. Each is the first of its kind, and there is none of an earlier kind.
 use Rattle.std.specs.Prelude.{ℕ, ◌≡◌, ◌<◌, ◌≤◌, ◌⊎◌, true, List, [], length, slice_index_or, Some, None, if◌then◌else◌, string_bytes}
 use Rattle.fs_model.specs.Claims.{Claim, Has}
-use Rattle.fs_model.specs.Sources.{IsUnified}
 use Rattle.type_hierarchy.specs.Decls.{Name}
 use Rattle.type_hierarchy.specs.Named.{type_named}
 use Rattle.type_hierarchy.specs.Table.{TypeTable}
 use Rattle.fs_unify.specs.Rules.{Grammar, system_of}
 use Rattle.fs_unify.specs.Given.{facts_source}
+use Rattle.fs_unify.specs.Limits.{IsUnifiedWithin}
 use Rattle.body_facts.specs.Writing.{ListNames}
 use Rattle.body_facts.specs.BracketUses.{Used, used}
 use Rattle.body_facts.specs.Mentions.{mention}
@@ -84,16 +84,17 @@ abbrev pub claims_of_definition : Grammar → Settled → List Name → PlacedTr
 claims_of_definition g s feats p =
     if defines_type p then constraint_claims (type_number g.types (name_of p)) else instance_claims (words_of g.types s.lists feats) p
 
--- a definition of a type or an instance whose closure is inconsistent
-abbrev pub IsInconsistent : Grammar → Settled → List Name → PlacedTree → Type 0
-IsInconsistent g s feats p = (is_define p.statement ≡ true) × IsUnified (system_of g) (facts_source (claims_of_definition g s feats p)) None
+-- a definition of a type or an instance whose closure is inconsistent, or has more paths than settings allow
+abbrev pub HasNoStructure : Grammar → Settled → List Name → PlacedTree → Type 0
+HasNoStructure g s feats p =
+    (is_define p.statement ≡ true) × IsUnifiedWithin (system_of g) s.node_limit (facts_source (claims_of_definition g s feats p)) None
 
 -- the first of these
 pub record IsNoStructure (types : TypeTable) (s : Settled) (ps : List PlacedTree) (name : Name) (k : ℕ) : Type 0 where
   pub feats : List Name
   pub system : Grammar
   pub is_system : IsSystemOf types s ps feats system
-  pub first : IsFirst ps (IsInconsistent system s feats) k
+  pub first : IsFirst ps (HasNoStructure system s feats) k
   pub name_is : name ≡ name_of (statement_at ps k)
 
 -- no statement names an unknown type

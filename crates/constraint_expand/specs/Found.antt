@@ -1,7 +1,7 @@
 -- What is found in one statement, and among the statements of one kind.
 use Rattle.std.specs.Prelude.{ℕ, ◌≡◌, ◌<◌, ◌&&◌, map, length, slice_index_or, Bool, true, if◌then◌else◌, List, [], ◌∷◌, Some, String, Vec, string_bytes}
 use Rattle.std.specs.Global.{Global}
-use Rattle.std.specs.List.{list_any, range_with_len, flat_map, AllZip}
+use Rattle.std.specs.List.{list_any, AllZip}
 use Rattle.std.specs.Str.{bytes_eq}
 use Rattle.type_hierarchy.specs.Decls.{Name}
 use Rattle.type_hierarchy.specs.Named.{type_named}
@@ -14,13 +14,13 @@ use Rattle.grammar_files.specs.declared.expand_fault.ExpandFault.{ExpandFault}
 use Rattle.grammar_files.specs.declared.expand_fault.ExpandFault.TheVariants.{UnknownName, NoIntro, Intro, NoStructure, NoMemory}
 use Rattle.grammar_files.specs.Placings.{PlacedTree}
 pub use Rattle.grammar_files.specs.Names.{has_name, with_each}
-use Rattle.constraint_expand.specs.Statements.{name_of, adds_to, speaks_of_type, defines_type, statement_at, IsFirstAmong}
+use Rattle.constraint_expand.specs.Statements.{name_of, speaks_of_type, defines_type, statement_at, IsFirstAmong}
 use Rattle.constraint_expand.specs.Kinds.{picks}
 use Rattle.constraint_expand.specs.Features.{uses_in, writings_in, writers_of, AreFeatures}
 use Rattle.constraint_expand.specs.Systems.{Settled}
 use Rattle.constraint_expand.specs.Unknowns.{unknown_of, NamesUnknown}
 use Rattle.constraint_expand.specs.Faults.{type_name, NamesFirstUse, AreKnown, IsUnknownName, IsNoIntro, IsIntro, IsNoStructure, IsFaultOf}
-use Rattle.constraint_expand.specs.Notes.{noted}
+use Rattle.type_facts.specs.Notes.{noted}
 use Rattle.body_facts.specs.BracketUses.{Used}
 use Rattle.fs_model.specs.Claims.{Has}
 use Rattle.constraint_expand.specs.Introducers.{numbers_of, IsIntroducer, AreFirstTwo}
@@ -110,13 +110,6 @@ writings_by types n f p = if speaks_of_type p then writings_in types n f p else 
 -- the features that a statement uses, if it is of a kind
 abbrev pub features_under : ListNames → Kind → PlacedTree → List Name
 features_under n kind p = if picks kind p then map (λ u. u.feature) (uses_in n p) else []
-
--- the places of addenda to the type of a name
-abbrev pub place_by : Name → PlacedTree → ℕ → List ℕ
-place_by n p k = if adds_to n p then k ∷ [] else []
-
-abbrev pub addenda_places : Name → List PlacedTree → List ℕ
-addenda_places n ps = flat_map (λ k. place_by n (statement_at ps k) k) (range_with_len 0 (length ps))
 
 -- writers that are types
 pub record AreNoted (types : ℕ) (writers : List ℕ) : Type 0 where

@@ -10,6 +10,5 @@ pub mod Unknowns
 pub mod Books
 pub mod Faults
 pub mod Kinds
-pub mod Notes
 pub mod Found
 pub mod Shaped

@@ -1,16 +1,15 @@
 -- The type system of a grammar's statements (Copestake 2002), and the claims whose closures are structures.
-use Rattle.std.specs.Prelude.{ℕ, ◌≡◌, ◌++◌, List, [], ◌∷◌, map, flat_map, string_bytes}
+use Rattle.std.specs.Prelude.{ℕ, ◌≡◌, List, [], ◌∷◌, map, string_bytes}
 use Rattle.std.specs.List.{AllZip}
 use Rattle.fs_model.specs.Claims.{Claim, exists_at, below}
 use Rattle.type_hierarchy.specs.Decls.{Name}
 use Rattle.type_hierarchy.specs.Table.{TypeTable}
-use Rattle.fs_unify.specs.Rules.{Rule, Grammar}
+use Rattle.fs_unify.specs.Rules.{Grammar}
 use Rattle.body_facts.specs.declared.settled_names.Names.{Names}
 use Rattle.body_facts.specs.Writing.{ListNames, list_names}
-use Rattle.body_facts.specs.Claimed.{WordTable, claims_said}
-use Rattle.body_facts.specs.Numbers.{type_number}
+use Rattle.body_facts.specs.Claimed.{WordTable}
 use Rattle.grammar_files.specs.Placings.{PlacedTree}
-use Rattle.constraint_expand.specs.Statements.{name_of, body_of, type_definitions, addenda_to}
+pub use Rattle.type_facts.specs.Facts.{said_by, rule_of, rules_in}
 use Rattle.constraint_expand.specs.Features.{AreFeatures, writers_of}
 use Rattle.constraint_expand.specs.Introducers.{IsIntroducer}
 
@@ -22,6 +21,7 @@ pub record Settled : Type 0 where
   pub restrictors : List Name
   pub check_paths : List (List Name)
   pub path_limit : ℕ
+  pub node_limit : ℕ
 
 abbrev pub settled_of : Names → Settled
 settled_of n =
@@ -32,23 +32,11 @@ settled_of n =
       restrictors = map string_bytes n.restrictors.items;
       check_paths = map (λ p. map string_bytes p.items) n.check_paths.items;
       path_limit = n.path_limit;
+      node_limit = n.node_limit;
     }
 
 abbrev pub words_of : TypeTable → ListNames → List Name → WordTable
 words_of types n feats = record { types = types; names = n; feats = feats }
-
--- what a statement's body says of the node of its definition
-abbrev pub said_by : WordTable → PlacedTree → List Claim
-said_by w p = claims_said w (body_of p)
-
--- the facts of a type: those of its definition, and then those of its addenda in order of writing
-abbrev pub rule_of : WordTable → List PlacedTree → PlacedTree → Rule
-rule_of w ps p =
-    record { ty = type_number w.types (name_of p); claims = said_by w p ++ flat_map (said_by w) (addenda_to (name_of p) ps) }
-
--- those of each type that is defined, in order of definition
-abbrev pub rules_in : WordTable → List PlacedTree → List Rule
-rules_in w ps = map (rule_of w ps) (type_definitions ps)
 
 -- Features have numbers in the order of their names, and each has its introducer.
 pub record IsSystemOf (types : TypeTable) (s : Settled) (ps : List PlacedTree) (feats : List Name) (g : Grammar) : Type 0 where

@@ -3,7 +3,9 @@
 ghost use Rattle.std.specs.Prelude.{◌≡◌, ◌<◌, ◌≤◌, ◌||◌, true, map, length, IfOk, IfErr};
 ghost use Rattle.type_hierarchy.specs.Decls.{texts};
 ghost use Rattle.type_hierarchy.specs.Table.{count_of, completed_count};
+ghost use Rattle.fs_model.specs.Claims.{IsBare};
 ghost use Rattle.fs_graph.specs.Facts.{claims_of};
+ghost use Rattle.fs_unify.specs.Rules.{system_of};
 ghost use Rattle.body_facts.specs.Numbers.{type_number};
 ghost use Rattle.body_facts.specs.WordTables.{table_of};
 ghost use Rattle.grammar_files.specs.Placings.{placed_of};
@@ -16,13 +18,13 @@ ghost use Rattle.constraint_expand.specs.Shaped.{HaveClaimsIn};
 
 use crate::OutOfMemory;
 use crate::expansion::{Introductions, introduce, system_with, words_over};
-use crate::rules::add_facts;
 use body_facts::{Names, Words};
 use fs_graph::Fact;
 use fs_unify::TypeSystem;
 use grammar_files::placed_statements::{defines_type, name_of};
 use grammar_files::{ExpandFault, Placed};
 use std::alloc::Global;
+use type_facts::add_facts;
 use type_hierarchy::{Ty, Types};
 
 /// The type system of a grammar's statements, and its features by number.
@@ -42,6 +44,7 @@ pub fn type_system(
     requires { AreTypesFor types (map placed_of statements.now) }
     ensures system { IfOk result (λ t. IsSystemOf types (settled_of names.now) (map placed_of statements.now) (texts t.feats.items) t.system) }
     ensures counts { IfOk result (λ t. completed_count types ≤ count_of types) }
+    ensures bare { IfOk result (λ t. IsBare (system_of t.system)) }
     ensures fault { IfErr result (IsEarlyFault types (settled_of names.now) (map placed_of statements.now)) }
 {
     let Introductions { feats, introducers } = introduce(alloc, &types, statements, names)?;

@@ -1,6 +1,6 @@
 //! The expansion of a grammar's statements.
 
-ghost use Rattle.std.specs.Prelude.{◌≡◌, ℕ, ◌<◌, ◌≤◌, true, map, length, IfOk, IfErr};
+ghost use Rattle.std.specs.Prelude.{◌≡◌, ℕ, ◌<◌, ◌≤◌, true, map, length, IfOk, IfErr, OnOk};
 ghost use Rattle.type_hierarchy.specs.Decls.{texts};
 ghost use Rattle.type_hierarchy.specs.Table.{count_of, completed_count};
 ghost use Rattle.fs_model.specs.Claims.{IsBare};
@@ -9,21 +9,20 @@ ghost use Rattle.fs_unify.specs.Systems.{rules_of};
 ghost use Rattle.body_facts.specs.Writing.{list_names};
 ghost use Rattle.body_facts.specs.WordTables.{table_of};
 ghost use Rattle.grammar_files.specs.Placings.{placed_of};
-ghost use Rattle.constraint_expand.specs.Statements.{statement_at, defines_instance};
+ghost use Rattle.constraint_expand.specs.Statements.{statement_at, defines_instance, HoldsOfNone};
 ghost use Rattle.constraint_expand.specs.Conditions.{AreTypesFor};
 ghost use Rattle.constraint_expand.specs.Introducers.{numbers_of};
 ghost use Rattle.constraint_expand.specs.Systems.{settled_of, words_of, rules_in, instance_claims, IsSystemOf};
 ghost use Rattle.constraint_expand.specs.Books.{instance_of, IsBookOf};
 ghost use Rattle.constraint_expand.specs.Faults.{IsFaultOf};
 ghost use Rattle.constraint_expand.specs.Found.{IsIntroduced, IsEarlyFault};
-ghost use Rattle.constraint_expand.specs.Shaped.{HaveClaimsIn, AreShaped, IsFaultyAmongInstances};
+ghost use Rattle.constraint_expand.specs.Shaped.{HaveClaimsIn, AreShaped, HasNoShape, IsFaultyAmongInstances};
 
 use crate::OutOfMemory;
 use crate::books::{Book, Instance};
 use crate::features::{features_written, in_order};
 use crate::missing::check_written;
 use crate::numbers::book_names;
-use crate::rules::rules_in;
 use crate::splits::{check_introducers, introducers_of};
 use crate::structures::{constraints_of, instances_of};
 use crate::unknown::check_names;
@@ -32,6 +31,7 @@ use body_facts::{Names, Words};
 use fs_unify::{Scratch, TypeFacts, TypeSystem};
 use grammar_files::{ExpandFault, Placed};
 use std::alloc::Global;
+use type_facts::rules_in;
 use type_hierarchy::{Ty, Types};
 
 /// The features of a grammar and their introducers.
@@ -125,10 +125,11 @@ fn instances_with(
     requires bare { IsBare (system_of system.now) }
     requires within { (k : ℕ) → k < length statements.now → defines_instance (statement_at (map placed_of statements.now) k) ≡ true → HaveClaimsIn system.now (instance_claims (words_of system.now.types (list_names names.now) (texts feats.now)) (statement_at (map placed_of statements.now) k)) }
     ensures instances { IfOk result (λ is. AreShaped system.now (words_of system.now.types (list_names names.now) (texts feats.now)) (map placed_of statements.now) (map instance_of is.items)) }
-    ensures fault { IfErr result (IsFaultyAmongInstances system.now (words_of system.now.types (list_names names.now) (texts feats.now)) (map placed_of statements.now)) }
+    ensures all { OnOk result (HoldsOfNone defines_instance (map placed_of statements.now) (HasNoShape system.now names.now.node_limit (words_of system.now.types (list_names names.now) (texts feats.now)))) }
+    ensures fault { IfErr result (IsFaultyAmongInstances system.now names.now.node_limit (words_of system.now.types (list_names names.now) (texts feats.now)) (map placed_of statements.now)) }
 {
     let words = words_over(alloc, system.types(), names, feats)?;
-    instances_of(alloc, scratch, system, &words, statements)
+    instances_of(alloc, scratch, system, &words, statements, names.node_limit)
 }
 
 /// Expands a grammar's statements: the type system, the constraint of each completed type, the structure of each instance,
@@ -137,7 +138,8 @@ fn instances_with(
 /// `types` are the completed types of the statements, with the strings that stand in bodies. The statements are those
 /// of all files in order of reading. A definition under any other status than those of types, entries, lexical rules, rules and
 /// roots is passed over. The first fault is answered, as `ExpandFault` orders them; `specs/Faults.antt` says which that
-/// is, and `specs/Books.antt` what the book has. More features than a `u32` can number count as want of memory.
+/// is, and `specs/Books.antt` what the book has. A definition has no structure where its closure is inconsistent, or has more paths than
+/// `node_limit` of the names, beside its root's. More features than a `u32` can number count as want of memory.
 pub fn expand(
     alloc: Global,
     types: Types,
@@ -151,7 +153,13 @@ pub fn expand(
     let Introductions { feats, introducers } = introduce(alloc, &types, statements, names)?;
     let mut system = system_with(alloc, types, statements, names, &feats, introducers)?;
     let mut scratch = Scratch::new(alloc);
-    let constraints = constraints_of(alloc, &mut scratch, &mut system, statements)?;
+    let constraints = constraints_of(
+        alloc,
+        &mut scratch,
+        &mut system,
+        statements,
+        names.node_limit,
+    )?;
     let instances = instances_with(alloc, &mut scratch, &system, statements, names, &feats)?;
     if feats.len() > u32::MAX as usize {
         return Err(ExpandFault::NoMemory);

@@ -16,12 +16,12 @@ ghost use Rattle.constraint_expand.specs.Found.{numbers_noted, HasNoWriter, Uses
 
 use crate::OutOfMemory;
 use crate::kinds::{Kind, body_under};
-use crate::notes::noted;
 use body_facts::{Names, Use, uses};
 use grammar_files::{ExpandFault, Placed};
 use indexmap::IndexMap;
 use std::alloc::Global;
 use tdl_reader::Body;
+use type_facts::noted;
 use type_hierarchy::{Ty, Types};
 
 // Whether no type writes the feature of a use.

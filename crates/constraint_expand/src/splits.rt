@@ -14,11 +14,11 @@ ghost use Rattle.constraint_expand.specs.Found.{numbers_noted, AreNoted, HasNote
 
 use crate::OutOfMemory;
 use crate::introducers::{Introduced, find_introducer};
-use crate::notes::noted;
 use grammar_files::placed_statements::{defines_type, name_of};
 use grammar_files::{ExpandFault, Placed};
 use indexmap::{IndexMap, IndexSet};
 use std::alloc::Global;
+use type_facts::noted;
 use type_hierarchy::{Ty, Types};
 
 // Whether the statement defines the type of this number.

@@ -12,13 +12,13 @@ ghost use Rattle.constraint_expand.specs.Found.{numbers_noted, writings_by};
 
 use crate::OutOfMemory;
 use crate::kinds::{Kind, body_under};
-use crate::notes::note;
 use body_facts::{Names, Use, uses};
 use grammar_files::Placed;
 use grammar_files::placed_statements::name_of;
 use indexmap::IndexMap;
 use std::alloc::Global;
 use tdl_reader::Body;
+use type_facts::note;
 use type_hierarchy::{Ty, Types};
 
 // Notes a type as a writer of the features that its body has at its own node.

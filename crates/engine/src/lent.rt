@@ -27,8 +27,8 @@ use chart_workers::BySize;
 use grammar_load::Grammar;
 use grammar_rules::{
     ItemAnswer, LineGrammar, LineLeaves, LineShapes, LineWork, RunMemory, Search, line_leaves,
-    parse_alone, parse_words,
 };
+use line_parsing::{parse_alone, parse_words};
 use morph_analysis::{Feeds, Lattice};
 use mrs_places::MrsPaths;
 use sieve::{Sieve, TypesMeet};
@@ -38,24 +38,24 @@ use std::thread::Threads;
 use tree_structures::SharedFulls;
 use worker_gate::Gate;
 
-/// What is made of a grammar once, and lent to whoever answers lines with it. Each thing that is lent has a lifetime of its own, since it
-/// is lent to threads.
+/// What is made of a grammar once, and lent to whoever answers lines with it. Two lifetimes are its own, since what is remembered of shapes
+/// and full structures can't be lent for less than it was made for.
 #[derive(Clone, Copy)]
-pub struct Engine<'g, 's, 'b, 'h, 'm, 'r, 'd, 'k, 'f, 'p> {
-    pub grammar: &'g Grammar,
+pub struct Engine<'e, 'r, 'k> {
+    pub grammar: &'e Grammar,
     /// The structures of the instances, and their cuts.
-    pub signs: &'s SignBook<'b>,
+    pub signs: &'e SignBook<'e>,
     /// The phrase rules over abstract structures. What they made of equal ones is remembered from one line to the next.
-    pub shapes: &'h LineShapes<'m, 'r>,
+    pub shapes: &'e LineShapes<'e, 'r>,
     /// What lines share besides: full structures of lexical trees with their shapes, and what rules made of full structures.
-    pub shared: &'d RunMemory<'k>,
+    pub shared: &'e RunMemory<'k>,
     /// Which lexical rule may apply to what which gives.
-    pub feeds: &'f Feeds,
+    pub feeds: &'e Feeds,
     /// Where MRSs stand.
-    pub paths: &'p MrsPaths,
+    pub paths: &'e MrsPaths,
 }
 
-impl<'r, 'k> Engine<'_, '_, '_, '_, '_, 'r, '_, 'k, '_, '_> {
+impl<'r, 'k> Engine<'_, 'r, 'k> {
     /// What is known of an engine that is ready. Its grammar speaks as the engine does; lexicon and spelling have all entries and lexical
     /// rules of its signs; each instance and each feature has a name; and MRSs are looked for at paths of its signs. It does nothing.
     pub fn laws(&self)

@@ -39,7 +39,7 @@ pub trait Use<A, B, C> {
         &self,
         rt: &Rt,
         alloc: Global,
-        engine: &Engine<'_, '_, '_, '_, '_, '_, '_, '_, '_, '_>,
+        engine: &Engine<'_, '_, '_>,
         a: &mut A,
         b: &mut B,
         c: &mut C,

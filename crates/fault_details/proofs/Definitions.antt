@@ -6,7 +6,7 @@ use Rattle.grammar_files.specs.Placings.{PlacedTree}
 use Rattle.grammar_files.specs.Statements.{is_define, is_addendum, is_of_types}
 use Rattle.constraint_expand.specs.Statements.{statement_at, defines_type, defines_instance, speaks_of_type, IsFirst, first_of_types, first_of_instances}
 use Rattle.constraint_expand.specs.Systems.{Settled}
-use Rattle.constraint_expand.specs.Faults.{IsInconsistent}
+use Rattle.constraint_expand.specs.Faults.{HasNoStructure}
 use Rattle.grammar_files.specs.Walks.{WalkedTree}
 use Rattle.fault_details.specs.Inner.{IsNoStructureAt}
 
@@ -49,8 +49,8 @@ first-met ps P k (first_of_types a) = record { within = a.within; heeded = inl a
 first-met ps P k (first_of_instances none a) = record { within = a.within; heeded = inr a.picked; holds = a.holds }
 
 module _ (w : WalkedTree) (s : Settled) (types : TypeTable) (k : ℕ) (h : IsNoStructureAt w s types k) where
-  met : IsMet w.statements (IsInconsistent h.fault.1.system s h.fault.1.feats) k
-  met = first-met w.statements (IsInconsistent h.fault.1.system s h.fault.1.feats) k h.fault.1.first
+  met : IsMet w.statements (HasNoStructure h.fault.1.system s h.fault.1.feats) k
+  met = first-met w.statements (HasNoStructure h.fault.1.system s h.fault.1.feats) k h.fault.1.first
 
   pub there : k < length w.statements
   there = met.within

@@ -1,13 +1,16 @@
 //! Why a definition has no structure.
 
-ghost use Rattle.std.specs.Prelude.{◌≡◌, ◌<◌, ◌||◌, ◌≢◌, ℕ, List, true, false, length, IfOk, IsErrOf};
+ghost use Rattle.std.specs.Prelude.{◌≡◌, ◌<◌, ◌||◌, ◌≢◌, ℕ, List, None, true, false, length, IfOk, OnOk, IsErrOf};
 ghost use Rattle.type_hierarchy.specs.Decls.{texts};
 ghost use Rattle.type_hierarchy.specs.Table.{TypeTable, count_of};
 ghost use Rattle.grammar_files.specs.Placings.{placed_of};
+ghost use Rattle.fs_model.specs.Claims.{IsBare};
 ghost use Rattle.fs_model.specs.Sources.{Told};
 ghost use Rattle.fs_graph.specs.Facts.{claims_of};
 ghost use Rattle.fs_unify.specs.Rules.{system_of};
-ghost use Rattle.forced_types.specs.Verdicts.{Fits as NoClash, IsVerdict, IsVerdictIn};
+ghost use Rattle.fs_unify.specs.Given.{facts_source};
+ghost use Rattle.fs_unify.specs.Limits.{IsUnifiedWithin};
+ghost use Rattle.forced_types.specs.Verdicts.{IsVerdict, IsVerdictIn};
 ghost use Rattle.forced_types.specs.Views.{verdict_of, source_of_facts, AreFactsIn};
 ghost use Rattle.constraint_expand.specs.Statements.{statement_at, defines_type, defines_instance};
 ghost use Rattle.constraint_expand.specs.Systems.{settled_of};
@@ -17,14 +20,15 @@ ghost use Rattle.grammar_load.specs.Expanding.{names_by};
 ghost use Rattle.grammar_types.specs.Typings.{AreTypesOf};
 ghost use Rattle.fault_places.specs.Places.{set_in};
 ghost use Rattle.fault_details.specs.Further.{IsClashLine, verdict_text};
-ghost use Rattle.fault_details.specs.Inner.{IsTypedBy, IsVerdictAt, IsNoStructureAt, LacksStructure};
+ghost use Rattle.fault_details.specs.Inner.{IsTypedBy, IsVerdictAt, IsLackAt, IsNoStructureAt, LacksStructure};
 
 use crate::lack_in;
 use crate::texts::verdict_line;
 use constraint_expand::{ExpandFault, Names, Typed, definition_claims, type_system};
 use fault_places::Lack;
-use forced_types::{Verdict, forced_laws, verdict_on_facts};
+use forced_types::{Verdict, verdict_on_facts};
 use fs_graph::Fact;
+use fs_unify::{Scratch, structure_within};
 use grammar_files::placed_statements::{defines_instance, defines_type};
 use grammar_files::{Placed, Walked};
 use grammar_load::{names_by, settle_types};
@@ -122,6 +126,22 @@ fn facts_at(
     }
 }
 
+// That facts have no structure within the limit on paths. `Unread` comes where they have one.
+fn lacks(alloc: Global, typed: &Typed, facts: &[Fact], limit: u32) -> Result<(), Lack>
+    requires bare { IsBare (system_of typed.now.system) }
+    requires some { 0 < length facts.now }
+    requires within { AreFactsIn typed.now.system facts.now }
+    ensures none { OnOk result (IsUnifiedWithin (system_of typed.now.system) limit (facts_source (claims_of facts.now)) None) }
+    ensures read { IsErrOf result Lack.Unread → IsUnifiedWithin (system_of typed.now.system) limit (facts_source (claims_of facts.now)) None → ⊥ }
+{
+    let mut scratch = Scratch::new(alloc);
+    match structure_within(alloc, &mut scratch, &typed.system, facts, limit) {
+        Ok(None) => Ok(()),
+        Ok(Some(_)) => Err(Lack::Unread),
+        Err(_) => Err(Lack::NoMemory),
+    }
+}
+
 // The verdict on facts in a type system.
 fn facts_verdict(alloc: Global, typed: &Typed, facts: &[Fact]) -> Result<Verdict, Lack>
     requires some { 0 < length facts.now }
@@ -136,7 +156,28 @@ fn facts_verdict(alloc: Global, typed: &Typed, facts: &[Fact]) -> Result<Verdict
     }
 }
 
-// The verdict on what the structure of a definition is the closure of.
+// The verdict on facts that have no structure within the limit on paths.
+fn lacking_verdict(
+    alloc: Global,
+    typed: &Typed,
+    facts: &[Fact],
+    limit: u32,
+) -> Result<Verdict, Lack>
+    requires bare { IsBare (system_of typed.now.system) }
+    requires some { 0 < length facts.now }
+    requires within { AreFactsIn typed.now.system facts.now }
+    ensures verdict { IfOk result (λ v. IsVerdict (system_of typed.now.system) (Told (source_of_facts facts.now)) (verdict_of v)) }
+    ensures within { IfOk result (λ v. IsVerdictIn (length typed.now.system.introducers) (count_of typed.now.system.types) (verdict_of v)) }
+    ensures none { OnOk result (IsUnifiedWithin (system_of typed.now.system) limit (facts_source (claims_of facts.now)) None) }
+    ensures read { IsErrOf result Lack.Unread → IsUnifiedWithin (system_of typed.now.system) limit (facts_source (claims_of facts.now)) None → ⊥ }
+{
+    match lacks(alloc, typed, facts, limit) {
+        Ok(()) => facts_verdict(alloc, typed, facts),
+        Err(lack) => Err(lack),
+    }
+}
+
+// The verdict on what the structure of a definition is the closure of, which has none.
 fn verdict_at(
     alloc: Global,
     walked: &Walked,
@@ -149,32 +190,21 @@ fn verdict_at(
     requires defines { (defines_type (statement_at (walked_of walked.now).statements k) || defines_instance (statement_at (walked_of walked.now).statements k)) ≡ true }
     ensures verdict { IfOk result (λ v. IsVerdictAt (walked_of walked.now) (settled_of names.now) typed.now k (verdict_of v)) }
     ensures within { IfOk result (λ v. IsVerdictIn (length typed.now.system.introducers) (count_of typed.now.system.types) (verdict_of v)) }
-    ensures read { IsErrOf result Lack.Unread → ⊥ }
+    ensures lacks { OnOk result (IsLackAt (walked_of walked.now) (settled_of names.now) typed.now k) }
+    ensures read { IsErrOf result Lack.Unread → IsLackAt (walked_of walked.now) (settled_of names.now) typed.now k → ⊥ }
 {
     match facts_at(alloc, walked, names, typed, k) {
-        Ok(facts) => facts_verdict(alloc, typed, &facts),
+        Ok(facts) => lacking_verdict(alloc, typed, &facts, names.node_limit),
         Err(lack) => Err(lack),
     }
 }
 
-// Whether the verdict is that all goes together.
-fn fits(verdict: &Verdict) -> bool
-    ensures yes { result ≡ true → verdict_of verdict.now ≡ NoClash }
-    ensures no { result ≡ false → verdict_of verdict.now ≢ NoClash }
-{
-    matches!(verdict, Verdict::Fits)
-}
-
-// The line of a verdict on a definition, which isn't that it fits.
+// The line of a verdict on a definition.
 fn told(alloc: Global, typed: &Typed, verdict: &Verdict) -> Result<Vec<u8>, Lack>
     requires { IsVerdictIn (length typed.now.feats.items) (count_of typed.now.system.types) (verdict_of verdict.now) }
     ensures line { IfOk result (λ v. v.items ≡ set_in (verdict_text typed.now.system.types (texts typed.now.feats.items) (verdict_of verdict.now))) }
-    ensures unfit { IfOk result (λ v. verdict_of verdict.now ≢ NoClash) }
-    ensures read { IsErrOf result Lack.Unread → verdict_of verdict.now ≡ NoClash }
+    ensures read { IsErrOf result Lack.Unread → ⊥ }
 {
-    if fits(verdict) {
-        return Err(Lack::Unread);
-    }
     match verdict_line(alloc, verdict, typed.system.types(), &typed.feats) {
         Ok(line) => Ok(line),
         Err(_) => Err(Lack::NoMemory),
@@ -196,7 +226,6 @@ fn typed_line(
     ensures line { IfOk result (λ v. (line : List ℕ) × IsClashLine (walked_of walked.now) k line × (v.items ≡ set_in line)) }
     ensures read { IsErrOf result Lack.Unread → (types : TypeTable) → AreTypesOf (walked_of walked.now) types → IsNoStructureAt (walked_of walked.now) (settled_of names.now) types k → ⊥ }
 {
-    forced_laws();
     one_settling();
     match verdict_at(alloc, walked, names, typed, k) {
         Ok(verdict) => told(alloc, typed, &verdict),

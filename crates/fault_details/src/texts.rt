@@ -121,7 +121,7 @@ fn put_too_long(path: &[Feat], feats: &[String], into: &mut Vec<u8>) -> Result<(
     Ok(())
 }
 
-// What a verdict tells, where something clashes or is too long.
+// What a verdict tells of what has no structure: where something clashes or is too long, or that there are too many paths.
 fn put_verdict(
     verdict: &Verdict,
     types: &Types,
@@ -132,7 +132,10 @@ fn put_verdict(
     ensures { OnOk result (into.new.items ≡ into.old.items ++ verdict_text types.now (map string_bytes feats.now) (verdict_of verdict.now)) }
 {
     match verdict {
-        Verdict::Fits => Ok(()),
+        Verdict::Fits => {
+            into.extend_from_slice(b". too-large")?;
+            Ok(())
+        }
         Verdict::Clash {
             path,
             first,

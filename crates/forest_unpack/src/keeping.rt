@@ -49,30 +49,36 @@ pub fn sort(trees: &mut Vec<CountedTree>)
     arrange(trees);
 }
 
+/// By what trees are asked for: their full structures, those that are known by number, and their cover.
+#[derive(Drop)]
+pub struct Demand<'k, F: Fulls> {
+    pub fulls: &'k F,
+    pub memo: &'k Memo<F>,
+    pub cover: &'k F::Cover,
+}
+
 /// Whether trees of an item's full structure are asked for, which is found out once.
 fn accepted<F: Fulls>(
     alloc: Global,
-    fulls: &F,
+    demand: &Demand<F>,
     work: &mut F::Work,
-    _memo: &Memo<F>,
-    cover: &F::Cover,
     item: &Item<F>,
     told: &mut Vec<Option<bool>>,
 ) -> Result<bool, NoMemory>
-    requires numbered { IsNumbered (F.value fulls.now) (known_in (F.value fulls.now) _memo.now) item.now }
-    requires reached { IsReachedItem (F.value fulls.now) (F.wholes fulls.now) (F.named fulls.now) item.now }
-    requires told { AreAccepted (F.wholes fulls.now) (known_in (F.value fulls.now) _memo.now) cover.now told.old.items }
-    ensures told { OnOk result (AreAccepted (F.wholes fulls.now) (known_in (F.value fulls.now) _memo.now) cover.now told.new.items) }
-    ensures is { IfOk result (λ yes. IsTrue yes ↔ (F.wholes fulls.now).accepted (F.value fulls.now (arc_value item.now.full)) cover.now) }
+    requires numbered { IsNumbered (F.value demand.now.fulls.now) (known_in (F.value demand.now.fulls.now) demand.now.memo.now) item.now }
+    requires reached { IsReachedItem (F.value demand.now.fulls.now) (F.wholes demand.now.fulls.now) (F.named demand.now.fulls.now) item.now }
+    requires told { AreAccepted (F.wholes demand.now.fulls.now) (known_in (F.value demand.now.fulls.now) demand.now.memo.now) demand.now.cover.now told.old.items }
+    ensures told { OnOk result (AreAccepted (F.wholes demand.now.fulls.now) (known_in (F.value demand.now.fulls.now) demand.now.memo.now) demand.now.cover.now told.new.items) }
+    ensures is { IfOk result (λ yes. IsTrue yes ↔ (F.wholes demand.now.fulls.now).accepted (F.value demand.now.fulls.now (arc_value item.now.full)) demand.now.cover.now) }
 {
     let number = item.number as usize;
     if number >= told.len() {
-        return fulls.accepts(alloc, work, &item.full, cover);
+        return demand.fulls.accepts(alloc, work, &item.full, demand.cover);
     }
     if let Some(yes) = told[number] {
         return Ok(yes);
     }
-    let yes = fulls.accepts(alloc, work, &item.full, cover)?;
+    let yes = demand.fulls.accepts(alloc, work, &item.full, demand.cover)?;
     told[number] = Some(yes);
     Ok(yes)
 }
@@ -80,21 +86,19 @@ fn accepted<F: Fulls>(
 /// Adds a tree if it is asked for.
 fn keep_one<F: Fulls>(
     alloc: Global,
-    fulls: &F,
+    demand: &Demand<F>,
     work: &mut F::Work,
-    memo: &Memo<F>,
-    cover: &F::Cover,
     item: &Item<F>,
     told: &mut Vec<Option<bool>>,
     into: &mut Vec<CountedTree>,
 ) -> Result<(), NoMemory>
-    requires numbered { IsNumbered (F.value fulls.now) (known_in (F.value fulls.now) memo.now) item.now }
-    requires reached { IsReachedItem (F.value fulls.now) (F.wholes fulls.now) (F.named fulls.now) item.now }
-    requires told { AreAccepted (F.wholes fulls.now) (known_in (F.value fulls.now) memo.now) cover.now told.old.items }
-    ensures told { OnOk result (AreAccepted (F.wholes fulls.now) (known_in (F.value fulls.now) memo.now) cover.now told.new.items) }
-    ensures kept { OnOk result (Kept (F.value fulls.now) (F.wholes fulls.now) cover.now (items_of (F.value fulls.now) (item.now ∷ [])) into.old.items into.new.items) }
+    requires numbered { IsNumbered (F.value demand.now.fulls.now) (known_in (F.value demand.now.fulls.now) demand.now.memo.now) item.now }
+    requires reached { IsReachedItem (F.value demand.now.fulls.now) (F.wholes demand.now.fulls.now) (F.named demand.now.fulls.now) item.now }
+    requires told { AreAccepted (F.wholes demand.now.fulls.now) (known_in (F.value demand.now.fulls.now) demand.now.memo.now) demand.now.cover.now told.old.items }
+    ensures told { OnOk result (AreAccepted (F.wholes demand.now.fulls.now) (known_in (F.value demand.now.fulls.now) demand.now.memo.now) demand.now.cover.now told.new.items) }
+    ensures kept { OnOk result (Kept (F.value demand.now.fulls.now) (F.wholes demand.now.fulls.now) demand.now.cover.now (items_of (F.value demand.now.fulls.now) (item.now ∷ [])) into.old.items into.new.items) }
 {
-    if accepted(alloc, fulls, work, memo, cover, item, told)? {
+    if accepted(alloc, demand, work, item, told)? {
         into.push(item.tree.copy()?)?;
     }
     Ok(())
@@ -114,20 +118,18 @@ fn none_told(alloc: Global, count: usize) -> Result<Vec<Option<bool>>, NoMemory>
 /// Adds the trees of a list that are asked for.
 fn keep<F: Fulls>(
     alloc: Global,
-    fulls: &F,
+    demand: &Demand<F>,
     work: &mut F::Work,
-    memo: &Memo<F>,
-    cover: &F::Cover,
     items: &[Item<F>],
     into: &mut Vec<CountedTree>,
 ) -> Result<(), NoMemory>
-    requires numbered { All (IsNumbered (F.value fulls.now) (known_in (F.value fulls.now) memo.now)) items.now }
-    requires reached { All (IsReachedItem (F.value fulls.now) (F.wholes fulls.now) (F.named fulls.now)) items.now }
-    ensures { OnOk result (Kept (F.value fulls.now) (F.wholes fulls.now) cover.now (items_of (F.value fulls.now) items.now) into.old.items into.new.items) }
+    requires numbered { All (IsNumbered (F.value demand.now.fulls.now) (known_in (F.value demand.now.fulls.now) demand.now.memo.now)) items.now }
+    requires reached { All (IsReachedItem (F.value demand.now.fulls.now) (F.wholes demand.now.fulls.now) (F.named demand.now.fulls.now)) items.now }
+    ensures { OnOk result (Kept (F.value demand.now.fulls.now) (F.wholes demand.now.fulls.now) demand.now.cover.now (items_of (F.value demand.now.fulls.now) items.now) into.old.items into.new.items) }
 {
-    let mut told = none_told(alloc, memo.known.len())?;
+    let mut told = none_told(alloc, demand.memo.known.len())?;
     for item in items {
-        keep_one(alloc, fulls, work, memo, cover, item, &mut told, into)?;
+        keep_one(alloc, demand, work, item, &mut told, into)?;
     }
     Ok(())
 }
@@ -135,23 +137,21 @@ fn keep<F: Fulls>(
 /// Adds the trees of the list of a host that are asked for.
 pub fn keep_host<F: Fulls>(
     alloc: Global,
-    fulls: &F,
+    demand: &Demand<F>,
     work: &mut F::Work,
-    memo: &Memo<F>,
-    cover: &F::Cover,
     host: u64,
     table: &[Option<Vec<Item<F>>>],
     into: &mut Vec<CountedTree>,
 ) -> Result<(), NoMemory>
     requires host { host < length table.now }
     requires listed { IsListed table.now host }
-    requires ready { IsReady (F.value fulls.now) (F.wholes fulls.now) memo.now table.now }
-    requires reached { AreReached (F.value fulls.now) (F.wholes fulls.now) (F.named fulls.now) table.now }
-    ensures { OnOk result (Kept (F.value fulls.now) (F.wholes fulls.now) cover.now (list_at (F.value fulls.now) table.now host) into.old.items into.new.items) }
+    requires ready { IsReady (F.value demand.now.fulls.now) (F.wholes demand.now.fulls.now) demand.now.memo.now table.now }
+    requires reached { AreReached (F.value demand.now.fulls.now) (F.wholes demand.now.fulls.now) (F.named demand.now.fulls.now) table.now }
+    ensures { OnOk result (Kept (F.value demand.now.fulls.now) (F.wholes demand.now.fulls.now) demand.now.cover.now (list_at (F.value demand.now.fulls.now) table.now host) into.old.items into.new.items) }
 {
     match &table[host as usize] {
         None => Ok(()),
-        Some(items) => keep(alloc, fulls, work, memo, cover, items, into),
+        Some(items) => keep(alloc, demand, work, items, into),
     }
 }
 

@@ -14,7 +14,7 @@ ghost use Rattle.forest_unpack.specs.Plans.{Fits, Gave, Grows, IsGathered, IsPla
 use crate::counted::CountedTree;
 use crate::groups::group_of;
 use crate::item::Item;
-use crate::lists::{combine, nothing};
+use crate::lists::{Combining, combine, nothing};
 use crate::members::Members;
 use crate::memo::Memo;
 use crate::rows::GroupRow;
@@ -35,6 +35,13 @@ pub struct Plan<'p, S: Shapes, F: Fulls> {
     pub left: LeftOut,
     pub most: usize,
     pub most_wanted: usize,
+}
+
+/// The lists that were made, by host, and whether one of them was left before its end.
+#[derive(Drop)]
+pub struct Lists<F: Fulls> {
+    pub table: Vec<Option<Vec<Item<F>>>>,
+    pub cut: bool,
 }
 
 /// A list on its way: its host, the rows of the host's group, how many of them were gone through, what these gave, and the most that it may have.
@@ -94,27 +101,31 @@ fn lacking<F: Fulls>(table: &[Option<Vec<Item<F>>>], row: &GroupRow) -> Option<u
     }
 }
 
-/// Adds what a row gives whose daughters have lists; `cut` where the list was full before all were tried.
+/// What a row's items are made from: the lists of its daughters, and the most items that the row's own list may have.
+#[derive(Drop)]
+struct Source<'x, F: Fulls> {
+    table: &'x [Option<Vec<Item<F>>>],
+    most: usize,
+}
+
+/// Adds what a row gives whose daughters have lists; true where the list was full before all were tried.
 fn add_row<S: Shapes, F: Fulls>(
     alloc: Global,
     plan: &Plan<S, F>,
     work: &mut F::Work,
     memo: &mut Memo<F>,
     row: &GroupRow,
-    table: &[Option<Vec<Item<F>>>],
-    most: usize,
-    cut: &mut bool,
+    from: &Source<F>,
     made: &mut Vec<Item<F>>,
-) -> Result<(), NoMemory>
+) -> Result<bool, NoMemory>
     requires row { (host : ℕ) × Fits (F.named plan.now.fulls.now) (F.ruled plan.now.fulls.now) (length (rows_in (core_of plan.now.finished.now))) plan.now.ranks.now host (row_of row.now) }
-    requires listed { AllListed table.now (daughters_in (row_of row.now)) }
-    requires reached { AreReached (F.value plan.now.fulls.now) (F.wholes plan.now.fulls.now) (F.named plan.now.fulls.now) table.now }
-    requires ready { IsReady (F.value plan.now.fulls.now) (F.wholes plan.now.fulls.now) memo.old table.now }
+    requires listed { AllListed from.now.table.now (daughters_in (row_of row.now)) }
+    requires reached { AreReached (F.value plan.now.fulls.now) (F.wholes plan.now.fulls.now) (F.named plan.now.fulls.now) from.now.table.now }
+    requires ready { IsReady (F.value plan.now.fulls.now) (F.wholes plan.now.fulls.now) memo.old from.now.table.now }
     requires numbered { All (IsNumbered (F.value plan.now.fulls.now) (known_in (F.value plan.now.fulls.now) memo.old)) made.old.items }
-    ensures ready { OnOk result (StaysReady (F.value plan.now.fulls.now) (F.wholes plan.now.fulls.now) memo.old memo.new table.now) }
-    ensures cut { OnOk result (cut.old ≡ true → cut.new ≡ true) }
+    ensures ready { OnOk result (StaysReady (F.value plan.now.fulls.now) (F.wholes plan.now.fulls.now) memo.old memo.new from.now.table.now) }
     ensures numbered { OnOk result (All (IsNumbered (F.value plan.now.fulls.now) (known_in (F.value plan.now.fulls.now) memo.new)) made.new.items) }
-    ensures made { OnOk result (Gave (F.value plan.now.fulls.now) (F.wholes plan.now.fulls.now) cut.new table.now row.now made.old.items made.new.items) }
+    ensures made { IfOk result (λ cut. Gave (F.value plan.now.fulls.now) (F.wholes plan.now.fulls.now) cut from.now.table.now row.now made.old.items made.new.items) }
 {
     match row {
         GroupRow::Leaf { name } => {
@@ -123,18 +134,28 @@ fn add_row<S: Shapes, F: Fulls>(
             let full = memo.full(number)?;
             let tree = CountedTree { tree };
             made.push(Item { full, number, tree })?;
-            Ok(())
+            Ok(false)
         }
         GroupRow::Whole { rule, daughters } => {
-            let count = daughters.len() as u32;
             let none = nothing();
-            if combine(
-                alloc, plan.fulls, work, memo, *rule, count, table, &none, daughters, most, made,
-            )? {
-                *cut = true;
-            }
-            Ok(())
+            let by = Combining {
+                fulls: plan.fulls,
+                rule: *rule,
+                table: from.table,
+                most: from.most,
+            };
+            combine(alloc, &by, work, memo, &none, daughters, made)
         }
+    }
+}
+
+/// Keeps that a list was cut, where it was.
+fn note(cut: &mut bool, full: bool)
+    ensures before { cut.old ≡ true → cut.new ≡ true }
+    ensures full { full ≡ true → cut.new ≡ true }
+{
+    if full {
+        *cut = true;
     }
 }
 
@@ -163,6 +184,7 @@ fn go_on<S: Shapes, F: Fulls>(
         (λ d. IsLower (length (rows_in (core_of plan.now.finished.now))) plan.now.ranks.now table.now list.new.host d)) }
 {
     let most = list.most;
+    let from = Source { table, most };
     while list.next < list.group.len() {
         if list.made.len() >= most {
             *cut = true;
@@ -172,17 +194,8 @@ fn go_on<S: Shapes, F: Fulls>(
         if let Some(daughter) = lacking(table, row) {
             return Ok(Some(daughter));
         }
-        add_row(
-            alloc,
-            plan,
-            work,
-            memo,
-            row,
-            table,
-            most,
-            cut,
-            &mut list.made,
-        )?;
+        let full = add_row(alloc, plan, work, memo, row, &from, &mut list.made)?;
+        note(cut, full);
         list.next += 1;
     }
     Ok(None)
@@ -195,22 +208,29 @@ fn step<S: Shapes, F: Fulls>(
     work: &mut F::Work,
     memo: &mut Memo<F>,
     mut list: Making<F>,
-    table: &mut Vec<Option<Vec<Item<F>>>>,
-    cut: &mut bool,
+    lists: &mut Lists<F>,
     waiting: &mut Vec<Making<F>>,
 ) -> Result<(), NoMemory>
     requires plan { IsPlan (F.named plan.now.fulls.now) (F.ruled plan.now.fulls.now) (rows_in (core_of plan.now.finished.now)) plan.now.members.now.last.items plan.now.members.now.before.items plan.now.ranks.now }
-    requires table { length table.old.items ≡ length (rows_in (core_of plan.now.finished.now)) }
-    requires gathered { AreGathered (F.value plan.now.fulls.now) (F.wholes plan.now.fulls.now) plan.now.left cut.old (rows_in (core_of plan.now.finished.now)) table.old.items }
-    requires ready { IsReady (F.value plan.now.fulls.now) (F.wholes plan.now.fulls.now) memo.old table.old.items }
-    requires lists { AreMaking (F.value plan.now.fulls.now) (F.wholes plan.now.fulls.now) cut.old (rows_in (core_of plan.now.finished.now)) (known_in (F.value plan.now.fulls.now) memo.old) table.old.items plan.now.ranks.now (waiting.old.items ++ list ∷ []) }
-    ensures { OnOk result (Stepped (F.value plan.now.fulls.now) (F.wholes plan.now.fulls.now) plan.now.left (rows_in (core_of plan.now.finished.now)) plan.now.ranks.now cut.old cut.new memo.old memo.new table.old.items table.new.items (waiting.old.items ++ list ∷ []) waiting.new.items) }
+    requires table { length lists.old.table.items ≡ length (rows_in (core_of plan.now.finished.now)) }
+    requires gathered { AreGathered (F.value plan.now.fulls.now) (F.wholes plan.now.fulls.now) plan.now.left lists.old.cut (rows_in (core_of plan.now.finished.now)) lists.old.table.items }
+    requires ready { IsReady (F.value plan.now.fulls.now) (F.wholes plan.now.fulls.now) memo.old lists.old.table.items }
+    requires lists { AreMaking (F.value plan.now.fulls.now) (F.wholes plan.now.fulls.now) lists.old.cut (rows_in (core_of plan.now.finished.now)) (known_in (F.value plan.now.fulls.now) memo.old) lists.old.table.items plan.now.ranks.now (waiting.old.items ++ list ∷ []) }
+    ensures { OnOk result (Stepped (F.value plan.now.fulls.now) (F.wholes plan.now.fulls.now) plan.now.left (rows_in (core_of plan.now.finished.now)) plan.now.ranks.now lists.old.cut lists.new.cut memo.old memo.new lists.old.table.items lists.new.table.items (waiting.old.items ++ list ∷ []) waiting.new.items) }
 {
-    match go_on(alloc, plan, work, memo, table, cut, &mut list)? {
+    match go_on(
+        alloc,
+        plan,
+        work,
+        memo,
+        &lists.table,
+        &mut lists.cut,
+        &mut list,
+    )? {
         None => {
             let host = list.host;
             let items = sift(alloc, plan.fulls, memo, plan.left, list.made)?;
-            table[host as usize] = Some(items);
+            lists.table[host as usize] = Some(items);
         }
         Some(daughter) => {
             let needed = begin(alloc, plan, daughter, plan.most)?;
@@ -221,35 +241,34 @@ fn step<S: Shapes, F: Fulls>(
     Ok(())
 }
 
-/// Makes the list of a host, and those that it needs; `cut` where a list was left before its end.
+/// Makes the list of a host, and those that it needs; they are cut where a list was left before its end.
 pub fn list<S: Shapes, F: Fulls>(
     alloc: Global,
     plan: &Plan<S, F>,
     work: &mut F::Work,
     memo: &mut Memo<F>,
     host: u64,
-    table: &mut Vec<Option<Vec<Item<F>>>>,
-    cut: &mut bool,
+    lists: &mut Lists<F>,
 ) -> Result<(), NoMemory>
     requires plan { IsPlan (F.named plan.now.fulls.now) (F.ruled plan.now.fulls.now) (rows_in (core_of plan.now.finished.now)) plan.now.members.now.last.items plan.now.members.now.before.items plan.now.ranks.now }
     requires host { host < length (rows_in (core_of plan.now.finished.now)) }
-    requires table { length table.old.items ≡ length (rows_in (core_of plan.now.finished.now)) }
-    requires gathered { AreGathered (F.value plan.now.fulls.now) (F.wholes plan.now.fulls.now) plan.now.left cut.old (rows_in (core_of plan.now.finished.now)) table.old.items }
-    requires ready { IsReady (F.value plan.now.fulls.now) (F.wholes plan.now.fulls.now) memo.old table.old.items }
-    ensures grows { OnOk result (Grows (F.value plan.now.fulls.now) table.old.items table.new.items) }
-    ensures ready { OnOk result (StaysReady (F.value plan.now.fulls.now) (F.wholes plan.now.fulls.now) memo.old memo.new table.new.items) }
-    ensures cut { OnOk result (cut.old ≡ true → cut.new ≡ true) }
-    ensures listed { OnOk result (IsListed table.new.items host) }
-    ensures gathered { OnOk result (AreGathered (F.value plan.now.fulls.now) (F.wholes plan.now.fulls.now) plan.now.left cut.new (rows_in (core_of plan.now.finished.now)) table.new.items) }
+    requires table { length lists.old.table.items ≡ length (rows_in (core_of plan.now.finished.now)) }
+    requires gathered { AreGathered (F.value plan.now.fulls.now) (F.wholes plan.now.fulls.now) plan.now.left lists.old.cut (rows_in (core_of plan.now.finished.now)) lists.old.table.items }
+    requires ready { IsReady (F.value plan.now.fulls.now) (F.wholes plan.now.fulls.now) memo.old lists.old.table.items }
+    ensures grows { OnOk result (Grows (F.value plan.now.fulls.now) lists.old.table.items lists.new.table.items) }
+    ensures ready { OnOk result (StaysReady (F.value plan.now.fulls.now) (F.wholes plan.now.fulls.now) memo.old memo.new lists.new.table.items) }
+    ensures cut { OnOk result (lists.old.cut ≡ true → lists.new.cut ≡ true) }
+    ensures listed { OnOk result (IsListed lists.new.table.items host) }
+    ensures gathered { OnOk result (AreGathered (F.value plan.now.fulls.now) (F.wholes plan.now.fulls.now) plan.now.left lists.new.cut (rows_in (core_of plan.now.finished.now)) lists.new.table.items) }
 {
-    if table[host as usize].is_some() {
+    if lists.table[host as usize].is_some() {
         return Ok(());
     }
     let first = begin(alloc, plan, host, plan.most_wanted)?;
     let mut waiting = Vec::new(alloc);
     waiting.push(first)?;
     while let Some(list) = waiting.pop() {
-        step(alloc, plan, work, memo, list, table, cut, &mut waiting)?;
+        step(alloc, plan, work, memo, list, lists, &mut waiting)?;
     }
     Ok(())
 }

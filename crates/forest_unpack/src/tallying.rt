@@ -21,108 +21,112 @@ use crate::{Fulls, NoMemory};
 use chart_model::Shapes;
 use std::alloc::Global;
 
-/// Counts so many phrases of a rule over daughters of these full structures as a new class, if it makes them; true where there was no room for it.
+/// What phrases of a rule are counted by: the rule, the classes of the hosts that are daughters, and the most classes of a host.
+#[derive(Drop)]
+struct Counting<'x, F: Fulls> {
+    fulls: &'x F,
+    rule: u32,
+    table: &'x [Vec<Class<F>>],
+    most: usize,
+}
+
+/// Daughters that were chosen, and in how many ways trees of their full structures can be: never more than there are.
+#[derive(Drop)]
+struct Picked<'x, F: Fulls> {
+    chosen: Chosen<'x, F>,
+    times: u64,
+}
+
+/// Counts phrases of a rule over daughters of these full structures as a new class, if it makes them; true where there was no room for it.
 fn count_new<F: Fulls>(
     alloc: Global,
-    fulls: &F,
+    by: &Counting<F>,
     work: &mut F::Work,
     memo: &mut Memo<F>,
-    rule: u32,
-    chosen: &Chosen<F>,
-    times: u64,
-    most: usize,
+    picked: &Picked<F>,
     made: &mut Vec<Class<F>>,
 ) -> Result<bool, NoMemory>
-    requires chosen { AreChosen chosen.now }
-    requires rule { F.ruled fulls.now rule chosen.now.count }
-    requires reached { All (IsReachedItem (F.value fulls.now) (F.wholes fulls.now) (F.named fulls.now)) (chosen_items chosen.now) }
-    requires memo { IsMemo (F.value fulls.now) (F.wholes fulls.now) memo.old }
-    requires numbered { All (IsNumbered (F.value fulls.now) (known_in (F.value fulls.now) memo.old)) (chosen_items chosen.now) }
-    requires made { All (IsFit (F.value fulls.now) (F.wholes fulls.now) (F.named fulls.now) (known_in (F.value fulls.now) memo.old)) made.old.items }
-    ensures memo { OnOk result (Learned (F.value fulls.now) (F.wholes fulls.now) memo.old memo.new) }
-    ensures made { OnOk result (All (IsFit (F.value fulls.now) (F.wholes fulls.now) (F.named fulls.now) (known_in (F.value fulls.now) memo.new)) made.new.items) }
-    ensures counts { OnOk result (CountsOf (F.value fulls.now) (F.wholes fulls.now) rule (full_values (F.value fulls.now) chosen.now) times made.old.items made.new.items) }
+    requires chosen { AreChosen picked.now.chosen }
+    requires rule { F.ruled by.now.fulls.now by.now.rule picked.now.chosen.count }
+    requires reached { All (IsReachedItem (F.value by.now.fulls.now) (F.wholes by.now.fulls.now) (F.named by.now.fulls.now)) (chosen_items picked.now.chosen) }
+    requires memo { IsMemo (F.value by.now.fulls.now) (F.wholes by.now.fulls.now) memo.old }
+    requires numbered { All (IsNumbered (F.value by.now.fulls.now) (known_in (F.value by.now.fulls.now) memo.old)) (chosen_items picked.now.chosen) }
+    requires made { All (IsFit (F.value by.now.fulls.now) (F.wholes by.now.fulls.now) (F.named by.now.fulls.now) (known_in (F.value by.now.fulls.now) memo.old)) made.old.items }
+    ensures memo { OnOk result (Learned (F.value by.now.fulls.now) (F.wholes by.now.fulls.now) memo.old memo.new) }
+    ensures made { OnOk result (All (IsFit (F.value by.now.fulls.now) (F.wholes by.now.fulls.now) (F.named by.now.fulls.now) (known_in (F.value by.now.fulls.now) memo.new)) made.new.items) }
+    ensures counts { OnOk result (CountsOf (F.value by.now.fulls.now) (F.wholes by.now.fulls.now) by.now.rule (full_values (F.value by.now.fulls.now) picked.now.chosen) picked.now.times made.old.items made.new.items) }
 {
-    if made.len() >= most {
+    if made.len() >= by.most {
         return Ok(true);
     }
-    match try_rule(alloc, fulls, work, memo, rule, chosen)? {
+    match try_rule(alloc, by.fulls, work, memo, by.rule, &picked.chosen)? {
         None => Ok(false),
         Some(item) => {
+            let times = picked.times;
             made.push(Class { item, times })?;
             Ok(false)
         }
     }
 }
 
-/// Counts so many phrases of a rule over daughters of these full structures, if it makes them; true where there was no room for their class.
+/// Counts phrases of a rule over daughters of these full structures, if it makes them; true where there was no room for their class.
 fn count_made<F: Fulls>(
     alloc: Global,
-    fulls: &F,
+    by: &Counting<F>,
     work: &mut F::Work,
     memo: &mut Memo<F>,
-    rule: u32,
-    chosen: &Chosen<F>,
-    times: u64,
-    most: usize,
+    picked: &Picked<F>,
     made: &mut Vec<Class<F>>,
 ) -> Result<bool, NoMemory>
-    requires chosen { AreChosen chosen.now }
-    requires rule { F.ruled fulls.now rule chosen.now.count }
-    requires reached { All (IsReachedItem (F.value fulls.now) (F.wholes fulls.now) (F.named fulls.now)) (chosen_items chosen.now) }
-    requires memo { IsMemo (F.value fulls.now) (F.wholes fulls.now) memo.old }
-    requires numbered { All (IsNumbered (F.value fulls.now) (known_in (F.value fulls.now) memo.old)) (chosen_items chosen.now) }
-    requires made { All (IsFit (F.value fulls.now) (F.wholes fulls.now) (F.named fulls.now) (known_in (F.value fulls.now) memo.old)) made.old.items }
-    ensures memo { OnOk result (Learned (F.value fulls.now) (F.wholes fulls.now) memo.old memo.new) }
-    ensures made { OnOk result (All (IsFit (F.value fulls.now) (F.wholes fulls.now) (F.named fulls.now) (known_in (F.value fulls.now) memo.new)) made.new.items) }
-    ensures counts { OnOk result (CountsOf (F.value fulls.now) (F.wholes fulls.now) rule (full_values (F.value fulls.now) chosen.now) times made.old.items made.new.items) }
+    requires chosen { AreChosen picked.now.chosen }
+    requires rule { F.ruled by.now.fulls.now by.now.rule picked.now.chosen.count }
+    requires reached { All (IsReachedItem (F.value by.now.fulls.now) (F.wholes by.now.fulls.now) (F.named by.now.fulls.now)) (chosen_items picked.now.chosen) }
+    requires memo { IsMemo (F.value by.now.fulls.now) (F.wholes by.now.fulls.now) memo.old }
+    requires numbered { All (IsNumbered (F.value by.now.fulls.now) (known_in (F.value by.now.fulls.now) memo.old)) (chosen_items picked.now.chosen) }
+    requires made { All (IsFit (F.value by.now.fulls.now) (F.wholes by.now.fulls.now) (F.named by.now.fulls.now) (known_in (F.value by.now.fulls.now) memo.old)) made.old.items }
+    ensures memo { OnOk result (Learned (F.value by.now.fulls.now) (F.wholes by.now.fulls.now) memo.old memo.new) }
+    ensures made { OnOk result (All (IsFit (F.value by.now.fulls.now) (F.wholes by.now.fulls.now) (F.named by.now.fulls.now) (known_in (F.value by.now.fulls.now) memo.new)) made.new.items) }
+    ensures counts { OnOk result (CountsOf (F.value by.now.fulls.now) (F.wholes by.now.fulls.now) by.now.rule (full_values (F.value by.now.fulls.now) picked.now.chosen) picked.now.times made.old.items made.new.items) }
 {
-    let Some(number) = find(alloc, fulls, work, memo, rule, chosen)? else {
+    let Some(number) = find(alloc, by.fulls, work, memo, by.rule, &picked.chosen)? else {
         return Ok(false);
     };
-    if raise_at(made, number, times) {
+    if raise_at(made, number, picked.times) {
         return Ok(false);
     }
-    count_new(alloc, fulls, work, memo, rule, chosen, times, most, made)
+    count_new(alloc, by, work, memo, picked, made)
 }
 
-/// Counts the phrases of a rule over the daughters chosen, of which there are so many, and one of each class of each further host; true where there was no room for a class.
+/// Counts the phrases of a rule over the daughters picked and one of each class of each further host; true where there was no room for a class.
 fn count_all<'x, F: Fulls>(
     alloc: Global,
-    fulls: &F,
+    by: &Counting<'x, F>,
     work: &mut F::Work,
     memo: &mut Memo<F>,
-    rule: u32,
-    count: u32,
-    table: &'x [Vec<Class<F>>],
-    chosen: &Chosen<'x, F>,
-    times: u64,
+    picked: &Picked<'x, F>,
     rest: &[u64],
-    most: usize,
     made: &mut Vec<Class<F>>,
 ) -> Result<bool, NoMemory>
-    requires chosen { AreChosen chosen.now }
-    requires rule { F.ruled fulls.now rule count }
-    requires short { count ≤ 4 }
-    requires counted { chosen.now.count + length rest.now ≡ count }
-    requires table { AreFit (F.value fulls.now) (F.wholes fulls.now) (F.named fulls.now) (known_in (F.value fulls.now) memo.old) table.now }
-    requires reached { All (IsReachedItem (F.value fulls.now) (F.wholes fulls.now) (F.named fulls.now)) (chosen_items chosen.now) }
-    requires memo { IsMemo (F.value fulls.now) (F.wholes fulls.now) memo.old }
-    requires numbered { All (IsNumbered (F.value fulls.now) (known_in (F.value fulls.now) memo.old)) (chosen_items chosen.now) }
-    requires made { All (IsFit (F.value fulls.now) (F.wholes fulls.now) (F.named fulls.now) (known_in (F.value fulls.now) memo.old)) made.old.items }
-    ensures memo { OnOk result (Learned (F.value fulls.now) (F.wholes fulls.now) memo.old memo.new) }
-    ensures made { OnOk result (All (IsFit (F.value fulls.now) (F.wholes fulls.now) (F.named fulls.now) (known_in (F.value fulls.now) memo.new)) made.new.items) }
-    ensures counts { OnOk result (CountsAllOf (F.value fulls.now) (F.wholes fulls.now) rule (full_values (F.value fulls.now) chosen.now) times (map (classes_at (F.value fulls.now) table.now) rest.now) made.old.items made.new.items) }
+    requires chosen { AreChosen picked.now.chosen }
+    requires rule { F.ruled by.now.fulls.now by.now.rule (picked.now.chosen.count + length rest.now) }
+    requires short { picked.now.chosen.count + length rest.now ≤ 4 }
+    requires table { AreFit (F.value by.now.fulls.now) (F.wholes by.now.fulls.now) (F.named by.now.fulls.now) (known_in (F.value by.now.fulls.now) memo.old) by.now.table.now }
+    requires reached { All (IsReachedItem (F.value by.now.fulls.now) (F.wholes by.now.fulls.now) (F.named by.now.fulls.now)) (chosen_items picked.now.chosen) }
+    requires memo { IsMemo (F.value by.now.fulls.now) (F.wholes by.now.fulls.now) memo.old }
+    requires numbered { All (IsNumbered (F.value by.now.fulls.now) (known_in (F.value by.now.fulls.now) memo.old)) (chosen_items picked.now.chosen) }
+    requires made { All (IsFit (F.value by.now.fulls.now) (F.wholes by.now.fulls.now) (F.named by.now.fulls.now) (known_in (F.value by.now.fulls.now) memo.old)) made.old.items }
+    ensures memo { OnOk result (Learned (F.value by.now.fulls.now) (F.wholes by.now.fulls.now) memo.old memo.new) }
+    ensures made { OnOk result (All (IsFit (F.value by.now.fulls.now) (F.wholes by.now.fulls.now) (F.named by.now.fulls.now) (known_in (F.value by.now.fulls.now) memo.new)) made.new.items) }
+    ensures counts { OnOk result (CountsAllOf (F.value by.now.fulls.now) (F.wholes by.now.fulls.now) by.now.rule (full_values (F.value by.now.fulls.now) picked.now.chosen) picked.now.times (map (classes_at (F.value by.now.fulls.now) by.now.table.now) rest.now) made.old.items made.new.items) }
 {
     let Some((host, more)) = rest.split_first() else {
-        return count_made(alloc, fulls, work, memo, rule, chosen, times, most, made);
+        return count_made(alloc, by, work, memo, picked, made);
     };
-    for class in counted_at(table, *host) {
-        let next = chosen.with(&class.item);
-        let ways = times.saturating_mul(class.times);
-        if count_all(
-            alloc, fulls, work, memo, rule, count, table, &next, ways, more, most, made,
-        )? {
+    for class in counted_at(by.table, *host) {
+        let chosen = picked.chosen.with(&class.item);
+        let times = picked.times.saturating_mul(class.times);
+        let next = Picked { chosen, times };
+        if count_all(alloc, by, work, memo, &next, more, made)? {
             return Ok(true);
         }
     }
@@ -161,12 +165,18 @@ fn count_row<S: Shapes, F: Fulls>(
             Ok(false)
         }
         GroupRow::Whole { rule, daughters } => {
-            let count = daughters.len() as u32;
             let none = nothing();
-            count_all(
-                alloc, plan.fulls, work, memo, *rule, count, table, &none, 1, daughters, plan.most,
-                made,
-            )
+            let picked = Picked {
+                chosen: none,
+                times: 1,
+            };
+            let by = Counting {
+                fulls: plan.fulls,
+                rule: *rule,
+                table,
+                most: plan.most,
+            };
+            count_all(alloc, &by, work, memo, &picked, daughters, made)
         }
     }
 }

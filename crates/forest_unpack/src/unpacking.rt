@@ -16,8 +16,8 @@ use crate::asking::wanted_of;
 use crate::collecting::{Wanted, collect};
 use crate::item::Item;
 use crate::keeping::{sort, trees_of};
-use crate::listing::Plan;
-use crate::members::{Members, members_of};
+use crate::listing::{Lists, Plan};
+use crate::members::members_of;
 use crate::memo::Memo;
 use crate::ranks::ranks_of;
 use crate::sifting::{LeftOut, are_enough};
@@ -78,24 +78,15 @@ fn pass<'p, 'w, S: Shapes, F: Fulls<Cover = S::Cover>>(
         (λ o. MatchOption o (Unit {0}) (λ v. AreUnpacked (grammar_of S.Shapes S.Cover.Cover.own _shapes.now) (F.wholes plan.now.fulls.now) plan.now.finished.now max (map derivation_of v.items)))
         (IsUnpackFault (grammar_of S.Shapes S.Cover.Cover.own _shapes.now) (F.wholes plan.now.fulls.now) plan.now.finished.now max) }
 {
-    let mut table = no_lists(alloc, plan.finished.rows() as usize)?;
-    let mut cut = false;
-    let mut trees = Vec::new(alloc);
-    let over = collect(
-        alloc,
-        plan,
-        work,
-        memo,
-        wanted,
-        enough(plan.left, max),
-        &mut table,
-        &mut cut,
-        &mut trees,
-    )?;
+    let table = no_lists(alloc, plan.finished.rows() as usize)?;
+    let mut lists = Lists { table, cut: false };
+    let most = enough(plan.left, max);
+    let kept = collect(alloc, plan, work, memo, wanted, most, &mut lists)?;
+    let mut trees = kept.trees;
     if trees.len() > max as usize {
         return Err(UnpackFault::ReadingLimit);
     }
-    if over || cut {
+    if kept.over || lists.cut {
         return Ok(None);
     }
     if !are_enough(plan.left, &trees) {
@@ -105,36 +96,33 @@ fn pass<'p, 'w, S: Shapes, F: Fulls<Cover = S::Cover>>(
     Ok(Some(trees_of(alloc, trees)?))
 }
 
-/// What is tried first where the groups of a chart may hold many trees: short lists, which are enough where more than `max` trees are asked for;
+/// What is tried where the groups of a chart may hold many trees: short lists, which are enough where more than `max` trees are asked for;
 /// and lists of one tree for each full structure, which are enough where none is.
-fn try_short<'w, S: Shapes, F: Fulls<Cover = S::Cover>>(
+fn try_short<'p, 'w, S: Shapes, F: Fulls<Cover = S::Cover>>(
     alloc: Global,
-    finished: &Finished<S>,
     shapes: &S,
-    fulls: &F,
-    members: &Members,
-    ranks: &[u64],
+    plan: &'p Plan<'p, S, F>,
     wanted: &'w [Wanted<'w, F>],
     work: &mut F::Work,
     memo: &mut Memo<F>,
     max: u32,
 ) -> Result<Option<Vec<Tree>>, UnpackFault>
-    requires suits { Suits (grammar_of S.Shapes S.Cover.Cover.own shapes.now) (F.wholes fulls.now) finished.now (S.full shapes.now) (S.agrees shapes.now) (F.named fulls.now) (F.ruled fulls.now) }
-    requires skeleton { IsSkeleton (F.wholes fulls.now) (leaves_of (S.meaning shapes.now) (core_of finished.now)) (chart_of (S.meaning shapes.now) (core_of finished.now)) (rows_in (core_of finished.now)) ranks.now (map asked_of wanted.now) }
-    requires plan { IsPlan (F.named fulls.now) (F.ruled fulls.now) (rows_in (core_of finished.now)) members.now.last.items members.now.before.items ranks.now }
-    requires wanted { AllBelow (length (rows_in (core_of finished.now))) wanted.now }
-    requires memo { IsMemo (F.value fulls.now) (F.wholes fulls.now) memo.old }
-    ensures memo { OnOk result (IsMemo (F.value fulls.now) (F.wholes fulls.now) memo.new) }
+    requires suits { Suits (grammar_of S.Shapes S.Cover.Cover.own shapes.now) (F.wholes plan.now.fulls.now) plan.now.finished.now (S.full shapes.now) (S.agrees shapes.now) (F.named plan.now.fulls.now) (F.ruled plan.now.fulls.now) }
+    requires skeleton { IsSkeleton (F.wholes plan.now.fulls.now) (leaves_of (S.meaning shapes.now) (core_of plan.now.finished.now)) (chart_of (S.meaning shapes.now) (core_of plan.now.finished.now)) (rows_in (core_of plan.now.finished.now)) plan.now.ranks.now (map asked_of wanted.now) }
+    requires plan { IsPlan (F.named plan.now.fulls.now) (F.ruled plan.now.fulls.now) (rows_in (core_of plan.now.finished.now)) plan.now.members.now.last.items plan.now.members.now.before.items plan.now.ranks.now }
+    requires wanted { AllBelow (length (rows_in (core_of plan.now.finished.now))) wanted.now }
+    requires memo { IsMemo (F.value plan.now.fulls.now) (F.wholes plan.now.fulls.now) memo.old }
+    ensures memo { OnOk result (IsMemo (F.value plan.now.fulls.now) (F.wholes plan.now.fulls.now) memo.new) }
     ensures answer { MatchResult result
-        (λ o. MatchOption o (Unit {0}) (λ v. AreUnpacked (grammar_of S.Shapes S.Cover.Cover.own shapes.now) (F.wholes fulls.now) finished.now max (map derivation_of v.items)))
-        (IsUnpackFault (grammar_of S.Shapes S.Cover.Cover.own shapes.now) (F.wholes fulls.now) finished.now max) }
+        (λ o. MatchOption o (Unit {0}) (λ v. AreUnpacked (grammar_of S.Shapes S.Cover.Cover.own shapes.now) (F.wholes plan.now.fulls.now) plan.now.finished.now max (map derivation_of v.items)))
+        (IsUnpackFault (grammar_of S.Shapes S.Cover.Cover.own shapes.now) (F.wholes plan.now.fulls.now) plan.now.finished.now max) }
 {
     let most = max as usize + 1;
     let short = Plan {
-        fulls: &*fulls,
-        finished: &*finished,
-        members: &*members,
-        ranks: &*ranks,
+        fulls: &*plan.fulls,
+        finished: &*plan.finished,
+        members: &*plan.members,
+        ranks: &*plan.ranks,
         left: LeftOut::Nothing,
         most: FEW,
         most_wanted: most,
@@ -143,10 +131,10 @@ fn try_short<'w, S: Shapes, F: Fulls<Cover = S::Cover>>(
         return Ok(Some(trees));
     }
     let classes = Plan {
-        fulls: &*fulls,
-        finished: &*finished,
-        members: &*members,
-        ranks: &*ranks,
+        fulls: &*plan.fulls,
+        finished: &*plan.finished,
+        members: &*plan.members,
+        ranks: &*plan.ranks,
         left: LeftOut::Repeats,
         most,
         most_wanted: most,
@@ -154,58 +142,78 @@ fn try_short<'w, S: Shapes, F: Fulls<Cover = S::Cover>>(
     pass(alloc, shapes, &classes, &*wanted, work, memo, max)
 }
 
-/// The trees over a chart's leaves that are asked for, by the rows of its groups, their ranks and wanted hosts. Lists are cut just above `max`, and later if need be.
-fn unpack_by<'w, S: Shapes, F: Fulls<Cover = S::Cover>>(
+/// What is tried first: nothing where the groups of a chart hold few trees, and else a count, which is enough where it is above `max`, and lists that are short.
+fn try_first<'p, 'w, S: Shapes, F: Fulls<Cover = S::Cover>>(
     alloc: Global,
-    finished: &Finished<S>,
     shapes: &S,
-    fulls: &F,
-    members: &Members,
-    ranks: &[u64],
+    plan: &'p Plan<'p, S, F>,
+    wanted: &'w [Wanted<'w, F>],
+    work: &mut F::Work,
+    memo: &mut Memo<F>,
+    max: u32,
+) -> Result<Option<Vec<Tree>>, UnpackFault>
+    requires suits { Suits (grammar_of S.Shapes S.Cover.Cover.own shapes.now) (F.wholes plan.now.fulls.now) plan.now.finished.now (S.full shapes.now) (S.agrees shapes.now) (F.named plan.now.fulls.now) (F.ruled plan.now.fulls.now) }
+    requires skeleton { IsSkeleton (F.wholes plan.now.fulls.now) (leaves_of (S.meaning shapes.now) (core_of plan.now.finished.now)) (chart_of (S.meaning shapes.now) (core_of plan.now.finished.now)) (rows_in (core_of plan.now.finished.now)) plan.now.ranks.now (map asked_of wanted.now) }
+    requires plan { IsPlan (F.named plan.now.fulls.now) (F.ruled plan.now.fulls.now) (rows_in (core_of plan.now.finished.now)) plan.now.members.now.last.items plan.now.members.now.before.items plan.now.ranks.now }
+    requires wanted { AllBelow (length (rows_in (core_of plan.now.finished.now))) wanted.now }
+    requires memo { IsMemo (F.value plan.now.fulls.now) (F.wholes plan.now.fulls.now) memo.old }
+    ensures memo { OnOk result (IsMemo (F.value plan.now.fulls.now) (F.wholes plan.now.fulls.now) memo.new) }
+    ensures answer { MatchResult result
+        (λ o. MatchOption o (Unit {0}) (λ v. AreUnpacked (grammar_of S.Shapes S.Cover.Cover.own shapes.now) (F.wholes plan.now.fulls.now) plan.now.finished.now max (map derivation_of v.items)))
+        (IsUnpackFault (grammar_of S.Shapes S.Cover.Cover.own shapes.now) (F.wholes plan.now.fulls.now) plan.now.finished.now max) }
+{
+    let number = (max as u64 + 1).saturating_mul(MANY);
+    if !is_large(alloc, plan.finished, plan.ranks, number)? {
+        return Ok(None);
+    }
+    let counted = Plan {
+        fulls: &*plan.fulls,
+        finished: &*plan.finished,
+        members: &*plan.members,
+        ranks: &*plan.ranks,
+        left: LeftOut::Nothing,
+        most: FEW_CLASSES,
+        most_wanted: FEW_CLASSES,
+    };
+    if are_more(alloc, shapes, &counted, &*wanted, work, &mut *memo, max)? {
+        return Err(UnpackFault::ReadingLimit);
+    }
+    try_short(alloc, shapes, plan, &*wanted, work, memo, max)
+}
+
+/// The trees over a chart's leaves that are asked for, by the rows of its groups, their ranks and wanted hosts. Lists are cut just above `max`, and later if need be.
+fn unpack_by<'p, 'w, S: Shapes, F: Fulls<Cover = S::Cover>>(
+    alloc: Global,
+    shapes: &S,
+    plan: &'p Plan<'p, S, F>,
     wanted: &'w [Wanted<'w, F>],
     work: &mut F::Work,
     max: u32,
 ) -> Result<Vec<Tree>, UnpackFault>
-    requires suits { Suits (grammar_of S.Shapes S.Cover.Cover.own shapes.now) (F.wholes fulls.now) finished.now (S.full shapes.now) (S.agrees shapes.now) (F.named fulls.now) (F.ruled fulls.now) }
-    requires skeleton { IsSkeleton (F.wholes fulls.now) (leaves_of (S.meaning shapes.now) (core_of finished.now)) (chart_of (S.meaning shapes.now) (core_of finished.now)) (rows_in (core_of finished.now)) ranks.now (map asked_of wanted.now) }
-    requires plan { IsPlan (F.named fulls.now) (F.ruled fulls.now) (rows_in (core_of finished.now)) members.now.last.items members.now.before.items ranks.now }
-    requires wanted { AllBelow (length (rows_in (core_of finished.now))) wanted.now }
+    requires suits { Suits (grammar_of S.Shapes S.Cover.Cover.own shapes.now) (F.wholes plan.now.fulls.now) plan.now.finished.now (S.full shapes.now) (S.agrees shapes.now) (F.named plan.now.fulls.now) (F.ruled plan.now.fulls.now) }
+    requires skeleton { IsSkeleton (F.wholes plan.now.fulls.now) (leaves_of (S.meaning shapes.now) (core_of plan.now.finished.now)) (chart_of (S.meaning shapes.now) (core_of plan.now.finished.now)) (rows_in (core_of plan.now.finished.now)) plan.now.ranks.now (map asked_of wanted.now) }
+    requires plan { IsPlan (F.named plan.now.fulls.now) (F.ruled plan.now.fulls.now) (rows_in (core_of plan.now.finished.now)) plan.now.members.now.last.items plan.now.members.now.before.items plan.now.ranks.now }
+    requires wanted { AllBelow (length (rows_in (core_of plan.now.finished.now))) wanted.now }
     ensures { MatchResult result
-        (λ v. AreUnpacked (grammar_of S.Shapes S.Cover.Cover.own shapes.now) (F.wholes fulls.now) finished.now max (map derivation_of v.items))
-        (IsUnpackFault (grammar_of S.Shapes S.Cover.Cover.own shapes.now) (F.wholes fulls.now) finished.now max) }
+        (λ v. AreUnpacked (grammar_of S.Shapes S.Cover.Cover.own shapes.now) (F.wholes plan.now.fulls.now) plan.now.finished.now max (map derivation_of v.items))
+        (IsUnpackFault (grammar_of S.Shapes S.Cover.Cover.own shapes.now) (F.wholes plan.now.fulls.now) plan.now.finished.now max) }
 {
     let mut memo = Memo::new(alloc);
-    let mut most = max as usize + 1;
-    if is_large(alloc, finished, ranks, (most as u64).saturating_mul(MANY))? {
-        let counted = Plan {
-            fulls: &*fulls,
-            finished: &*finished,
-            members: &*members,
-            ranks: &*ranks,
-            left: LeftOut::Nothing,
-            most: FEW_CLASSES,
-            most_wanted: FEW_CLASSES,
-        };
-        if are_more(alloc, shapes, &counted, &*wanted, work, &mut memo, max)? {
-            return Err(UnpackFault::ReadingLimit);
-        }
-        if let Some(trees) = try_short(
-            alloc, finished, shapes, fulls, members, ranks, wanted, work, &mut memo, max,
-        )? {
-            return Ok(trees);
-        }
+    if let Some(trees) = try_first(alloc, shapes, plan, &*wanted, work, &mut memo, max)? {
+        return Ok(trees);
     }
+    let mut most = max as usize + 1;
     loop {
-        let plan = Plan {
-            fulls: &*fulls,
-            finished: &*finished,
-            members: &*members,
-            ranks: &*ranks,
+        let longer = Plan {
+            fulls: &*plan.fulls,
+            finished: &*plan.finished,
+            members: &*plan.members,
+            ranks: &*plan.ranks,
             left: LeftOut::Nothing,
             most,
             most_wanted: most,
         };
-        if let Some(trees) = pass(alloc, shapes, &plan, &*wanted, work, &mut memo, max)? {
+        if let Some(trees) = pass(alloc, shapes, &longer, &*wanted, work, &mut memo, max)? {
             return Ok(trees);
         }
         if most == usize::MAX {
@@ -236,7 +244,15 @@ pub fn unpack<S: Shapes, F: Fulls<Cover = S::Cover>>(
     let ranks = ranks_of(alloc, finished)?;
     let members = members_of(alloc, finished)?;
     let wanted = wanted_of(alloc, finished, fulls)?;
-    unpack_by(
-        alloc, finished, shapes, fulls, &members, &ranks, &wanted, work, max,
-    )
+    let most = max as usize + 1;
+    let plan = Plan {
+        fulls: &*fulls,
+        finished: &*finished,
+        members: &members,
+        ranks: &ranks,
+        left: LeftOut::Nothing,
+        most,
+        most_wanted: most,
+    };
+    unpack_by(alloc, shapes, &plan, &wanted, work, max)
 }

@@ -104,3 +104,10 @@ abbrev pub Closed : Grammar → Nodes → Tasks → Nodes → Bool → Type 0
 Closed g nodes tasks nodes' true =
     Leads g nodes (work_of g.rules tasks) nodes' [] × IsWhole nodes' × IsWithin (count_of g.types) (length g.introducers) nodes'
 Closed g nodes tasks nodes' false = Clashes g nodes (work_of g.rules tasks)
+
+-- a closing up to a number of nodes: where it stopped before its end, some work may be left
+abbrev pub ClosedTo : Grammar → Nodes → Tasks → Nodes → Tasks → Progress → Type 0
+ClosedTo g nodes tasks nodes' tasks' Stepped =
+    Leads g nodes (work_of g.rules tasks) nodes' (work_of g.rules tasks') × AreSound g nodes' tasks'
+ClosedTo g nodes tasks nodes' tasks' Clashed = Closed g nodes tasks nodes' false
+ClosedTo g nodes tasks nodes' tasks' Ended = Closed g nodes tasks nodes' true

@@ -8,11 +8,12 @@ ghost use Rattle.fs_graph.specs.Facts.{path_of, claim_of};
 ghost use Rattle.fs_closing.specs.Rules.{system_of, IsClaimIn};
 ghost use Rattle.fs_closing.specs.Work.{work_of, pair_claim, entry_claims};
 ghost use Rattle.fs_closing.specs.NodeTable.{IsWhole};
-ghost use Rattle.fs_closing.specs.Keeps.{AreSound, StepsTo, Reaches, Progresses, Closed};
+ghost use Rattle.fs_closing.specs.Keeps.{AreSound, StepsTo, Reaches, Progresses, Closed, ClosedTo};
 
 use crate::NoMemory;
+use crate::grafts::{go, put_under};
 use crate::nodes::Nodes;
-use crate::steps::{go, join, put_under};
+use crate::steps::join;
 use crate::system::TypeSystem;
 use crate::tasks::{Entry, Tasks};
 use crate::told::is_told_next;
@@ -189,6 +190,31 @@ pub fn close<'a>(
             Progress::Stepped => {}
             Progress::Clashed => return Ok(false),
             Progress::Ended => return Ok(true),
+        }
+    }
+    Err(NoMemory)
+}
+
+/// Works off tasks until none is left, a clash was met, or there are more nodes than so many: then the answer is `Stepped`, and some tasks
+/// may be left.
+pub fn close_to<'a>(
+    nodes: &mut Nodes<'a>,
+    tasks: &mut Tasks,
+    system: &'a TypeSystem,
+    most: u32,
+) -> Result<Progress, NoMemory>
+    requires bare { IsBare (system_of system.now) }
+    requires sound { AreSound system.now nodes.old tasks.old }
+    ensures { IfOk result (ClosedTo system.now nodes.old tasks.old nodes.new tasks.new) }
+{
+    for _ in 0..u64::MAX {
+        match step(nodes, tasks, system)? {
+            Progress::Stepped => {}
+            Progress::Clashed => return Ok(Progress::Clashed),
+            Progress::Ended => return Ok(Progress::Ended),
+        }
+        if nodes.size > most {
+            return Ok(Progress::Stepped);
         }
     }
     Err(NoMemory)

@@ -5,6 +5,7 @@ pub mod cells;
 pub mod closing;
 pub mod constraint;
 pub mod facts;
+pub mod grafts;
 pub mod index;
 pub mod marks;
 pub mod nodes;

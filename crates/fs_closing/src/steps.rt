@@ -1,31 +1,27 @@
 //! Steps of a closing: arcs, merged nodes, lowered types.
 
-ghost use Rattle.std.specs.Prelude.{◌≡◌, ◌≢◌, ℕ, ◌+◌, ◌^◌, ◌<◌, ◌≤◌, ◌⊎◌, length, false, List, [], ◌∷◌, ◌++◌, IfOk, OnOk, MatchOption, IfSome, Some, None, true, slice_index_or};
+ghost use Rattle.std.specs.Prelude.{◌≡◌, ◌≢◌, ℕ, ◌<◌, ◌≤◌, ◌⊎◌, length, false, [], ◌∷◌, ◌++◌, IfOk, OnOk, IfSome, Some, true, slice_index_or};
 ghost use Rattle.type_hierarchy.specs.Table.{count_of, is_below, meet_of};
 ghost use Rattle.type_hierarchy.specs.Laws.{HasTypeLaws};
-ghost use Rattle.fs_model.specs.Claims.{Path, IsBare, IsOrder};
-ghost use Rattle.fs_model.specs.Table.{NodeClaim, is_same, is_under};
+ghost use Rattle.fs_model.specs.Claims.{IsOrder};
+ghost use Rattle.fs_model.specs.Table.{is_same, is_under};
 ghost use Rattle.fs_closing.specs.Cells.{chain};
-ghost use Rattle.fs_closing.specs.Constraints.{IsConstraint, IsUnderBy};
-ghost use Rattle.fs_closing.specs.NodeTable.{table_of, own_row, depth_of, IsWhole};
+ghost use Rattle.fs_closing.specs.NodeTable.{table_of, own_row, IsWhole};
 ghost use Rattle.fs_closing.specs.NodeSteps.{KeepsArcs};
 ghost use Rattle.fs_closing.specs.Rules.{system_of, no_rule};
 ghost use Rattle.fs_closing.specs.Joined.{IsJoined};
 ghost use Rattle.fs_closing.specs.Work.{work_of, entry_claims, AreReady};
-ghost use Rattle.fs_closing.specs.Keeps.{AreSound, Leads, Clashes, StepsTo, begin, arc_claims, IsHeld, PushesFacts};
+ghost use Rattle.fs_closing.specs.Keeps.{AreSound, Leads, StepsTo, arc_claims, IsHeld, PushesFacts};
 
 use crate::NoMemory;
-use crate::constraint::Constraint;
-use crate::nodes::{
-    Nodes, add_arc, add_graph, depth_of, first_of, grow, live, set_type, ty_of, unite,
-};
+use crate::nodes::{Nodes, add_arc, first_of, live, set_type, ty_of, unite};
 use crate::parts::{own_arc, own_arcs, own_cell, own_count};
 use crate::system::TypeSystem;
 use crate::tasks::Tasks;
 use type_hierarchy::Ty;
 
-// The arc of a node with a feature.
-fn arc_of(nodes: &Nodes<'_>, n: u32, feat: u32) -> Option<u32>
+/// The arc of a node with a feature.
+pub fn arc_of(nodes: &Nodes<'_>, n: u32, feat: u32) -> Option<u32>
     requires node { n < nodes.now.size }
     requires sound { IsWhole nodes.now }
     ensures value { result ≡ (table_of nodes.now).arc n feat }
@@ -37,8 +33,8 @@ fn arc_of(nodes: &Nodes<'_>, n: u32, feat: u32) -> Option<u32>
     own_arc(&nodes.parts, n, feat)
 }
 
-// The meet of two types. It costs no test of types where one is the top type, as that of a new node is, or both are one.
-fn meet(system: &TypeSystem, a: u32, b: u32) -> Option<u32>
+/// The meet of two types. It costs no test of types where one is the top type, as that of a new node is, or both are one.
+pub fn meet(system: &TypeSystem, a: u32, b: u32) -> Option<u32>
     requires a_in { a < count_of system.now.types }
     requires b_in { b < count_of system.now.types }
     ensures value { result ≡ meet_of system.now.types a b }
@@ -129,8 +125,8 @@ pub fn push_rules(
     Ok(())
 }
 
-// A node's type becomes its meet with another type. `old` is its type.
-fn lower(
+/// A node's type becomes its meet with another type. `old` is its type.
+pub fn lower(
     nodes: &mut Nodes<'_>,
     tasks: &mut Tasks,
     system: &TypeSystem,
@@ -152,8 +148,8 @@ fn lower(
     Ok(())
 }
 
-// A node's type is put at or below a type by facts alone. The answer is false where the two have no common subtype.
-fn bound(
+/// A node's type is put at or below a type by facts alone. The answer is false where the two have no common subtype.
+pub fn bound(
     nodes: &mut Nodes<'_>,
     tasks: &mut Tasks,
     system: &TypeSystem,
@@ -363,164 +359,4 @@ pub fn join(
     }
     let ok = merge(nodes, tasks, system, b, a)?;
     Ok(ok)
-}
-
-// Whether a node has no arcs.
-fn is_bare(nodes: &Nodes<'_>, n: u32) -> bool
-    requires whole { IsWhole nodes.now }
-    requires node { n < nodes.now.size }
-{
-    first_of(nodes, n) == 0 && own_count(&nodes.parts, n) == 0
-}
-
-// The constraint that is to stand at a node whose type falls, if it has no arcs yet: that of its new type, or of one above it. Where
-// no path may go on from the node, there is none.
-fn constraint_for<'a>(
-    nodes: &Nodes<'_>,
-    system: &'a TypeSystem,
-    n: u32,
-    ty: u32,
-) -> Option<&'a Constraint>
-    requires whole { IsWhole nodes.now }
-    requires node { n < nodes.now.size }
-    requires ty_in { ty < count_of system.now.types }
-    ensures is { IfSome result (λ k. (is_below system.now.types ty k.now.ty ≡ true) × IsConstraint system.now k.now.ty k.now.graph) }
-    ensures shallow { IfSome result (λ k. depth_of nodes.now n + 1 < 2 ^ 32) }
-{
-    if !is_bare(nodes, n) || system.rules_above(ty).is_empty() {
-        return None;
-    }
-    if depth_of(nodes, n) >= system.path_limit() {
-        return None;
-    }
-    system.constraint_above(ty)
-}
-
-// The graph of a constraint enters, and its root and a node become one, which is put at or below a type then.
-fn graft<'a>(
-    nodes: &mut Nodes<'a>,
-    tasks: &mut Tasks,
-    system: &'a TypeSystem,
-    node: u32,
-    constraint: &'a Constraint,
-    ty: u32,
-) -> Result<bool, NoMemory>
-    requires sound { AreSound system.now nodes.old tasks.old }
-    requires node { node < nodes.old.size }
-    requires ty_in { ty < count_of system.now.types }
-    requires is { IsConstraint system.now constraint.now.ty constraint.now.graph }
-    requires shallow { depth_of nodes.old ((table_of nodes.old).live node) + 1 < 2 ^ 32 }
-    requires under { IsUnderBy system.now (table_of nodes.old) ((table_of nodes.old).live node) ty constraint.now.ty }
-    ensures steps { IfOk result (StepsTo system.now nodes.old (is_under node [] ty ∷ work_of system.now.rules tasks.old) nodes.new tasks.new) }
-    ensures more { OnOk result (nodes.old.size ≤ nodes.new.size) }
-{
-    let n = live(nodes, node);
-    let depth = depth_of(nodes, n);
-    let graph = constraint.graph.graph();
-    graph.laws();
-    let root = add_graph(nodes, graph, depth, depth + 1)?;
-    match join(nodes, tasks, system, n, root)? {
-        true => {
-            let ok = bound(nodes, tasks, system, node, ty)?;
-            Ok(ok)
-        }
-        false => Ok(false),
-    }
-}
-
-/// A node's type is put at or below a type. Where the node has no arcs, the graph of the type's constraint stands there then; else
-/// the facts of the types that it comes below become work. The answer is false where the two have no common subtype, or another
-/// clash was met.
-pub fn put_under<'a>(
-    nodes: &mut Nodes<'a>,
-    tasks: &mut Tasks,
-    system: &'a TypeSystem,
-    node: u32,
-    ty: u32,
-) -> Result<bool, NoMemory>
-    requires sound { AreSound system.now nodes.old tasks.old }
-    requires node { node < nodes.old.size }
-    requires ty_in { ty < count_of system.now.types }
-    ensures steps { IfOk result (StepsTo system.now nodes.old (is_under node [] ty ∷ work_of system.now.rules tasks.old) nodes.new tasks.new) }
-    ensures more { OnOk result (nodes.old.size ≤ nodes.new.size) }
-{
-    let n = live(nodes, node);
-    let old = ty_of(nodes, n);
-    let Some(met) = meet(system, old, ty) else {
-        return Ok(false);
-    };
-    if met == old {
-        return Ok(true);
-    }
-    if let Some(constraint) = constraint_for(nodes, system, n, met) {
-        let ok = graft(nodes, tasks, system, node, constraint, ty)?;
-        return Ok(ok);
-    }
-    lower(nodes, tasks, system, n, old, met)?;
-    Ok(true)
-}
-
-// The node one arc on from a node, which is made where it isn't there.
-fn extend<'a>(
-    nodes: &mut Nodes<'a>,
-    tasks: &mut Tasks,
-    system: &'a TypeSystem,
-    node: u32,
-    feat: u32,
-) -> Result<Option<u32>, NoMemory>
-    requires bare { IsBare (system_of system.now) }
-    requires sound { AreSound system.now nodes.old tasks.old }
-    requires node { node < nodes.old.size }
-    requires feat_in { feat < length system.now.introducers }
-    ensures leads { IfOk result (λ o. MatchOption o ((c : NodeClaim) (p : Path) → Clashes system.now nodes.old (begin node (feat ∷ p) c ∷ work_of system.now.rules tasks.old)) (λ m. (c : NodeClaim) (p : Path) → Leads system.now nodes.old (begin node (feat ∷ p) c ∷ work_of system.now.rules tasks.old) nodes.new (begin m p c ∷ work_of system.now.rules tasks.new))) }
-    ensures within { IfOk result (λ o. MatchOption o (Unit {0}) (λ m. m < nodes.new.size)) }
-    ensures more { OnOk result (nodes.old.size ≤ nodes.new.size) }
-    ensures sound { IfOk result (λ o. MatchOption o (Unit {0}) (λ m. AreSound system.now nodes.new tasks.new)) }
-{
-    let from = live(nodes, node);
-    if let Some(to) = arc_of(nodes, from, feat) {
-        return Ok(Some(to));
-    }
-    let depth = depth_of(nodes, from);
-    if depth >= system.path_limit() {
-        return Ok(None);
-    }
-    let introducer = system.introducer(feat);
-    let to = grow(nodes, from, feat, 0, depth + 1)?;
-    match put_under(nodes, tasks, system, from, introducer)? {
-        true => Ok(Some(to)),
-        false => Ok(None),
-    }
-}
-
-/// The node one arc on. Where it isn't there, the node is put under the feature's introducer first, since that mostly brings it; else
-/// it is made. `None` where a path gets too long, or the feature can't stand at the node.
-pub fn go<'a>(
-    nodes: &mut Nodes<'a>,
-    tasks: &mut Tasks,
-    system: &'a TypeSystem,
-    node: u32,
-    feat: u32,
-) -> Result<Option<u32>, NoMemory>
-    requires bare { IsBare (system_of system.now) }
-    requires sound { AreSound system.now nodes.old tasks.old }
-    requires node { node < nodes.old.size }
-    requires feat_in { feat < length system.now.introducers }
-    ensures leads { IfOk result (λ o. MatchOption o ((c : NodeClaim) (p : Path) → Clashes system.now nodes.old (begin node (feat ∷ p) c ∷ work_of system.now.rules tasks.old)) (λ m. (c : NodeClaim) (p : Path) → Leads system.now nodes.old (begin node (feat ∷ p) c ∷ work_of system.now.rules tasks.old) nodes.new (begin m p c ∷ work_of system.now.rules tasks.new))) }
-    ensures within { IfOk result (λ o. MatchOption o (Unit {0}) (λ m. m < nodes.new.size)) }
-    ensures more { OnOk result (nodes.old.size ≤ nodes.new.size) }
-    ensures sound { IfOk result (λ o. MatchOption o (Unit {0}) (λ m. AreSound system.now nodes.new tasks.new)) }
-{
-    let from = live(nodes, node);
-    if let Some(to) = arc_of(nodes, from, feat) {
-        return Ok(Some(to));
-    }
-    let introducer = system.introducer(feat);
-    match put_under(nodes, tasks, system, node, introducer)? {
-        true => {
-            let end = extend(nodes, tasks, system, node, feat)?;
-            Ok(end)
-        }
-        false => Ok(None),
-    }
 }

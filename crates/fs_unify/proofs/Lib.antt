@@ -3,6 +3,8 @@ pub mod DrawCells
 pub mod DrawOwn
 pub mod DrawRows
 pub mod GivenLemmas
+pub mod FewLemmas
+pub mod LimitLemmas
 pub mod EnterLemmas
 pub mod InsideLemmas
 pub mod OwedLemmas

@@ -52,6 +52,10 @@ pub record IsPicture (t : Table) (g : GraphMap) : Type 0 where
   pub types : (n : ℕ) → type_at g n ≡ t.type_of n
   pub arcs : (n f : ℕ) → n < t.size → t.live n ≡ n → (table_of g).arc n f ≡ option_map t.live (t.arc n f)
 
+-- a picture has the rows of a table's nodes, whether or not work is left
+abbrev pub IsLaidOut : Table → Picture → Type 0
+IsLaidOut t p = ArePlan p.types.items p.starts.items p.arcs.items × IsPicture t (graph_map p.types.items p.starts.items p.arcs.items)
+
 -- the picture of a table: no path in it is longer than the limit
 pub record IsPictureIn (t : Table) (limit : ℕ) (p : Picture) : Type 0 where
   pub plan : ArePlan p.types.items p.starts.items p.arcs.items

@@ -6,4 +6,6 @@ pub mod Given
 pub mod Entering
 pub mod Owing
 pub mod Placing
+pub mod Limits
+pub mod Counting
 pub mod Inner

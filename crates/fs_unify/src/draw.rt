@@ -7,7 +7,7 @@ ghost use Rattle.fs_closing.specs.Cells.{find_arc};
 ghost use Rattle.fs_closing.specs.NodeTable.{table_of, own_row, IsWhole, IsWithin};
 ghost use Rattle.fs_closing.specs.Keeps.{deep_of};
 ghost use Rattle.fs_unify.specs.Entering.{IsGraphIn};
-ghost use Rattle.fs_unify.specs.Drawing.{PutsArc, ended_row, DrawsTypes, AddsRow, DrawsRows, IsPictureIn, Shows, Answers};
+ghost use Rattle.fs_unify.specs.Drawing.{PutsArc, ended_row, DrawsTypes, AddsRow, DrawsRows, IsLaidOut, IsPictureIn, Shows, Answers};
 
 use crate::NoMemory;
 use fs_closing::nodes::{Nodes, first_of, live, ty_of};
@@ -224,12 +224,11 @@ impl Picture {
     }
 }
 
-/// Draws closed nodes, whatever was drawn before. The answer is false where a node reaches itself or a path from the root is
-/// longer than the limit.
-pub fn draw(picture: &mut Picture, nodes: &Nodes<'_>, limit: u32) -> Result<bool, NoMemory>
+/// Lays nodes out as rows of arcs, whatever was drawn before, and whether or not work is left.
+pub fn lay_out(picture: &mut Picture, nodes: &Nodes<'_>) -> Result<(), NoMemory>
     requires whole { IsWhole nodes.now }
     requires filled { 0 < nodes.now.size }
-    ensures { IfOk result (Shows nodes.now limit picture.new) }
+    ensures { OnOk result (IsLaidOut (table_of nodes.now) picture.new) }
 {
     picture.types.clear();
     picture.starts.clear();
@@ -242,6 +241,17 @@ pub fn draw(picture: &mut Picture, nodes: &Nodes<'_>, limit: u32) -> Result<bool
         &mut picture.starts,
         &mut picture.arcs,
     )?;
+    Ok(())
+}
+
+/// Draws closed nodes, whatever was drawn before. The answer is false where a node reaches itself or a path from the root is
+/// longer than the limit.
+pub fn draw(picture: &mut Picture, nodes: &Nodes<'_>, limit: u32) -> Result<bool, NoMemory>
+    requires whole { IsWhole nodes.now }
+    requires filled { 0 < nodes.now.size }
+    ensures { IfOk result (Shows nodes.now limit picture.new) }
+{
+    lay_out(picture, nodes)?;
     match order_in(
         &mut picture.order,
         &picture.types,

@@ -3,6 +3,8 @@
 
 pub mod draw;
 pub mod entering;
+pub mod few;
+pub mod limited;
 pub mod owed;
 pub mod parts;
 pub mod scratch;
@@ -10,6 +12,7 @@ pub mod structure;
 pub mod unifier;
 
 pub use fs_closing::{Constraint, SharedGraph, TypeFacts, TypeSystem};
+pub use limited::structure_within;
 pub use owed::Owed;
 pub use parts::Parts;
 pub use scratch::Scratch;

@@ -49,7 +49,7 @@ fn apply_all<'a>(
 }
 
 // Facts are put at the root, from no nodes on. The answer is false where a path gets too long.
-fn gather_facts<'a>(
+pub(crate) fn gather_facts<'a>(
     nodes: &mut Nodes<'a>,
     tasks: &mut Tasks,
     system: &'a TypeSystem,

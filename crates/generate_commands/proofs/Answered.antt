@@ -5,7 +5,7 @@ use Rattle.mrs_model.specs.Meanings.{Meaning}
 use Rattle.mrs_reading.specs.Places.{IsPlace, Says}
 use Rattle.generate_model.specs.Sentences.{GenAnswer}
 use Rattle.item_reports.specs.Reports.{no_mrs_line}
-use Rattle.generate_commands.specs.Reports.{answer_lines, is_refused}
+use Rattle.sentence_reports.specs.Reports.{answer_lines, is_refused}
 use Rattle.generate_commands.specs.Answers.{Speaker, Bounds, IsAnswerTo, IsAnswer, no_mrs, answered}
 
 module _ (s : Speaker) (b : Bounds) (number : ℕ) (line : List ℕ) where

@@ -7,7 +7,7 @@ use Rattle.mrs_reading.specs.Laws.{IsRenumbering}
 use Rattle.mrs_reading.specs.Places.{IsPlace, Says}
 use Rattle.mrs_generate.specs.Laws.{SentenceAnswersAreOne}
 use Rattle.item_reports.specs.Reports.{no_mrs_line}
-use Rattle.generate_commands.specs.Reports.{answer_lines, is_refused}
+use Rattle.sentence_reports.specs.Reports.{answer_lines, is_refused}
 use Rattle.generate_commands.specs.Answers.{Speaker, Bounds, input_of, IsAnswer, no_mrs, answered}
 use Rattle.generate_commands.proofs.SameInputs.{same-answer}
 

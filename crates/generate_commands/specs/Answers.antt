@@ -10,7 +10,7 @@ use Rattle.generate_model.specs.Sentences.{GenAnswer}
 use Rattle.mrs_generate.specs.Answers.{IsSentenceAnswer}
 use Rattle.engine.specs.Speeches.{Speech}
 use Rattle.item_reports.specs.Reports.{no_mrs_line}
-use Rattle.generate_commands.specs.Reports.{answer_lines, is_refused}
+use Rattle.sentence_reports.specs.Reports.{answer_lines, is_refused}
 
 -- a grammar as MRSs see it: as lines of words do, and where the relations stand that a rule contributes itself
 pub record Speaker : Type 0 where

@@ -1,7 +1,6 @@
 //! The answers to lines that write MRSs.
 
 use crate::NoMemory;
-use crate::reports::{report_of, report_of_no_mrs};
 use chart_core::Limits;
 use endings::lines::{Answer, Answers, Share};
 use endings::pieces::Report;
@@ -12,6 +11,7 @@ use mrs_generate::{Contributors, GenAnswer, GenGrammar, generate_alone};
 use mrs_model::Mrs;
 use mrs_places::MrsFeat;
 use mrs_text::{MrsFault, read};
+use sentence_reports::{report_of, report_of_no_mrs};
 use sieve::{Sieve, TypesMeet};
 use std::alloc::Global;
 use std::sync::Wait;
@@ -20,8 +20,8 @@ use worker_gate::Gate;
 
 /// What answers MRSs by the sentences that realize them: an engine, and what its grammar contributes up to the limit on lexical rules.
 #[derive(Drop)]
-pub struct Generator<'e, 'm, 'r, 'k> {
-    pub engine: Engine<'e, 'e, 'e, 'e, 'm, 'r, 'e, 'k, 'e, 'e>,
+pub struct Generator<'e, 'r, 'k> {
+    pub engine: Engine<'e, 'r, 'k>,
     pub contributors: &'e Contributors,
     /// Where the relations of rules stand.
     pub c_cont: &'e [MrsFeat],
@@ -30,7 +30,7 @@ pub struct Generator<'e, 'm, 'r, 'k> {
     pub desks: Desks,
 }
 
-impl Generator<'_, '_, '_, '_> {
+impl Generator<'_, '_, '_> {
     ghost use Rattle.std.specs.Prelude.{map, IfOk};
     ghost use Rattle.mrs_model.specs.Valid.{IsValid};
     ghost use Rattle.mrs_model.specs.Views.{meaning_of};
@@ -102,7 +102,7 @@ impl Generator<'_, '_, '_, '_> {
     }
 }
 
-impl Answers for Generator<'_, '_, '_, '_> {
+impl Answers for Generator<'_, '_, '_> {
     ghost use Rattle.generate_commands.specs.Answers.{IsAnswer};
     ghost use Rattle.generate_commands.specs.Contributing.{IsReady, speaker_of, bounds_of};
 

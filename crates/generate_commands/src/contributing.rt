@@ -24,7 +24,7 @@ pub struct Contributions {
 /// What the grammar of an engine contributes, with lexical trees of up to so many rules and one more.
 pub fn contributions_of(
     alloc: Global,
-    engine: &Engine<'_, '_, '_, '_, '_, '_, '_, '_, '_, '_>,
+    engine: &Engine<'_, '_, '_>,
     lexical: u32,
 ) -> Result<Contributions, NoMemory>
     requires ready { IsReady engine.now }

@@ -5,7 +5,6 @@ mod answering;
 mod contributing;
 mod generating;
 pub mod laws;
-mod reports;
 mod using;
 
 pub use answering::Generator;

@@ -39,7 +39,7 @@ impl<I: Source, O: Sink, X> Use<I, O, X> for AllLines {
         &self,
         rt: &Rt,
         alloc: Global,
-        engine: &Engine<'_, '_, '_, '_, '_, '_, '_, '_, '_, '_>,
+        engine: &Engine<'_, '_, '_>,
         input: &mut I,
         out: &mut O,
         _nothing: &mut X,

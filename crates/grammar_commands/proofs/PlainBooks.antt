@@ -23,7 +23,7 @@ use Rattle.constraint_expand.specs.Systems.{Settled, constraint_claims, instance
 use Rattle.constraint_expand.specs.Shaped.{HaveClaimsIn}
 use Rattle.constraint_expand.specs.Conditions.{AreTypesFor}
 use Rattle.constraint_expand.specs.Books.{InstanceMap, IsInstanceOf, IsConstraintOf, IsBookOf}
-use Rattle.constraint_expand.proofs.ListLemmas.{Has-place}
+use Rattle.type_facts.proofs.ListLemmas.{Has-place}
 use Rattle.constraint_expand.proofs.SplitLemmas.{Has-of_filter}
 use Rattle.constraint_expand.proofs.ExpandLemmas.{grammar_in_range, grammar_bare, instance_in_range}
 use Rattle.lexicon.specs.Words.{Each}
@@ -125,6 +125,7 @@ module _ (types : TypeTable) (s : Settled) (ps : List PlacedTree) (b : Book) (ty
     system = is.system;
     in_range = in_range_of;
     bare = grammar_bare types s ps (texts b.feats.items) b.system types_for laws is.system;
+    shaped = is.shaped;
     constraints = zip_with (IsPlainConstraint b.system) (IsConstraintOf b.system) (range_with_len 0 (completed_count b.system.types)) b.constraints.items plain_constraint is.constraints;
     instances = zip_with (IsPlainInstance b.system words) (IsInstanceOf b.system s (texts b.feats.items)) (instances_in ps) (instances_of b) plain_instance is.instances;
     names = is.names;
@@ -149,6 +150,7 @@ book_plain w b is = record {
   expanded = record {
     known = is.expanded.known;
     system = is.expanded.system;
+    shaped = is.expanded.shaped;
     constraints = zip_with (IsConstraintOf b.system) (IsPlainConstraint b.system) (range_with_len 0 (completed_count b.system.types)) b.constraints.items (λ t graph i k c. c.structure) is.expanded.constraints;
     instances = zip_with (IsInstanceOf b.system (names_by w.settings) (texts b.feats.items)) (IsPlainInstance b.system (words_in w b)) (instances_in w.statements) (instances_of b)
         (λ p i h k c. record { status = c.status; structure = c.structure }) is.expanded.instances;

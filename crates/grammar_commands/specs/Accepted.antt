@@ -14,6 +14,7 @@ use Rattle.constraint_expand.specs.declared.books.Book.{Book}
 use Rattle.constraint_expand.specs.Statements.{IsNowhere}
 use Rattle.constraint_expand.specs.Systems.{Settled, IsSystemOf, constraint_claims, instance_claims, words_of}
 use Rattle.constraint_expand.specs.Unknowns.{NamesUnknown}
+use Rattle.constraint_expand.specs.Faults.{HasNoStructure}
 use Rattle.constraint_expand.specs.Books.{InstanceMap, numbered_of, numbered_in}
 use Rattle.lexicon.specs.Words.{Each}
 use Rattle.lexicon.specs.Entries.{EntryTree, IsLexiconOf}
@@ -35,11 +36,13 @@ pub record IsPlainInstance (g : Grammar) (w : WordTable) (p : PlacedTree) (i : I
   pub status : i.status ≡ p.status
   pub structure : IsUnified (system_of g) (facts_source (instance_claims w p)) (Some (reader_of i.structure))
 
--- What statements expand to: each name is one of a type; features have introducers, and types what their definitions and addenda say; each
--- completed type has its constraint and each instance its structure; and what the settings name has its number.
+-- What statements expand to: each name is one of a type; features have introducers, and types what their definitions and addenda say; no
+-- definition lacks a structure within the limit on paths; each completed type has its constraint and each instance its structure; and what
+-- the settings name has its number.
 pub record IsPlainBookOf (types : TypeTable) (s : Settled) (ps : List PlacedTree) (b : Book) : Type 0 where
   pub known : IsNowhere ps (NamesUnknown types s.lists ps)
   pub system : IsSystemOf types s ps (texts b.feats.items) b.system
+  pub shaped : IsNowhere ps (HasNoStructure b.system s (texts b.feats.items))
   pub constraints : AllZip (IsPlainConstraint b.system) (range_with_len 0 (completed_count b.system.types)) b.constraints.items
   pub instances : AllZip (IsPlainInstance b.system (words_of b.system.types s.lists (texts b.feats.items))) (instances_in ps) (instances_of b)
   pub names : numbered_of b.names ≡ numbered_in types (texts b.feats.items) s

@@ -1,8 +1,8 @@
 -- Members of lists, and lists beside one another.
-use Rattle.std.proofs.Common.{ℕ, zero, suc, ◌≡◌, ◌<◌, Bool, true, false, cond, List, [], ◌∷◌, length, filter, slice_index_or, refl, sym, ◌∙◌, ap, subst, arith}
+use Rattle.std.proofs.Common.{◌≡◌, Bool, true, false, cond, List, [], ◌∷◌, filter, refl, sym, ◌∙◌, ap, subst}
 use Rattle.std.specs.List.{AllZip, flat_map}
 use Rattle.fs_model.specs.Claims.{Has, here, there}
-use Rattle.constraint_expand.proofs.ListLemmas.{Has-left, Has-right}
+use Rattle.type_facts.proofs.ListLemmas.{Has-left, Has-right}
 
 pub has-filter : {X : Type 0} (p : X → Bool) (x : X) (xs : List X) → Has x xs → p x ≡ true → Has x (filter p xs)
 has-filter p x [] h e = elim h [ ]
@@ -24,13 +24,6 @@ zip-of R x [] ys h z = elim h [ ]
 zip-of R x (w ∷ xs) [] h z = absurd z
 zip-of R x (_ ∷ xs) (y ∷ ys) here z = (y, z.0)
 zip-of R x (w ∷ xs) (y ∷ ys) (there h) z = zip-of R x xs ys h z.1
-
--- what stands beside the member at a place
-pub zip-at : {A B : Type 0} (R : A → B → Type 0) (xs : List A) (ys : List B) (k : ℕ) (d : A) (e : B) → AllZip R xs ys → k < length xs → R (slice_index_or xs k d) (slice_index_or ys k e)
-zip-at R [] ys k d e z h = absurd (omega (arith, h))
-zip-at R (x ∷ xs) [] k d e z h = absurd z
-zip-at R (x ∷ xs) (y ∷ ys) zero d e z h = z.0
-zip-at R (x ∷ xs) (y ∷ ys) (suc k) d e z h = zip-at R xs ys k d e z.1 (omega (arith, h))
 
 -- where each member has one thing beside it, there is one list beside the list
 pub zip-one : {A B : Type 0} (R : A → B → Type 0) → ((x : A) (y z : B) → R x y → R x z → y ≡ z) → (xs : List A) (ys zs : List B) → AllZip R xs ys → AllZip R xs zs → ys ≡ zs

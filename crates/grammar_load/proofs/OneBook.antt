@@ -1,8 +1,7 @@
 -- The statements of a grammar have one book, up to how its structures' nodes are numbered.
-use Rattle.std.proofs.Common.{ℕ, ◌≡◌, ◌<◌, List, [], ◌∷◌, take, slice_index_or, Some, sym, ◌∙◌, ap, subst, arith, length-take}
+use Rattle.std.proofs.Common.{ℕ, ◌≡◌, ◌<◌, List, [], ◌∷◌, take, Some, sym, ◌∙◌, ap, subst, arith, length-take}
 use Rattle.std.specs.List.{AllZip, range_with_len}
 use Rattle.std.specs.Str.{bytes_eq}
-use Rattle.std.proofs.lemmas.List.FromFn.{get_or-range_with_len, length-range_with_len}
 use Rattle.std.proofs.lemmas.List.Quantifiers.{position-Some}
 use Rattle.type_hierarchy.specs.Decls.{Name, texts}
 use Rattle.type_hierarchy.specs.Laws.{HasTypeLaws}
@@ -10,7 +9,7 @@ use Rattle.type_hierarchy.specs.Named.{type_named}
 use Rattle.type_hierarchy.specs.Table.{TypeTable, completed_count}
 use Rattle.fs_model.specs.Laws.{AnswerIsOne}
 use Rattle.fs_model.specs.Sources.{Reader, IsSameStructure, IsUnified}
-use Rattle.fs_graph.specs.GraphMap.{GraphMap, reader_of}
+use Rattle.fs_graph.specs.GraphMap.{reader_of}
 use Rattle.fs_unify.specs.Given.{facts_source}
 use Rattle.fs_unify.specs.Rules.{Grammar, system_of}
 use Rattle.fs_unify.proofs.GivenLemmas.{order_of_laws}
@@ -20,7 +19,6 @@ use Rattle.constraint_expand.specs.declared.books.Book.{Book}
 use Rattle.constraint_expand.specs.Books.{numbered_in, IsInstanceOf, IsConstraintOf, IsBookOf}
 use Rattle.constraint_expand.specs.Systems.{Settled, constraint_claims, instance_claims, words_of}
 use Rattle.grammar_load.specs.Outcomes.{AreSameGraphs, IsSameInstance, IsSameBook}
-use Rattle.grammar_load.proofs.Members.{zip-at}
 use Rattle.grammar_load.proofs.OneSystem.{one-system}
 use Rattle.book_shapes.specs.Shapes.{instances_of}
 
@@ -28,18 +26,6 @@ pub type-there : (types : TypeTable) (name : Name) (t : ℕ) → type_named type
 type-there types name t e =
     let r = position-Some (bytes_eq name) (take (completed_count types) types.names) t [] e in
     omega (arith, r.0, length-take (completed_count types) types.names)
-
-abbrev no_graph : GraphMap
-no_graph = record { types = []; arcs = [] }
-
--- the constraint of a completed type
-pub constraint-at : (types : TypeTable) (s : Settled) (ps : List PlacedTree) (b : Book) → IsBookOf types s ps b → (t : ℕ) → t < completed_count types → IsConstraintOf b.system t (slice_index_or b.constraints.items t no_graph)
-constraint-at types s ps b x t h =
-    let count = completed_count b.system.types in
-    let within : t < count = subst (λ (u : TypeTable). t < completed_count u) (sym x.system.types_are) h in
-    let at = zip-at (IsConstraintOf b.system) (range_with_len 0 count) b.constraints.items t 0 no_graph x.constraints (omega (arith, within, length-range_with_len 0 count)) in
-    let number : slice_index_or (range_with_len 0 count) t 0 ≡ t = get_or-range_with_len 0 count t 0 within ∙ omega arith in
-    subst (λ n. IsConstraintOf b.system n (slice_index_or b.constraints.items t no_graph)) number at
 
 -- what stands beside one list in two ways
 zip_two : {A B C : Type 0} (R : A → B → Type 0) (Q : A → C → Type 0) (S : B → C → Type 0) → ((x : A) (y : B) (z : C) → R x y → Q x z → S y z) → (xs : List A) (ys : List B) (zs : List C) → AllZip R xs ys → AllZip Q xs zs → AllZip S ys zs

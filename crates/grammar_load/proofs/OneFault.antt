@@ -1,36 +1,30 @@
 -- The statements of a grammar have a book or one first fault of expansion.
-use Rattle.std.proofs.Common.{ℕ, ◌≡◌, ◌≢◌, ◌<◌, ◌≤◌, ◌⊎◌, inl, inr, Bool, true, false, ◌&&◌, ◌||◌, if◌then◌else◌, List, [], length, map, filter, slice_index_or, Option, None, Some, unwrap_or, refl, sym, ◌∙◌, ap, subst, arith, string_bytes}
+use Rattle.std.proofs.Common.{ℕ, ◌≡◌, ◌≢◌, ◌<◌, ◌≤◌, ◌⊎◌, inl, inr, Bool, true, List, [], length, filter, slice_index_or, Some, refl, sym, ◌∙◌, ap, subst, arith, string_bytes}
 use Rattle.std.specs.List.{flat_map}
 use Rattle.std.proofs.lemmas.Bool.{cases_lt}
-use Rattle.tdl_reader.specs.declared.Status.{Status}
-use Rattle.tdl_reader.specs.declared.Status.TheVariants.{TypeDef, Entry, LexRule, Rule, Root, Other}
 use Rattle.type_hierarchy.specs.Decls.{Name, texts}
 use Rattle.type_hierarchy.specs.Laws.{HasTypeLaws}
 use Rattle.type_hierarchy.specs.Named.{type_named}
-use Rattle.type_hierarchy.specs.Table.{TypeTable, completed_count}
+use Rattle.type_hierarchy.specs.Table.{TypeTable}
 use Rattle.fs_model.specs.Claims.{Has}
-use Rattle.fs_model.specs.Sources.{IsUnified}
-use Rattle.fs_unify.specs.Given.{facts_source}
-use Rattle.fs_unify.specs.Rules.{Grammar, system_of}
+use Rattle.fs_unify.specs.Rules.{Grammar}
 use Rattle.body_facts.specs.Writing.{ListNames}
 use Rattle.body_facts.specs.BracketUses.{Used}
 use Rattle.body_facts.specs.Mentions.{Mention, mention}
-use Rattle.body_facts.specs.Numbers.{type_number}
 use Rattle.constraint_expand.specs.declared.books.Book.{Book}
 use Rattle.grammar_files.specs.declared.expand_fault.ExpandFault.{ExpandFault}
 use Rattle.grammar_files.specs.declared.expand_fault.ExpandFault.TheVariants.{UnknownName, NoIntro, Intro, NoStructure, NoMemory}
-use Rattle.constraint_expand.specs.Books.{IsInstanceOf, IsBookOf, instance_of}
-use Rattle.constraint_expand.specs.Faults.{IsUnknownName, IsUnwritten, UsesUnwritten, use_at, IsFirstUse, NamesFirstUse, IsNoIntro, HasIntroducer, type_name, IsIntro, IsInconsistent, IsNoStructure, IsFaultOf}
+use Rattle.constraint_expand.specs.Books.{IsBookOf}
+use Rattle.constraint_expand.specs.Faults.{IsUnknownName, IsUnwritten, UsesUnwritten, use_at, IsFirstUse, NamesFirstUse, IsNoIntro, HasIntroducer, type_name, IsIntro, HasNoStructure, IsNoStructure, IsFaultOf}
 use Rattle.constraint_expand.specs.Features.{uses_in, all_uses, features_used, writers_of}
 use Rattle.constraint_expand.specs.Introducers.{IsIntroducer, AreFirstTwo}
 use Rattle.grammar_files.specs.Placings.{PlacedTree}
-use Rattle.constraint_expand.specs.Statements.{is_define, is_addendum, is_of_types, is_of_instances, name_of, defines_type, speaks_of_type, defines_instance, instances_in, no_statement, statement_at, IsFirstAmong, IsFirst, first_of_types, first_of_instances, IsNowhere}
-use Rattle.constraint_expand.specs.Systems.{Settled, IsSystemOf, constraint_claims, instance_claims, words_of}
+use Rattle.constraint_expand.specs.Statements.{name_of, defines_type, speaks_of_type, defines_instance, no_statement, statement_at, IsFirstAmong, IsFirst, first_of_types, first_of_instances, IsNowhere}
+use Rattle.constraint_expand.specs.Systems.{Settled, IsSystemOf}
 use Rattle.constraint_expand.specs.Unknowns.{unknown_of, NamesUnknown}
-use Rattle.constraint_expand.proofs.ListLemmas.{Has-left, Has-right, Has-map, Has-at}
+use Rattle.type_facts.proofs.ListLemmas.{Has-left, Has-right, Has-map, Has-at}
 use Rattle.grammar_load.specs.Outcomes.{IsSameExpandFault}
 use Rattle.grammar_load.proofs.Members.{has-filter, has-flat, zip-of}
-use Rattle.grammar_load.proofs.OneBook.{type-there, constraint-at}
 use Rattle.grammar_load.proofs.OneSystem.{one-system}
 
 -- the first statement that a test picks is one
@@ -90,60 +84,16 @@ not-split : (types : TypeTable) (s : Settled) (ps : List PlacedTree) (feats : Li
 not-split types s ps feats g feature a b k is f =
     f.split (introduced types s ps feats g feature is (subst (λ f. Has f (features_used s.lists ps)) (sym f.feature_is) (Has-at (features_used s.lists ps) f.place [] f.within)))
 
--- A definition has a structure in the book.
-define-type : (d a t : Bool) → d ≡ true → ((d && t) || (a && t)) ≡ true → (d && t) ≡ true
-define-type true a true e h = refl
-define-type true true false e h = cc
-define-type true false false e h = cc
-define-type false a t e h = cc
-
-of-instances : (s : Status) → is_of_instances s ≡ true → is_of_types s ≡ false
-of-instances TypeDef e = cc
-of-instances Entry e = refl
-of-instances LexRule e = refl
-of-instances Rule e = refl
-of-instances Root e = refl
-of-instances Other e = refl
-
-no-type : (d : Bool) (s : Status) → (d && is_of_instances s) ≡ true → (d && is_of_types s) ≡ false
-no-type true s e = of-instances s e
-no-type false s e = refl
-
-number-there : (types : TypeTable) (name : Name) → 0 < completed_count types → type_number types name < completed_count types
-number-there types name some = by_cases (type_named types name) refl
-  where
-    by_cases : (o : Option ℕ) → type_named types name ≡ o → unwrap_or o 0 < completed_count types
-    by_cases None e = some
-    by_cases (Some t) e = type-there types name t e
-
-has-structure : (types : TypeTable) (s : Settled) (ps : List PlacedTree) (b : Book) (k : ℕ) → 0 < completed_count types → IsBookOf types s ps b → IsFirst ps (IsInconsistent b.system s (texts b.feats.items)) k → ⊥
-has-structure types s ps b k some x (first_of_types a) =
-    let p = statement_at ps k in
-    let defines : defines_type p ≡ true = define-type (is_define p.statement) (is_addendum p.statement) (is_of_types p.status) a.holds.0 a.picked in
-    let number = type_number b.system.types (name_of p) in
-    let there : number < completed_count types = subst (λ (u : TypeTable). type_number u (name_of p) < completed_count types) (sym x.system.types_are) (number-there types (name_of p) some) in
-    let none : IsUnified (system_of b.system) (facts_source (constraint_claims number)) None =
-    subst (λ (d : Bool). IsUnified (system_of b.system) (facts_source (if d then constraint_claims number else instance_claims (words_of b.system.types s.lists (texts b.feats.items)) p)) None) defines a.holds.1 in
-    none (constraint-at types s ps b x number there).structure.0
-has-structure types s ps b k some x (first_of_instances others a) =
-    let p = statement_at ps k in
-    let no : defines_type p ≡ false = no-type (is_define p.statement) p.status a.picked in
-    let said = instance_claims (words_of b.system.types s.lists (texts b.feats.items)) p in
-    let none : IsUnified (system_of b.system) (facts_source said) None =
-    subst (λ (d : Bool). IsUnified (system_of b.system) (facts_source (if d then constraint_claims (type_number b.system.types (name_of p)) else said)) None) no a.holds.1 in
-    let i = zip-of (IsInstanceOf b.system s (texts b.feats.items)) p (instances_in ps) (map instance_of b.instances.items) (has-filter defines_instance p ps (Has-at ps k no_statement a.within) a.picked) x.instances in
-    none i.1.structure.0
-
-pub book-or-fault : (types : TypeTable) (s : Settled) (ps : List PlacedTree) → HasTypeLaws types → 0 < completed_count types → (b : Book) (e : ExpandFault) → e ≢ NoMemory → IsBookOf types s ps b → IsFaultOf types s ps e → ⊥
-book-or-fault types s ps laws some b (UnknownName name at k) own x f = nowhere-first ps (NamesUnknown types s.lists ps) k x.known f.first
-book-or-fault types s ps laws some b (NoIntro feature at k) own x f = not-unwritten types s ps (texts b.feats.items) b.system (string_bytes feature) at k x.system f.1
-book-or-fault types s ps laws some b (Intro feature c d k) own x f = not-split types s ps (texts b.feats.items) b.system (string_bytes feature) (string_bytes c) (string_bytes d) k x.system f.2
-book-or-fault types s ps laws some b (NoStructure name k) own x f =
+pub book-or-fault : (types : TypeTable) (s : Settled) (ps : List PlacedTree) → HasTypeLaws types → (b : Book) (e : ExpandFault) → e ≢ NoMemory → IsBookOf types s ps b → IsFaultOf types s ps e → ⊥
+book-or-fault types s ps laws b (UnknownName name at k) own x f = nowhere-first ps (NamesUnknown types s.lists ps) k x.known f.first
+book-or-fault types s ps laws b (NoIntro feature at k) own x f = not-unwritten types s ps (texts b.feats.items) b.system (string_bytes feature) at k x.system f.1
+book-or-fault types s ps laws b (Intro feature c d k) own x f = not-split types s ps (texts b.feats.items) b.system (string_bytes feature) (string_bytes c) (string_bytes d) k x.system f.2
+book-or-fault types s ps laws b (NoStructure name k) own x f =
     let n = f.1 in
     let same = one-system types s ps laws n.feats (texts b.feats.items) n.system b.system n.is_system x.system in
-    has-structure types s ps b k some x
-    (subst (λ (fs : List Name). IsFirst ps (IsInconsistent b.system s fs) k) same.0 (subst (λ (g : Grammar). IsFirst ps (IsInconsistent g s n.feats) k) same.1 n.first))
-book-or-fault types s ps laws some b NoMemory own x f = own refl
+    nowhere-first ps (HasNoStructure b.system s (texts b.feats.items)) k x.shaped
+    (subst (λ (fs : List Name). IsFirst ps (HasNoStructure b.system s fs) k) same.0 (subst (λ (g : Grammar). IsFirst ps (HasNoStructure g s n.feats) k) same.1 n.first))
+book-or-fault types s ps laws b NoMemory own x f = own refl
 
 one-unknown : (types : TypeTable) (n : ListNames) (ps : List PlacedTree) (a b : Name) (at au k j : ℕ) → IsUnknownName types n ps a at k → IsUnknownName types n ps b au j → (k ≡ j) × (a ≡ b) × (at ≡ au)
 one-unknown types n ps a b at au k j x y =
@@ -210,8 +160,8 @@ one-split types n ps f g a b c d k j x y = (
 one-inconsistent : (types : TypeTable) (s : Settled) (ps : List PlacedTree) → HasTypeLaws types → (a b : Name) (k j : ℕ) → IsNoStructure types s ps a k → IsNoStructure types s ps b j → (k ≡ j) × (a ≡ b)
 one-inconsistent types s ps laws a b k j x y =
     let same = one-system types s ps laws x.feats y.feats x.system y.system x.is_system y.is_system in
-    let own = subst (λ (fs : List Name). IsFirst ps (IsInconsistent y.system s fs) k) same.0 (subst (λ (g : Grammar). IsFirst ps (IsInconsistent g s x.feats) k) same.1 x.first) in
-    let one : k ≡ j = one-first ps (IsInconsistent y.system s y.feats) k j own y.first in
+    let own = subst (λ (fs : List Name). IsFirst ps (HasNoStructure y.system s fs) k) same.0 (subst (λ (g : Grammar). IsFirst ps (HasNoStructure g s x.feats) k) same.1 x.first) in
+    let one : k ≡ j = one-first ps (HasNoStructure y.system s y.feats) k j own y.first in
     (one, x.name_is ∙ ap (λ i. name_of (statement_at ps i)) one ∙ sym y.name_is)
 
 pub one-fault : (types : TypeTable) (s : Settled) (ps : List PlacedTree) → HasTypeLaws types → (e f : ExpandFault) → e ≢ NoMemory → f ≢ NoMemory → IsFaultOf types s ps e → IsFaultOf types s ps f → IsSameExpandFault e f

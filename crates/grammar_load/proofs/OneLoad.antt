@@ -28,7 +28,7 @@ use Rattle.grammar_load.specs.Loads.{IsShapeFault, of_arity, of_words, Makes, un
 use Rattle.grammar_load.specs.Outcomes.{IsSameBook, IsSameExpandFault, IsSameCause, IsSameOutcome}
 use Rattle.grammar_load.proofs.OneBook.{one_book}
 use Rattle.grammar_load.proofs.OneFault.{one-fault, book-or-fault}
-use Rattle.grammar_load.proofs.OneSystem.{tree-laws, some-type}
+use Rattle.grammar_load.proofs.OneSystem.{tree-laws}
 use Rattle.grammar_load.proofs.SameShapes.{arity_one, words_first_one, arity_never, words_never, lexicon_is, given_one, book_back}
 
 -- what is known of the types of what was walked
@@ -114,7 +114,7 @@ module _ (answer : AnswerIsOne) (settling : OneSettling) (w : WalkedTree) where
   book_never : (b : Book) (f : FoundFault) → IsBook w b → IsExpandFault w f → ⊥
   book_never b f x y =
       let first = subst (λ (t : TypeTable). IsFaultOf t (names_by w.settings) w.statements y.fault) (settling.one_table w y.types x.types y.settled x.settled) y.first in
-      book-or-fault x.types (names_by w.settings) w.statements (tree-laws w x.types x.settled) (some-type w x.types x.settled) b y.fault y.own x.expanded first
+      book-or-fault x.types (names_by w.settings) w.statements (tree-laws w x.types x.settled) b y.fault y.own x.expanded first
 
   expand_one : (f g : FoundFault) → IsExpandFault w f → IsExpandFault w g → IsSameOutcome (Err f) (Err g)
   expand_one f g x y =

@@ -1,9 +1,9 @@
 -- The statements of a grammar have one type system.
-use Rattle.std.proofs.Common.{ℕ, ◌≡◌, ◌<◌, List, sym, ◌∙◌, ap, subst, arith, length-append}
+use Rattle.std.proofs.Common.{ℕ, ◌≡◌, List, sym, ◌∙◌, ap, subst}
 use Rattle.std.specs.List.{AllZip}
 use Rattle.type_hierarchy.specs.Decls.{Name}
 use Rattle.type_hierarchy.specs.Laws.{HasTypeLaws}
-use Rattle.type_hierarchy.specs.Table.{TypeTable, completed_count, table_of}
+use Rattle.type_hierarchy.specs.Table.{TypeTable, table_of}
 use Rattle.type_hierarchy.proofs.FamilyLemmas.{completed_order, completed_closed}
 use Rattle.type_hierarchy.proofs.LawLemmas.{type_laws}
 use Rattle.fs_unify.specs.Rules.{Rule, Grammar}
@@ -24,13 +24,6 @@ tree-laws w t a =
     let order = completed_order a.0 a.1.rising c.added (strings_in w.statements) c.family in
     let closed = completed_closed a.0 a.1.rising c.added (strings_in w.statements) c.family in
     subst HasTypeLaws (sym c.table_is) (type_laws (table_of a.0 c.added (strings_in w.statements)) order closed)
-
--- there is a type
-pub some-type : (w : WalkedTree) (t : TypeTable) → AreTypesOf w t → 0 < completed_count t
-some-type w t a =
-    let c = a.2 in
-    let o = a.1.rising.order in
-    subst (λ (u : TypeTable). 0 < completed_count u) (sym c.table_is) (omega (arith, o.at_least_top, o.written_first, length-append a.0.sets c.added))
 
 pub one-features : (n : ListNames) (ps : List PlacedTree) (f g : List Name) → AreFeatures n ps f → AreFeatures n ps g → f ≡ g
 one-features n ps f g a b = one-rising f g a.in_order a.once b.in_order b.once (λ z h. b.all z (a.used z h)) (λ z h. a.all z (b.used z h))

@@ -10,7 +10,7 @@ use Rattle.std.proofs.lemmas.Map.Text.{is_eq-slice_cmp}
 use Rattle.fs_model.specs.Claims.{Has, here, there}
 use Rattle.type_hierarchy.specs.Decls.{Name}
 use Rattle.type_hierarchy.specs.Table.{IsDistinct}
-use Rattle.constraint_expand.proofs.ListLemmas.{true_not_false, Has-place}
+use Rattle.type_facts.proofs.ListLemmas.{true_not_false, Has-place}
 use Rattle.std.proofs.lemmas.Slice.Eq.{bytes_eq-Decides}
 
 compare : Name → Name → Ordering

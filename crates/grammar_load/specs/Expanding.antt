@@ -25,6 +25,7 @@ names_by s =
       restrictors = s.restrictors;
       check_paths = s.check_paths;
       path_limit = s.path_limit;
+      node_limit = s.node_limit;
     }
 
 -- The statements of what was walked expand to this book: over their completed types, under the names of the settings.

@@ -56,6 +56,7 @@ pub fn names_by(alloc: Global, settings: &Settings) -> Result<Names, NoMemory>
         restrictors: copied(alloc, &settings.restrictors)?,
         check_paths: paths_copied(alloc, &settings.check_paths)?,
         path_limit: settings.path_limit,
+        node_limit: settings.node_limit,
     })
 }
 

@@ -5,6 +5,4 @@ pub mod Wholes
 pub mod Lined
 pub mod Calls
 pub mod Kept
-pub mod Answered
-pub mod Numbered
 pub mod Sames

@@ -30,7 +30,7 @@ impl LineGrammar<'_, '_, '_> {
     ghost use Rattle.book_signs.specs.Trees.{signs_of};
 
     /// A law: the types of its signs are in order. It does nothing.
-    pub(crate) fn laws(&self)
+    pub fn laws(&self)
         ensures order { IsOrder (signs_of self.now.signs.now).system }
     {
         let lexical = SignFulls { signs: self.signs };

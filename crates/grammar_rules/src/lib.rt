@@ -9,21 +9,19 @@ mod asked;
 mod desk;
 mod grammar;
 mod leaves;
-mod line;
 mod mother_remembered;
-mod parsing;
 mod parts;
 mod remembered;
+mod search;
 
 use derivation::Tree;
 pub use desk::{Desk, LineWork};
 pub use grammar::LineGrammar;
 pub use leaves::{LineLeaves, line_leaves};
-pub use line::RememberedLine;
 pub use mother_remembered::RememberedMothers;
 use packed_items::Found;
-pub use parsing::{Search, parse_alone, parse_words};
 pub use remembered::{LineShapes, RunMemory, run_shapes};
+pub use search::Search;
 pub use std::alloc::AllocError as NoMemory;
 
 /// The answer to a line.

@@ -103,16 +103,16 @@ impl<'a> RememberedMothers<'a> {
         Ok(full)
     }
 
-    // Whether a full structure is rooted, where it is known.
-    pub(crate) fn rooted(&self, full: &FullStructure) -> Option<bool>
+    /// Whether a full structure is rooted, where it is known.
+    pub fn rooted(&self, full: &FullStructure) -> Option<bool>
         ensures { IfSome result (TellsRooted self.now (view_in self.now full.now.graph)) }
     {
         let told = self.roots.find(0, full)?;
         Some(*told)
     }
 
-    // Remembers whether a full structure is rooted, where there is room.
-    pub(crate) fn keep_rooted(
+    /// Remembers whether a full structure is rooted, where there is room.
+    pub fn keep_rooted(
         &self,
         alloc: Global,
         full: &FullStructure,

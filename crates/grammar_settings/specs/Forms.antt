@@ -8,7 +8,7 @@ use Rattle.tdl_lexer.specs.Characters.{is_name}
 use Rattle.tdl_lexer.specs.Spelling.{lower}
 use Rattle.type_hierarchy.specs.Faults.{is_glb_name}
 use Rattle.grammar_settings.specs.declared.forms.ValueForm.{ValueForm}
-use Rattle.grammar_settings.specs.declared.forms.ValueForm.TheVariants.{WrittenType, OneWord, OnePath, SomeWords, Words, Paths, Limit, File, Sort}
+use Rattle.grammar_settings.specs.declared.forms.ValueForm.TheVariants.{WrittenType, OneWord, OnePath, SomeWords, Words, Paths, Limit, Count, File, Sort}
 
 -- a name, or another text, is its bytes
 abbrev pub Name : Type 0
@@ -46,8 +46,9 @@ form_of_one name =
     if bytes_eq name (codes "daughter-features") then Some SomeWords
     else (if bytes_eq name (codes "check-paths") then Some Paths
     else (if bytes_eq name (codes "path-limit") then Some Limit
+    else (if bytes_eq name (codes "node-limit") then Some Count
     else (if bytes_eq name (codes "irregular-file") then Some File
-    else (if bytes_eq name (codes "sort") then Some Sort else None))))
+    else (if bytes_eq name (codes "sort") then Some Sort else None)))))
 
 -- the form of a name's values; other names are unknown
 abbrev pub form_of : Name → Option ValueForm
@@ -90,13 +91,20 @@ value_of_digits cs = fold with_digit 0 cs
 abbrev pub is_number : Word → Bool
 is_number cs = not (length cs == 0) && list_all is_ascii_digit cs
 
--- a number from 1 to 1,000
-abbrev pub in_limits : ℕ → Option ℕ
-in_limits n = if nat_le 1 n && nat_le n 1000 then Some n else None
+-- a number from 1 to a greatest one
+abbrev pub in_limits : ℕ → ℕ → Option ℕ
+in_limits most n = if nat_le 1 n && nat_le n most then Some n else None
 
 -- the number that a word gives as a limit
-abbrev pub limit_in : Word → Option ℕ
-limit_in cs = if is_number (without_plus cs) then in_limits (value_of_digits (without_plus cs)) else None
+abbrev pub limit_in : ℕ → Word → Option ℕ
+limit_in most cs = if is_number (without_plus cs) then in_limits most (value_of_digits (without_plus cs)) else None
+
+-- the greatest limit on the features of a path, and on the paths of a structure
+abbrev pub most_features : ℕ
+most_features = 1000
+
+abbrev pub most_paths : ℕ
+most_paths = 10000000
 
 -- the values are as many as the form has, and each is of it
 abbrev pub fits : ValueForm → List Word → Bool
@@ -106,7 +114,8 @@ fits OnePath (v ∷ []) = is_path v
 fits SomeWords (v ∷ vs) = list_all is_word (v ∷ vs)
 fits Words vs = list_all is_word vs
 fits Paths vs = list_all is_path vs
-fits Limit (v ∷ []) = is_some (limit_in v)
+fits Limit (v ∷ []) = is_some (limit_in most_features v)
+fits Count (v ∷ []) = is_some (limit_in most_paths v)
 fits File (v ∷ []) = true
 fits Sort (t ∷ letters ∷ []) = is_word t && list_all is_ascii_lowercase letters
 fits _ _ = false

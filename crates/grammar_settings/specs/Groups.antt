@@ -1,6 +1,7 @@
 -- What the parts of the settings are made of.
 use Rattle.std.specs.Prelude.{◌≡◌, List, [], ◌∷◌, map, option_map, string_bytes, codes}
 use Rattle.grammar_settings.specs.SettingsFiles.{Entry, entries_of}
+use Rattle.grammar_settings.specs.Forms.{most_features, most_paths}
 use Rattle.grammar_settings.specs.Settled.{given, word_or, path_or, words_or, limit_or, paths_of, file_of, sorts_of}
 use Rattle.grammar_settings.specs.SettingsViews.{names_in, sort_of}
 use Rattle.grammar_settings.specs.declared.build.TypeNames.{TypeNames}
@@ -28,7 +29,8 @@ pub record AreGrammarPaths (es : List Entry) (g : GrammarPaths) : Type 0 where
   pub args_path_is : map string_bytes g.args_path.items ≡ path_or (codes "args" ∷ []) (given (codes "args-path") es)
   pub daughter_features_is : map string_bytes g.daughter_features.items ≡ words_or (codes "args" ∷ []) (given (codes "daughter-features") es)
   pub restrictors_is : map string_bytes g.restrictors.items ≡ words_or (codes "cont" ∷ codes "c-cont" ∷ codes "stem" ∷ []) (given (codes "restrictors") es)
-  pub path_limit_is : g.path_limit ≡ limit_or 255 (given (codes "path-limit") es)
+  pub path_limit_is : g.path_limit ≡ limit_or most_features 255 (given (codes "path-limit") es)
+  pub node_limit_is : g.node_limit ≡ limit_or most_paths 100000 (given (codes "node-limit") es)
   pub check_paths_is : map names_in g.check_paths.items ≡ paths_of (given (codes "check-paths") es)
   pub irregular_file_is : option_map string_bytes g.irregular_file ≡ file_of (given (codes "irregular-file") es)
 

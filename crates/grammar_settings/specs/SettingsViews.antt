@@ -31,6 +31,7 @@ settings_of s =
       daughter_features = map string_bytes s.daughter_features.items;
       restrictors = map string_bytes s.restrictors.items;
       path_limit = s.path_limit;
+      node_limit = s.node_limit;
       check_paths = map names_in s.check_paths.items;
       irregular_file = option_map string_bytes s.irregular_file;
       mrs_path = map string_bytes s.mrs_path.items;

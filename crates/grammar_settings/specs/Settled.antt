@@ -2,7 +2,7 @@
 use Rattle.std.specs.Prelude.{ℕ, List, [], ◌∷◌, map, filter, ◌==◌, length, Option, Some, None, unwrap_or, Result, Ok, Err, if◌then◌else◌, codes, encode_utf8_all}
 use Rattle.std.specs.Str.{bytes_eq}
 use Rattle.lkb_io.specs.Lines.{lines_of}
-use Rattle.grammar_settings.specs.Forms.{Name, Word, name_of, path_of, limit_in, is_among, written_types}
+use Rattle.grammar_settings.specs.Forms.{Name, Word, name_of, path_of, limit_in, most_features, most_paths, is_among, written_types}
 use Rattle.grammar_settings.specs.SettingsFiles.{Entry, entries_of, last_values, last_line, entries_from}
 
 -- a sort of variables: a type, and the letters by which its variables are written
@@ -26,6 +26,7 @@ pub record SettingsTree : Type 0 where
   pub daughter_features : List Name
   pub restrictors : List Name
   pub path_limit : ℕ
+  pub node_limit : ℕ
   pub check_paths : List (List Name)
   pub irregular_file : Option Name
   pub mrs_path : List Name
@@ -65,9 +66,9 @@ abbrev pub words_or : List Name → Option (List Word) → List Name
 words_or default (Some vs) = map name_of vs
 words_or default None = default
 
-abbrev pub limit_or : ℕ → Option (List Word) → ℕ
-limit_or default (Some (v ∷ vs)) = unwrap_or (limit_in v) default
-limit_or default _ = default
+abbrev pub limit_or : (most default : ℕ) → Option (List Word) → ℕ
+limit_or most default (Some (v ∷ vs)) = unwrap_or (limit_in most v) default
+limit_or most default _ = default
 
 abbrev pub paths_of : Option (List Word) → List (List Name)
 paths_of (Some vs) = map path_of vs
@@ -111,7 +112,8 @@ settings_by es =
       args_path = path_or (codes "args" ∷ []) (given (codes "args-path") es);
       daughter_features = words_or (codes "args" ∷ []) (given (codes "daughter-features") es);
       restrictors = words_or (codes "cont" ∷ codes "c-cont" ∷ codes "stem" ∷ []) (given (codes "restrictors") es);
-      path_limit = limit_or 255 (given (codes "path-limit") es);
+      path_limit = limit_or most_features 255 (given (codes "path-limit") es);
+      node_limit = limit_or most_paths 100000 (given (codes "node-limit") es);
       check_paths = paths_of (given (codes "check-paths") es);
       irregular_file = file_of (given (codes "irregular-file") es);
       mrs_path = path_or (codes "synsem" ∷ codes "local" ∷ codes "cont" ∷ []) (given (codes "mrs-path") es);

@@ -1,7 +1,7 @@
 //! The settings that the entries of a settings file make.
 
-ghost use Rattle.std.specs.Prelude.{◌≡◌, List, [], map, IfOk, Option, option_map, string_bytes, codes};
-ghost use Rattle.grammar_settings.specs.Forms.{name_of, path_of};
+ghost use Rattle.std.specs.Prelude.{◌≡◌, ◌≤◌, List, [], map, IfOk, Option, option_map, string_bytes, codes};
+ghost use Rattle.grammar_settings.specs.Forms.{name_of, path_of, most_paths};
 ghost use Rattle.grammar_settings.specs.Kept.{words_in, entries_in, words_at};
 ghost use Rattle.grammar_settings.specs.SettingsFiles.{entries_of};
 ghost use Rattle.grammar_settings.specs.Settled.{given, word_or, path_or, words_or, limit_or, paths_of, file_of, sorts_of, sort_in, default_sorts, settings_by};
@@ -9,7 +9,7 @@ ghost use Rattle.grammar_settings.specs.SettingsViews.{settings_of, names_in, so
 ghost use Rattle.grammar_settings.specs.Groups.{AreTypeNames, AreListFeatures, AreGrammarPaths, AreMrsPaths, AreRelationFeatures, AreSkips};
 
 use crate::NoMemory;
-use crate::forms::{limit_in, name_of, path_of, spelled};
+use crate::forms::{MOST_FEATURES, MOST_PATHS, limit_in, name_of, path_of, spelled};
 use crate::lines::Entry;
 use crate::settings::{Settings, SortLine};
 use std::alloc::Global;
@@ -38,6 +38,7 @@ struct GrammarPaths {
     daughter_features: Vec<String>,
     restrictors: Vec<String>,
     path_limit: u32,
+    node_limit: u32,
     check_paths: Vec<Vec<String>>,
     irregular_file: Option<String>,
 }
@@ -149,11 +150,12 @@ fn names(alloc: Global, words: &[Vec<char>]) -> Result<Vec<String>, NoMemory>
 }
 
 // The limit of a name that has one, or its default.
-fn limit_or(entries: &[Entry], name: &str, default: u32) -> u32
-    ensures { result ≡ limit_or default (given name.now (entries_in entries.now)) }
+fn limit_or(entries: &[Entry], name: &str, most: u32, default: u32) -> u32
+    requires { most ≤ most_paths }
+    ensures { result ≡ limit_or most default (given name.now (entries_in entries.now)) }
 {
     match given(entries, name) {
-        Some([value, ..]) => limit_in(value).unwrap_or(default),
+        Some([value, ..]) => limit_in(value, most).unwrap_or(default),
         _ => default,
     }
 }
@@ -287,7 +289,8 @@ fn grammar_paths(alloc: Global, entries: &[Entry]) -> Result<GrammarPaths, NoMem
     let args_path = path_or(alloc, entries, "args-path", &["args"])?;
     let daughter_features = words_or(alloc, entries, "daughter-features", &["args"])?;
     let restrictors = words_or(alloc, entries, "restrictors", &["cont", "c-cont", "stem"])?;
-    let path_limit = limit_or(entries, "path-limit", 255);
+    let path_limit = limit_or(entries, "path-limit", MOST_FEATURES, 255);
+    let node_limit = limit_or(entries, "node-limit", MOST_PATHS, 100_000);
     let check_paths = paths_of(alloc, entries, "check-paths")?;
     let irregular_file = file_of(alloc, entries, "irregular-file")?;
     Ok(GrammarPaths {
@@ -296,6 +299,7 @@ fn grammar_paths(alloc: Global, entries: &[Entry]) -> Result<GrammarPaths, NoMem
         daughter_features,
         restrictors,
         path_limit,
+        node_limit,
         check_paths,
         irregular_file,
     })
@@ -390,6 +394,7 @@ pub(crate) fn settings_by(alloc: Global, entries: &[Entry]) -> Result<Settings, 
         daughter_features: paths.daughter_features,
         restrictors: paths.restrictors,
         path_limit: paths.path_limit,
+        node_limit: paths.node_limit,
         check_paths: paths.check_paths,
         irregular_file: paths.irregular_file,
         mrs_path: mrs.mrs_path,

@@ -3,7 +3,7 @@
 ghost use Rattle.std.specs.Prelude.{◌≡◌, ℕ, ◌+◌, ◌*◌, ◌-◌, ◌<◌, ◌≤◌, ◌^◌, true, map, min, IfOk, Option, [], ◌∷◌, string_bytes, encode_utf8_all, length};
 ghost use Rattle.std.specs.List.{list_all};
 ghost use Rattle.std.specs.Char.{is_ascii_digit, is_ascii_lowercase};
-ghost use Rattle.grammar_settings.specs.Forms.{is_among, written_types, form_of, form_of_one, is_word, features, is_path, name_of, path_of, without_plus, value_of_digits, is_number, limit_in, fits, has_form};
+ghost use Rattle.grammar_settings.specs.Forms.{is_among, written_types, form_of, form_of_one, is_word, features, is_path, name_of, path_of, without_plus, value_of_digits, is_number, limit_in, most_paths, fits, has_form};
 ghost use Rattle.grammar_settings.specs.Kept.{words_in};
 
 use crate::NoMemory;
@@ -28,11 +28,19 @@ pub enum ValueForm {
     Paths,
     /// A number from 1 to 1,000.
     Limit,
+    /// A number from 1 to 10,000,000.
+    Count,
     /// The name of a file.
     File,
     /// A type, and the letters of its variables.
     Sort,
 }
+
+/// The greatest limit on the features of a path.
+pub(crate) const MOST_FEATURES: u32 = 1000;
+
+/// The greatest limit on the paths of a structure.
+pub(crate) const MOST_PATHS: u32 = 10_000_000;
 
 const WRITTEN_TYPES: [&str; 2] = ["top-type", "string-type"];
 
@@ -102,6 +110,8 @@ fn form_of_one(name: &str) -> Option<ValueForm>
         Some(ValueForm::Paths)
     } else if name == "path-limit" {
         Some(ValueForm::Limit)
+    } else if name == "node-limit" {
+        Some(ValueForm::Count)
     } else if name == "irregular-file" {
         Some(ValueForm::File)
     } else if name == "sort" {
@@ -246,29 +256,32 @@ fn is_number(word: &[char]) -> bool
     true
 }
 
-// The number that digits write, or 1,001 where it is larger.
-fn number_to_limit(digits: &[char]) -> u32
-    requires { list_all is_ascii_digit digits.now ≡ true }
-    ensures { result ≡ min (value_of_digits digits.now) 1001 }
+// The number that digits write, or one more than the greatest limit where it is larger.
+fn number_to_limit(digits: &[char], most: u32) -> u32
+    requires digits { list_all is_ascii_digit digits.now ≡ true }
+    requires most { most ≤ most_paths }
+    ensures { result ≡ min (value_of_digits digits.now) (most + 1) }
 {
+    let bound = most + 1;
     let mut number = 0;
     for c in digits {
         let digit = *c as u32 - '0' as u32;
-        number = (number * 10 + digit).min(1001);
+        number = (number * 10 + digit).min(bound);
     }
     number
 }
 
-/// The number that a word gives as a limit, if it is one from 1 to 1,000.
-pub(crate) fn limit_in(word: &[char]) -> Option<u32>
-    ensures { result ≡ limit_in word.now }
+/// The number that a word gives as a limit, if it is one from 1 to the greatest.
+pub(crate) fn limit_in(word: &[char], most: u32) -> Option<u32>
+    requires { most ≤ most_paths }
+    ensures { result ≡ limit_in most word.now }
 {
     let digits = without_plus(word);
     if !is_number(digits) {
         return None;
     }
-    let number = number_to_limit(digits);
-    if 1 <= number && number <= 1000 {
+    let number = number_to_limit(digits, most);
+    if 1 <= number && number <= most {
         Some(number)
     } else {
         None
@@ -306,7 +319,8 @@ fn fits(alloc: Global, form: ValueForm, values: &[Vec<char>]) -> Result<bool, No
         (ValueForm::SomeWords, [_, ..]) => Ok(are_words(values)),
         (ValueForm::Words, _) => Ok(are_words(values)),
         (ValueForm::Paths, _) => are_paths(alloc, values),
-        (ValueForm::Limit, [value]) => Ok(limit_in(value).is_some()),
+        (ValueForm::Limit, [value]) => Ok(limit_in(value, MOST_FEATURES).is_some()),
+        (ValueForm::Count, [value]) => Ok(limit_in(value, MOST_PATHS).is_some()),
         (ValueForm::File, [_]) => Ok(true),
         (ValueForm::Sort, [ty, letters]) => Ok(is_word(ty) && are_letters(letters)),
         _ => Ok(false),

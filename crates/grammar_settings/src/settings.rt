@@ -47,6 +47,8 @@ pub struct Settings {
     pub restrictors: Vec<String>,
     /// The greatest number of features in a path, 1 to 1,000.
     pub path_limit: u32,
+    /// The greatest number of paths that the structure of a type or an instance may have, beside its root's: 1 to 10,000,000.
+    pub node_limit: u32,
     /// The paths of the quick check, besides the root.
     pub check_paths: Vec<Vec<String>>,
     /// The file of irregular forms, as it is written.

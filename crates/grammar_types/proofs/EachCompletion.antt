@@ -11,9 +11,9 @@ use Rattle.type_hierarchy.specs.Laws.{IsHierarchy}
 use Rattle.type_hierarchy.specs.Table.{TypeTable, set_of, intersection, common, IsIntersection, IsDistinct, IsFamily, table_of}
 use Rattle.type_hierarchy.proofs.FamilyLemmas.{common-append}
 use Rattle.type_hierarchy.proofs.ListLemmas.{any_index, any_at}
-use Rattle.grammar_types.specs.Completion.{IsCompletionOf, HasTooMany, most_completed}
-use Rattle.grammar_types.proofs.GrowingLemmas.{own_common, own_intersection, narrowed}
-use Rattle.grammar_types.proofs.SortLemmas.{family_reordered}
+use Rattle.glb_completion.specs.Completion.{IsCompletionOf, HasTooMany, most_completed}
+use Rattle.glb_completion.proofs.GrowingLemmas.{own_common, own_intersection, narrowed}
+use Rattle.glb_completion.proofs.SortLemmas.{family_reordered}
 use Rattle.grammar_types.proofs.FirstPlaces.{FirstBelow, first_below}
 use Rattle.grammar_types.proofs.SettleLists.{bools, true_not_false}
 use Rattle.grammar_types.proofs.SortedLists.{InOrder, in_order}

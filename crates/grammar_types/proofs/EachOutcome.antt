@@ -1,7 +1,7 @@
 -- Statements settle types or have a first fault.
 use Rattle.std.proofs.Common.{◌≡◌, ◌⊎◌, inl, inr}
 use Rattle.type_hierarchy.specs.Table.{TypeTable}
-use Rattle.grammar_types.specs.Completion.{IsCompletionOf, HasTooMany}
+use Rattle.glb_completion.specs.Completion.{IsCompletionOf, HasTooMany}
 use Rattle.grammar_files.specs.declared.fault.Why.TheVariants.{TooManyTypes}
 use Rattle.grammar_files.specs.Faults.{FoundFault}
 use Rattle.grammar_files.specs.Walks.{WalkedTree, fault_at}

@@ -15,8 +15,3 @@ pub mod EachCompletion
 pub mod EachHierarchy
 pub mod WalkedTexts
 pub mod EachOutcome
-pub mod GrowingLemmas
-pub mod SpreadLemmas
-pub mod CrossingLemmas
-pub mod SortLemmas
-pub mod KindLemmas

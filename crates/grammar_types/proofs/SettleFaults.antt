@@ -11,7 +11,7 @@ use Rattle.type_hierarchy.specs.declared.decl.TypeFault.{TypeFault}
 use Rattle.type_hierarchy.specs.declared.decl.TypeFault.TheVariants.{Duplicate}
 use Rattle.type_hierarchy.specs.Faults.{IsFirst, IsFaultOf}
 use Rattle.type_hierarchy.specs.Table.{TypeTable}
-use Rattle.grammar_types.specs.Completion.{HasTooMany}
+use Rattle.glb_completion.specs.Completion.{HasTooMany}
 use Rattle.grammar_files.specs.declared.fault.LoadFault.{LoadFault}
 use Rattle.grammar_files.specs.declared.fault.LoadFault.TheVariants.{NoMemory, Found}
 use Rattle.grammar_files.specs.declared.fault.Why.TheVariants.{Typing, TooManyTypes}

@@ -12,7 +12,7 @@ use Rattle.type_hierarchy.specs.declared.decl.TypeFault.TheVariants.{Duplicate, 
 use Rattle.type_hierarchy.specs.Decls.{Declared, at_place}
 use Rattle.type_hierarchy.specs.Faults.{IsFirst, IsUnknown, NamesFirst, NamesFirstUnknown, IsFaultOf, IsFaultless, most_types}
 use Rattle.type_hierarchy.specs.Table.{TypeTable}
-use Rattle.grammar_types.specs.Completion.{IsCompletionOf, HasTooMany}
+use Rattle.glb_completion.specs.Completion.{IsCompletionOf, HasTooMany}
 use Rattle.grammar_files.specs.declared.fault.Why.TheVariants.{Typing}
 use Rattle.grammar_files.specs.Faults.{FoundFault}
 use Rattle.grammar_settings.specs.Forms.{Name}

@@ -19,7 +19,7 @@ use Rattle.type_hierarchy.specs.Laws.{IsHierarchy, IsRising}
 use Rattle.type_hierarchy.specs.Table.{TypeTable, IsHierarchyOf, IsFamily, IsIntersection, IsDistinct, set_of, has_member, table_of}
 use Rattle.type_hierarchy.proofs.ListLemmas.{any_at, any_index}
 use Rattle.type_hierarchy.proofs.SetLemmas.{same_bools, rising_same}
-use Rattle.grammar_types.specs.Completion.{IsCompletionOf, HasTooMany, most_completed}
+use Rattle.glb_completion.specs.Completion.{IsCompletionOf, HasTooMany, most_completed}
 use Rattle.grammar_types.proofs.SettleLists.{bools, true_not_false, bytes_eq-same, bytes_eq-refl, bytes_eq-swap}
 
 abbrev made : List Name → List (List ℕ) → ℕ → ℕ → TypeTable

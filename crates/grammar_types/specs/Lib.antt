@@ -1,5 +1,3 @@
 pub mod Typings
 pub mod SettleViews
 pub mod Outcomes
-pub mod Completion
-pub mod Inner

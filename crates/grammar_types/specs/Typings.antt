@@ -16,7 +16,7 @@ use Rattle.type_hierarchy.specs.Decls.{Declared}
 use Rattle.type_hierarchy.specs.Faults.{IsFirst, IsFaultOf, IsFaultless, most_types}
 use Rattle.type_hierarchy.specs.Laws.{IsHierarchy}
 use Rattle.type_hierarchy.specs.Table.{TypeTable, IsHierarchyOf}
-use Rattle.grammar_types.specs.Completion.{IsCompletionOf, HasTooMany}
+use Rattle.glb_completion.specs.Completion.{IsCompletionOf, HasTooMany}
 use Rattle.grammar_files.specs.declared.fault.Why.{Why}
 use Rattle.grammar_files.specs.declared.fault.Why.TheVariants.{Typing, TooManyTypes}
 use Rattle.grammar_files.specs.Faults.{FoundFault}

@@ -11,7 +11,7 @@ ghost use Rattle.grammar_files.specs.WalkViews.{walked_of, CanSettle};
 
 use crate::declarations::{declarations, definition_at, definition_of, first_repeat};
 use crate::strings::strings_in;
-use crate::{CompleteFault, complete};
+use glb_completion::{CompleteFault, complete};
 use grammar_files::placed_statements::place_of;
 use grammar_files::{LoadFault, NoMemory, Placed, Walked, Why, found};
 use std::alloc::Global;

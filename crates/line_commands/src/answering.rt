@@ -4,9 +4,8 @@ ghost use Rattle.chart_core.specs.Kept.{InRange};
 ghost use Rattle.line_commands.specs.Remembered.{IsMrsMemoryOf};
 
 use crate::NoMemory;
-use crate::lattices::{NoLattice, lattice_of_line};
+use crate::lattices::{NoLattice, lattice_of_line, report_of_no_lattice};
 use crate::notes::{has_no_tree, note_line};
-use crate::reports::{report_of, report_of_no_lattice, report_with_mrs};
 use chart_core::Limits;
 use endings::lines::{Answer, Answers, Share};
 use endings::pieces::Report;
@@ -15,6 +14,7 @@ use engine::desks::{Desk, Desks};
 use fs_unify::Scratch;
 use grammar_rules::ItemAnswer;
 use line_charts::unknown_words;
+use line_reports::{report_of, report_with_mrs};
 use morph_analysis::Lattice;
 use mrs_lines::{MrsMemory, TreeLines};
 use std::alloc::Global;
@@ -25,7 +25,7 @@ use worker_gate::Gate;
 /// What answers lines by the trees that a grammar licenses for them.
 #[derive(Drop)]
 pub struct Parser<'e, 'r, 'k> {
-    pub engine: Engine<'e, 'e, 'e, 'e, 'e, 'r, 'e, 'k, 'e, 'e>,
+    pub engine: Engine<'e, 'r, 'k>,
     pub limits: Limits,
     /// Whether a line writes a lattice.
     pub lattice: bool,

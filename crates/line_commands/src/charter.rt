@@ -3,8 +3,7 @@
 ghost use Rattle.chart_core.specs.Kept.{InRange};
 
 use crate::NoMemory;
-use crate::lattices::lattice_of_line;
-use crate::reports::report_of_no_lattice;
+use crate::lattices::{lattice_of_line, report_of_no_lattice};
 use chart_core::Limits;
 use endings::lines::{Answer, Answers, Share};
 use endings::pieces::Report;
@@ -20,7 +19,7 @@ use worker_gate::Gate;
 /// What answers lines by the packed forests that a grammar has for them.
 #[derive(Drop)]
 pub struct Charter<'e, 'r, 'k> {
-    pub engine: Engine<'e, 'e, 'e, 'e, 'e, 'r, 'e, 'k, 'e, 'e>,
+    pub engine: Engine<'e, 'r, 'k>,
     pub limits: Limits,
     /// Whether a line writes a lattice.
     pub lattice: bool,

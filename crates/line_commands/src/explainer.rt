@@ -40,7 +40,7 @@ fn report_of_no_tree(alloc: Global, number: u64, at: u32) -> Result<Report, NoMe
 /// What tells of the tree that a line writes whether a grammar licenses it, and if not, why not.
 #[derive(Drop)]
 pub struct Explainer<'e, 'r, 'k> {
-    pub engine: Engine<'e, 'e, 'e, 'e, 'e, 'r, 'e, 'k, 'e, 'e>,
+    pub engine: Engine<'e, 'r, 'k>,
     /// What trees are written over: the names of the grammar's instances.
     pub names: TreeNames,
     /// Whether a licensed tree is followed by its MRS.

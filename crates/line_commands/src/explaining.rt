@@ -67,7 +67,7 @@ impl<I: Source, O: Sink, X> Use<I, O, X> for Explaining {
         &self,
         rt: &Rt,
         alloc: Global,
-        engine: &Engine<'_, '_, '_, '_, '_, '_, '_, '_, '_, '_>,
+        engine: &Engine<'_, '_, '_>,
         a: &mut I,
         b: &mut O,
         _c: &mut X,

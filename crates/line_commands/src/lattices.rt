@@ -1,14 +1,17 @@
-//! The lattice of a line, or why it has none.
+//! The lattice of a line, or why it has none and what is written of that.
 
-ghost use Rattle.std.specs.Prelude.{◌≡◌, ◌⊎◌, ◌<◌, ◌^◌, ℕ, true, length, IfOk, IfErr};
+ghost use Rattle.std.specs.Prelude.{◌≡◌, ◌⊎◌, ◌<◌, ◌^◌, ℕ, true, length, map, IfOk, IfErr};
 ghost use Rattle.std.specs.Str.{chars, IsUtf8};
 ghost use Rattle.morph_analysis.specs.Lattices.{IsValid};
 ghost use Rattle.morph_analysis.specs.LatticeLines.{IsFirstWrong};
 ghost use Rattle.morph_analysis.specs.LatticeViews.{lattice_of};
 ghost use Rattle.line_commands.specs.Lines.{IsLatticeOf};
-ghost use Rattle.line_commands.specs.Inner.Lattices.{HasNoLattice};
+ghost use Rattle.line_commands.specs.Inner.Lattices.{HasNoLattice, IsReportWithout};
 
+use crate::NoMemory;
+use endings::pieces::Report;
 use engine::lattice_of_words;
+use item_reports::{lines_of_no_lattice, lines_of_no_text};
 use morph_analysis::{Lattice, LatticeFault};
 use std::alloc::Global;
 
@@ -59,5 +62,26 @@ pub(crate) fn lattice_of_line(
             Err(LatticeFault::NoMemory) => Err(NoLattice::NoMemory),
         },
         Err(_) => Err(NoLattice::NoText),
+    }
+}
+
+/// What is written of a line that has no lattice.
+pub(crate) fn report_of_no_lattice(
+    alloc: Global,
+    number: u64,
+    why: NoLattice,
+) -> Result<Report, NoMemory>
+    ensures { IfOk result (λ r. IsReportWithout number why (map (λ l. l.items) r.lines.items) r.refused) }
+{
+    match why {
+        NoLattice::NoText => Ok(Report {
+            lines: lines_of_no_text(alloc, number)?,
+            refused: true,
+        }),
+        NoLattice::At { at } => Ok(Report {
+            lines: lines_of_no_lattice(alloc, number, at)?,
+            refused: true,
+        }),
+        NoLattice::NoMemory => Err(NoMemory),
     }
 }

@@ -10,7 +10,6 @@ mod lattices;
 pub mod laws;
 mod notes;
 mod parsing;
-mod reports;
 mod trees;
 
 pub use answering::Parser;

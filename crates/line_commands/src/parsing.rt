@@ -76,7 +76,7 @@ impl<I: Source, O: Sink, X: Sink> Use<I, O, X> for Serving {
         &self,
         rt: &Rt,
         alloc: Global,
-        engine: &Engine<'_, '_, '_, '_, '_, '_, '_, '_, '_, '_>,
+        engine: &Engine<'_, '_, '_>,
         a: &mut I,
         b: &mut O,
         c: &mut X,

@@ -1,6 +1,6 @@
 //! Chains in a lattice.
 
-ghost use Rattle.std.specs.Prelude.{◌≡◌, ◌++◌, ◌-◌, ◌<◌, ◌∷◌, [], ℕ, List, length, map, take, IfErr, IfOk, OnOk, string_bytes};
+ghost use Rattle.std.specs.Prelude.{◌≡◌, ◌-◌, ◌<◌, [], ℕ, List, length, map, take, IfErr, IfOk, OnOk};
 ghost use Rattle.std.specs.List.Sorted.{IsStrictlySortedBy};
 ghost use Rattle.std.specs.declared.cmp.Ordering.TheVariants.{Equal};
 ghost use Rattle.lexicon.specs.Groups.{group_of};
@@ -11,72 +11,59 @@ ghost use Rattle.morph_analysis.specs.LatticeViews.{lattice_of, step_of};
 ghost use Rattle.morph_analysis.specs.Made.{AreMadeChains, MayHalt, IsMadeChain};
 ghost use Rattle.morph_analysis.specs.Views.{made_of};
 ghost use Rattle.morph_analysis.specs.Spelled.{IsSpelled, node_at};
-ghost use Rattle.morph_analysis.specs.Inner.Adding.{AddsThose, IsOf, OfGroup, OfWords, OfNode, OfNodes, OfSome, OfStep};
-ghost use Rattle.morph_analysis.specs.Inner.Routes.{AreWithin, IsRouteOf};
+ghost use Rattle.morph_analysis.specs.Inner.Adding.{AddsThose, OfSome, OfStep};
+ghost use Rattle.morph_analysis.specs.Inner.Routes.{IsStart, AreWithin};
+ghost use Rattle.morph_analysis.specs.Inner.Searching.{AddsMade, OfStem, RouteFrom, GroupOver, WordsAt, NodeAt, NodesBefore, StepsOver};
 
 use crate::arrivals::Arrivals;
 use crate::graph::Graph;
 use crate::lattice::{Lattice, Step};
 use crate::made::{Halt, MadeChain, Maker};
 use crate::outward::add_from;
+use crate::search::{Search, Stem};
 use lexicon::{Group, Lexicon, NoMemory};
 use spelling_rules::Spelling;
 use std::alloc::Global;
 
-// Adds the chains of an entry, whose last word is at a node, from each of some nodes.
+// Adds the chains of an entry over a stem, from each of some nodes.
 fn add_entry<M: Maker>(
-    alloc: Global,
-    maker: &M,
-    work: &mut M::Work,
-    graph: &Graph,
-    depth: u32,
-    node: usize,
+    search: &Search<'_, '_, M>,
+    stem: &Stem<'_>,
     entry: u32,
-    front: &[String],
-    step: &Step,
     froms: &[u32],
+    work: &mut M::Work,
     out: &mut Vec<MadeChain<M::Made>>,
 ) -> Result<(), Halt>
-    requires node { node < length graph.now }
-    requires within { AreWithin graph.now }
-    ensures all { OnOk result (AddsThose (IsOf (λ e. e ≡ entry) (IsRouteOf graph.now (M.makes maker.now) depth node) (λ m. Has m froms.now) (map string_bytes front.now ++ string_bytes step.now.word ∷ []) step.now.to) (map (made_of (M.value maker.now)) out.old.items) (map (made_of (M.value maker.now)) out.new.items)) }
-    ensures halt { IfErr result (MayHalt (M.enough maker.now) (IsOf (λ e. e ≡ entry) (IsRouteOf graph.now (M.makes maker.now) depth node) (λ m. Has m froms.now) (map string_bytes front.now ++ string_bytes step.now.word ∷ []) step.now.to)) }
+    requires { IsStart stem.now.graph.now stem.now.node }
+    ensures all { OnOk result (AddsMade (M.value search.now.maker.now) (OfStem (λ e. e ≡ entry) (RouteFrom M.makes search.now stem.now) (λ m. Has m froms.now) stem.now) out.old.items out.new.items) }
+    ensures halt { IfErr result (MayHalt (M.enough search.now.maker.now) (OfStem (λ e. e ≡ entry) (RouteFrom M.makes search.now stem.now) (λ m. Has m froms.now) stem.now)) }
 {
     for from in froms {
-        add_from(
-            alloc, maker, work, graph, depth, node, entry, front, step, *from, out,
-        )?;
+        add_from(search, stem, entry, *from, work, out)?;
     }
     Ok(())
 }
 
-// Adds the chains of entries with one front whose last word is at a node.
+// Adds the chains of entries over a stem.
 fn add_entries<M: Maker>(
-    alloc: Global,
-    maker: &M,
-    work: &mut M::Work,
-    graph: &Graph,
-    depth: u32,
-    arrivals: &Arrivals<'_>,
-    node: usize,
+    search: &Search<'_, '_, M>,
+    stem: &Stem<'_>,
     entries: &[u32],
-    front: &[String],
-    step: &Step,
+    work: &mut M::Work,
     out: &mut Vec<MadeChain<M::Made>>,
 ) -> Result<(), Halt>
-    requires node { node < length graph.now }
-    requires within { AreWithin graph.now }
-    ensures all { OnOk result (AddsThose (OfGroup graph.now (M.makes maker.now) depth arrivals.now (step_of step.now) node (map string_bytes front.now) (λ e. Has e entries.now)) (map (made_of (M.value maker.now)) out.old.items) (map (made_of (M.value maker.now)) out.new.items)) }
-    ensures halt { IfErr result (MayHalt (M.enough maker.now) (OfGroup graph.now (M.makes maker.now) depth arrivals.now (step_of step.now) node (map string_bytes front.now) (λ e. Has e entries.now))) }
+    requires { IsStart stem.now.graph.now stem.now.node }
+    ensures all { OnOk result (AddsMade (M.value search.now.maker.now) (GroupOver M.makes search.now stem.now (λ e. Has e entries.now)) out.old.items out.new.items) }
+    ensures halt { IfErr result (MayHalt (M.enough search.now.maker.now) (GroupOver M.makes search.now stem.now (λ e. Has e entries.now))) }
 {
-    let froms = arrivals.fronts(alloc, front, step.from)?;
+    let froms = search
+        .arrivals
+        .fronts(search.alloc, stem.front, stem.step.from)?;
     if froms.is_empty() {
         return Ok(());
     }
     for entry in entries {
-        add_entry(
-            alloc, maker, work, graph, depth, node, *entry, front, step, &froms, out,
-        )?;
+        add_entry(search, stem, *entry, &froms, work, out)?;
     }
     Ok(())
 }
@@ -91,89 +78,66 @@ fn front_of(words: &[String]) -> &[String]
 
 // Adds the chains of the entries of a group, whose last word is at a node.
 fn add_group<M: Maker>(
-    alloc: Global,
-    maker: &M,
-    work: &mut M::Work,
+    search: &Search<'_, '_, M>,
     graph: &Graph,
-    depth: u32,
-    arrivals: &Arrivals<'_>,
+    step: &Step,
     node: usize,
     group: &Group,
-    step: &Step,
+    work: &mut M::Work,
     out: &mut Vec<MadeChain<M::Made>>,
 ) -> Result<(), Halt>
-    requires node { node < length graph.now }
-    requires within { AreWithin graph.now }
-    ensures all { OnOk result (AddsThose (OfWords graph.now (M.makes maker.now) depth arrivals.now (step_of step.now) node (group_of group.now)) (map (made_of (M.value maker.now)) out.old.items) (map (made_of (M.value maker.now)) out.new.items)) }
-    ensures halt { IfErr result (MayHalt (M.enough maker.now) (OfWords graph.now (M.makes maker.now) depth arrivals.now (step_of step.now) node (group_of group.now))) }
+    requires { IsStart graph.now node }
+    ensures all { OnOk result (AddsMade (M.value search.now.maker.now) (WordsAt M.makes search.now graph.now step.now node (group_of group.now)) out.old.items out.new.items) }
+    ensures halt { IfErr result (MayHalt (M.enough search.now.maker.now) (WordsAt M.makes search.now graph.now step.now node (group_of group.now))) }
 {
     if group.words.is_empty() {
         return Ok(());
     }
     let front = front_of(&group.words);
-    add_entries(
-        alloc,
-        maker,
-        work,
+    let stem = Stem {
         graph,
-        depth,
-        arrivals,
-        node,
-        &group.entries,
-        front,
         step,
-        out,
-    )?;
+        node,
+        front,
+    };
+    add_entries(search, &stem, &group.entries, work, out)?;
     Ok(())
 }
 
 // Adds the chains of entries whose last word is that of a node.
 fn add_node<M: Maker>(
-    alloc: Global,
-    maker: &M,
-    work: &mut M::Work,
-    lexicon: &Lexicon,
+    search: &Search<'_, '_, M>,
     graph: &Graph,
-    depth: u32,
-    arrivals: &Arrivals<'_>,
-    node: usize,
     step: &Step,
+    node: usize,
+    work: &mut M::Work,
     out: &mut Vec<MadeChain<M::Made>>,
 ) -> Result<(), Halt>
-    requires node { node < length graph.now }
-    requires within { AreWithin graph.now }
-    ensures all { OnOk result (AddsThose (OfNode lexicon.now graph.now (M.makes maker.now) depth arrivals.now (step_of step.now) node) (map (made_of (M.value maker.now)) out.old.items) (map (made_of (M.value maker.now)) out.new.items)) }
-    ensures halt { IfErr result (MayHalt (M.enough maker.now) (OfNode lexicon.now graph.now (M.makes maker.now) depth arrivals.now (step_of step.now) node)) }
+    requires { IsStart graph.now node }
+    ensures all { OnOk result (AddsMade (M.value search.now.maker.now) (NodeAt M.makes search.now graph.now step.now node) out.old.items out.new.items) }
+    ensures halt { IfErr result (MayHalt (M.enough search.now.maker.now) (NodeAt M.makes search.now graph.now step.now node)) }
 {
-    let groups = lexicon.by_last(graph.word(node));
+    let groups = search.lexicon.by_last(graph.word(node));
     for group in groups {
-        add_group(
-            alloc, maker, work, graph, depth, arrivals, node, group, step, out,
-        )?;
+        add_group(search, graph, step, node, group, work, out)?;
     }
     Ok(())
 }
 
 // Adds the chains whose last word is that of a step, which is at node 0.
 fn add_step<M: Maker>(
-    alloc: Global,
-    maker: &M,
-    work: &mut M::Work,
-    lexicon: &Lexicon,
+    search: &Search<'_, '_, M>,
     graph: &Graph,
-    depth: u32,
-    arrivals: &Arrivals<'_>,
     step: &Step,
+    work: &mut M::Work,
     out: &mut Vec<MadeChain<M::Made>>,
 ) -> Result<(), Halt>
     requires { AreWithin graph.now }
-    ensures all { OnOk result (AddsThose (OfNodes lexicon.now graph.now (M.makes maker.now) depth arrivals.now (step_of step.now) (length graph.now)) (map (made_of (M.value maker.now)) out.old.items) (map (made_of (M.value maker.now)) out.new.items)) }
-    ensures halt { IfErr result (MayHalt (M.enough maker.now) (OfNodes lexicon.now graph.now (M.makes maker.now) depth arrivals.now (step_of step.now) (length graph.now))) }
+    ensures all { OnOk result (AddsMade (M.value search.now.maker.now) (NodesBefore M.makes search.now graph.now step.now (length graph.now)) out.old.items out.new.items) }
+    ensures halt { IfErr result (MayHalt (M.enough search.now.maker.now) (NodesBefore M.makes search.now graph.now step.now (length graph.now))) }
 {
     for node in 0..graph.len() {
-        add_node(
-            alloc, maker, work, lexicon, graph, depth, arrivals, node, step, out,
-        )?;
+        add_node(search, graph, step, node, work, out)?;
     }
     Ok(())
 }
@@ -210,27 +174,26 @@ fn steps_by_word<'a>(alloc: Global, steps: &'a [Step]) -> Result<Vec<&'a Step>, 
 
 // Adds the chains whose last words are those of steps. The graph of a word serves for all steps in a row with that word.
 fn add_steps<M: Maker>(
-    alloc: Global,
-    maker: &M,
-    work: &mut M::Work,
-    lexicon: &Lexicon,
-    spelling: &Spelling,
-    depth: u32,
-    arrivals: &Arrivals<'_>,
+    search: &Search<'_, '_, M>,
     sorted: &[&Step],
+    work: &mut M::Work,
     out: &mut Vec<MadeChain<M::Made>>,
 ) -> Result<(), Halt>
-    ensures all { OnOk result (AddsThose (OfSome (OfStep lexicon.now spelling.now (M.makes maker.now) depth arrivals.now) (map (λ s. step_of s.now) sorted.now)) (map (made_of (M.value maker.now)) out.old.items) (map (made_of (M.value maker.now)) out.new.items)) }
-    ensures halt { IfErr result (MayHalt (M.enough maker.now) (OfSome (OfStep lexicon.now spelling.now (M.makes maker.now) depth arrivals.now) (map (λ s. step_of s.now) sorted.now))) }
+    ensures all { OnOk result (AddsMade (M.value search.now.maker.now) (StepsOver M.makes search.now sorted.now) out.old.items out.new.items) }
+    ensures halt { IfErr result (MayHalt (M.enough search.now.maker.now) (StepsOver M.makes search.now sorted.now)) }
 {
-    let first = Graph::of_word(alloc, spelling, "", depth)?;
+    let first = Graph::of_word(search.alloc, search.spelling, "", search.depth)?;
     let mut graph = first;
     for i in 0..sorted.len() {
         let step = sorted[i];
-        graph = graph_for(alloc, spelling, graph, step.word.as_str(), depth)?;
-        add_step(
-            alloc, maker, work, lexicon, &graph, depth, arrivals, step, out,
+        graph = graph_for(
+            search.alloc,
+            search.spelling,
+            graph,
+            step.word.as_str(),
+            search.depth,
         )?;
+        add_step(search, &graph, step, work, out)?;
     }
     Ok(())
 }
@@ -251,9 +214,15 @@ fn chains_of<M: Maker>(
     let mut out = Vec::new(alloc);
     let arrivals = Arrivals::make(alloc, steps)?;
     let sorted = steps_by_word(alloc, steps)?;
-    add_steps(
-        alloc, maker, work, lexicon, spelling, depth, &arrivals, &sorted, &mut out,
-    )?;
+    let search = Search {
+        alloc,
+        maker,
+        lexicon,
+        spelling,
+        arrivals: &arrivals,
+        depth,
+    };
+    add_steps(&search, &sorted, work, &mut out)?;
     Ok(out)
 }
 

@@ -13,6 +13,7 @@ pub mod laws;
 mod made;
 mod nodes;
 mod outward;
+mod search;
 mod table;
 mod written;
 

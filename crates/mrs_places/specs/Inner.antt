@@ -1,2 +1,3 @@
 -- Words between one function and the next; no public clause cites them.
 pub mod Walked
+pub mod Lists

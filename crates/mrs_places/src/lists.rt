@@ -3,11 +3,12 @@
 ghost use Rattle.std.specs.Prelude.{◌≡◌, ◌<◌, ◌∷◌, [], length, map, option_map, All, IfOk};
 ghost use Rattle.type_hierarchy.specs.Table.{count_of};
 ghost use Rattle.mrs_places.specs.Paths.{feature_of, paths_of};
-ghost use Rattle.mrs_places.specs.Looking.{NamedPath, Walks, Elements, MayElements, all_there, look, look_pair};
+ghost use Rattle.mrs_places.specs.Looking.{NamedPath, Walks, all_there, look};
 ghost use Rattle.mrs_places.specs.Asked.{IsTyped};
 ghost use Rattle.mrs_places.specs.Looking.{is_number};
 ghost use Rattle.mrs_places.specs.Faults.{Tells};
-ghost use Rattle.mrs_places.specs.Inner.Walked.{mrs_place, cell_path, element_path, placed, walk_end, nodes_of, IsTurn};
+ghost use Rattle.mrs_places.specs.Inner.Lists.{ElementsOf, MayElementsOf, pairs_from};
+ghost use Rattle.mrs_places.specs.Inner.Walked.{cell_path, element_path, placed, walk_end, nodes_of, IsTurn};
 ghost use Rattle.mrs_places.specs.Places.{pairs_of, IsPairIn};
 
 use crate::missing::{missing_in_list, missing_in_mrs};
@@ -23,6 +24,14 @@ pub struct Element {
     pub at: Node,
     pub one: Node,
     pub two: Node,
+}
+
+/// A list of M: its feature, and those of the two parts of its elements.
+#[derive(Clone, Copy)]
+pub(crate) struct ListFeats<'a> {
+    pub(crate) list: &'a MrsFeat,
+    pub(crate) one: &'a MrsFeat,
+    pub(crate) two: &'a MrsFeat,
 }
 
 // The cells of a list that were walked, and whether the walk came to its end. Otherwise what stands behind these cells is missing.
@@ -135,23 +144,21 @@ fn with_parts(
     alloc: Global,
     graph: &Graph,
     paths: &MrsPaths,
-    list: &MrsFeat,
-    one: &MrsFeat,
-    two: &MrsFeat,
+    feats: &ListFeats<'_>,
     elements: &[Node],
 ) -> Result<Vec<Element>, NoMrs>
     requires { All (λ n. n.0 < length graph.now.types) elements.now }
-    ensures told { Tells (λ v. pairs_of v.items) (λ out. out ≡ all_there (map (look_pair graph.now (feature_of one.now) (feature_of two.now)) (placed (element_path (paths_of paths.now) (feature_of list.now)) 0 (nodes_of elements.now)))) result }
+    ensures told { Tells (λ v. pairs_of v.items) (λ out. out ≡ pairs_from graph.now (paths_of paths.now) feats.now (nodes_of elements.now)) result }
     ensures inside { IfOk result (λ v. All (IsPairIn (length graph.now.types)) (pairs_of v.items)) }
 {
     let mut pairs = Vec::with_capacity(alloc, elements.len())?;
     for k in 0..elements.len() {
         let at = elements[k];
-        let Some(first_part) = step(graph, at, one) else {
-            return Err(missing_in_list(alloc, paths, list, k, &[&paths.first, one]));
+        let Some(first_part) = step(graph, at, feats.one) else {
+            return Err(missing_in_list(alloc, paths, feats.list, k, &[&paths.first, feats.one]));
         };
-        let Some(second_part) = step(graph, at, two) else {
-            return Err(missing_in_list(alloc, paths, list, k, &[&paths.first, two]));
+        let Some(second_part) = step(graph, at, feats.two) else {
+            return Err(missing_in_list(alloc, paths, feats.list, k, &[&paths.first, feats.two]));
         };
         pairs.push(Element {
             at,
@@ -162,22 +169,21 @@ fn with_parts(
     Ok(pairs)
 }
 
-/// The elements of the list at a feature of M, each with its two parts.
+/// The elements of a list of M, each with its two parts.
 pub(crate) fn elements(
     alloc: Global,
     graph: &Graph,
     types: &Types,
     paths: &MrsPaths,
     m: Node,
-    list: &MrsFeat,
-    one: &MrsFeat,
-    two: &MrsFeat,
+    feats: &ListFeats<'_>,
 ) -> Result<Vec<Element>, NoMrs>
     requires typed { IsTyped types.now (paths_of paths.now) graph.now }
     requires inside { m.0 < length graph.now.types }
-    ensures told { Tells (λ v. pairs_of v.items) (Elements graph.now types.now (paths_of paths.now) (mrs_place (paths_of paths.now) m.0) (feature_of list.now) (feature_of one.now) (feature_of two.now)) result }
+    ensures told { Tells (λ v. pairs_of v.items) (ElementsOf graph.now types.now (paths_of paths.now) m.0 feats.now) result }
     ensures inside { IfOk result (λ v. All (IsPairIn (length graph.now.types)) (pairs_of v.items)) }
 {
+    let list = feats.list;
     let Some(at) = step(graph, m, list) else {
         return Err(missing_in_mrs(alloc, paths, &[list]));
     };
@@ -190,7 +196,7 @@ pub(crate) fn elements(
         return Err(missing_in_list(alloc, paths, list, walk.cells.len(), &[]));
     }
     let elements = firsts(alloc, graph, paths, list, &walk.cells)?;
-    with_parts(alloc, graph, paths, list, one, two, &elements)
+    with_parts(alloc, graph, paths, feats, &elements)
 }
 
 /// The same of a list that M may lack.
@@ -200,17 +206,15 @@ pub(crate) fn may_elements(
     types: &Types,
     paths: &MrsPaths,
     m: Node,
-    list: &MrsFeat,
-    one: &MrsFeat,
-    two: &MrsFeat,
+    feats: &ListFeats<'_>,
 ) -> Result<Vec<Element>, NoMrs>
     requires typed { IsTyped types.now (paths_of paths.now) graph.now }
     requires inside { m.0 < length graph.now.types }
-    ensures told { Tells (λ v. pairs_of v.items) (MayElements graph.now types.now (paths_of paths.now) (mrs_place (paths_of paths.now) m.0) (feature_of list.now) (feature_of one.now) (feature_of two.now)) result }
+    ensures told { Tells (λ v. pairs_of v.items) (MayElementsOf graph.now types.now (paths_of paths.now) m.0 feats.now) result }
     ensures inside { IfOk result (λ v. All (IsPairIn (length graph.now.types)) (pairs_of v.items)) }
 {
-    if step(graph, m, list).is_none() {
+    if step(graph, m, feats.list).is_none() {
         return Ok(Vec::new(alloc));
     }
-    elements(alloc, graph, types, paths, m, list, one, two)
+    elements(alloc, graph, types, paths, m, feats)
 }

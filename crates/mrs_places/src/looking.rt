@@ -8,7 +8,7 @@ ghost use Rattle.mrs_places.specs.Faults.{Tells};
 ghost use Rattle.mrs_places.specs.Inner.Walked.{mrs_place};
 ghost use Rattle.mrs_places.specs.Places.{parts_of, ArePartsIn};
 
-use crate::lists::{Element, elements, may_elements};
+use crate::lists::{Element, ListFeats, elements, may_elements};
 use crate::missing::missing_after;
 use crate::paths::{MrsFeat, MrsPaths, NoMrs};
 use crate::steps::follow;
@@ -73,12 +73,24 @@ fn lists_at(
     ensures told { (t i : Place) → t.node ≡ top.0 → i.node ≡ index.0 → Tells parts_of (LooksAtLists graph.now types.now (paths_of paths.now) (mrs_place (paths_of paths.now) m.0) t i) result }
     ensures inside { IfOk result (λ f. ArePartsIn (length graph.now.types) (parts_of f)) }
 {
-    let (list, one, two) = (&paths.rels, &paths.pred, &paths.lbl);
-    let rels = elements(alloc, graph, types, paths, m, list, one, two)?;
-    let (list, one, two) = (&paths.hcons, &paths.harg, &paths.larg);
-    let hcons = elements(alloc, graph, types, paths, m, list, one, two)?;
-    let (list, one, two) = (&paths.icons, &paths.iarg1, &paths.iarg2);
-    let icons = may_elements(alloc, graph, types, paths, m, list, one, two)?;
+    let feats = ListFeats {
+        list: &paths.rels,
+        one: &paths.pred,
+        two: &paths.lbl,
+    };
+    let rels = elements(alloc, graph, types, paths, m, &feats)?;
+    let feats = ListFeats {
+        list: &paths.hcons,
+        one: &paths.harg,
+        two: &paths.larg,
+    };
+    let hcons = elements(alloc, graph, types, paths, m, &feats)?;
+    let feats = ListFeats {
+        list: &paths.icons,
+        one: &paths.iarg1,
+        two: &paths.iarg2,
+    };
+    let icons = may_elements(alloc, graph, types, paths, m, &feats)?;
     Ok(Found {
         top,
         index,

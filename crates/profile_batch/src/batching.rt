@@ -69,7 +69,7 @@ impl<X> Use<(), (), X> for Items<'_> {
         &self,
         rt: &Rt,
         alloc: Global,
-        engine: &Engine<'_, '_, '_, '_, '_, '_, '_, '_, '_, '_>,
+        engine: &Engine<'_, '_, '_>,
         _a: &mut (),
         _b: &mut (),
         _c: &mut X,

@@ -25,7 +25,7 @@ use worker_gate::OpenGate;
 /// What judges items: an engine, the limits of each item, and desks of one worker.
 #[derive(Drop)]
 pub(crate) struct Judge<'e, 'r, 'k> {
-    pub(crate) engine: Engine<'e, 'e, 'e, 'e, 'e, 'r, 'e, 'k, 'e, 'e>,
+    pub(crate) engine: Engine<'e, 'r, 'k>,
     pub(crate) limits: Limits,
     pub(crate) desks: Desks,
 }

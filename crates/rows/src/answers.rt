@@ -13,7 +13,8 @@ use chart_workers::Crew;
 use derivation::{Tree, is_named, write};
 use engine::desks::Desk;
 use fs_unify::Scratch;
-use grammar_rules::{ItemAnswer, LineWork, Search, parse_words};
+use grammar_rules::{ItemAnswer, LineWork, Search};
+use line_parsing::parse_words;
 use morph_analysis::Lattice;
 use mrs_generate::{GenAnswer, GenGrammar, generate};
 use mrs_model::Mrs;
@@ -103,7 +104,7 @@ fn add_sentences(alloc: Global, answer: &GenAnswer, into: &mut Vec<u8>) -> Resul
     Ok(())
 }
 
-impl Ready<'_, '_, '_, '_> {
+impl Ready<'_, '_, '_> {
     // Adds the trees of a line.
     fn parsed<R: Wait + Threads + Sync>(
         &self,

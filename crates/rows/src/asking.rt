@@ -22,7 +22,7 @@ pub fn add_line(text: &str, out: &mut Vec<u8>) -> Result<(), AllocError> {
     Ok(())
 }
 
-impl Ready<'_, '_, '_, '_> {
+impl Ready<'_, '_, '_> {
     // Takes the answers of one worker in an order, with no sieve, with one and with the same one twice.
     fn take_in_order<R: Wait + Threads + Sync>(
         &self,

@@ -28,8 +28,8 @@ use worker_gate::{Gate, OpenGate};
 
 /// What is asked: an engine, and what its grammar contributes to MRSs. Lines and MRSs share what the engine remembers.
 #[derive(Clone, Copy)]
-pub struct Ready<'e, 'm, 'r, 'k> {
-    pub engine: Engine<'e, 'e, 'e, 'e, 'm, 'r, 'e, 'k, 'e, 'e>,
+pub struct Ready<'e, 'r, 'k> {
+    pub engine: Engine<'e, 'r, 'k>,
     pub contributors: &'e Contributors,
     pub c_cont: &'e [MrsFeat],
     pub limits: Limits,
@@ -63,7 +63,7 @@ impl<X> Use<Vec<u8>, (), X> for Steps<'_> {
         &self,
         rt: &R,
         alloc: Global,
-        engine: &Engine<'_, '_, '_, '_, '_, '_, '_, '_, '_, '_>,
+        engine: &Engine<'_, '_, '_>,
         out: &mut Vec<u8>,
         _nothing: &mut (),
         _no_more: &mut X,
@@ -90,7 +90,7 @@ impl<X> Use<Vec<u8>, (), X> for Steps<'_> {
 // What the grammar of an engine contributes, with lexical trees of up to so many rules and one more.
 fn contributors_in(
     alloc: Global,
-    engine: &Engine<'_, '_, '_, '_, '_, '_, '_, '_, '_, '_>,
+    engine: &Engine<'_, '_, '_>,
     c_cont: &[MrsFeat],
     lexical: u32,
 ) -> Result<Contributors, AllocError>

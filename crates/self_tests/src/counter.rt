@@ -25,9 +25,9 @@ use worker_gate::OpenGate;
 /// What counts the answers to lines: an engine, the limits of each line, and the desks at which lines are answered, each with this share of
 /// the workers.
 #[derive(Drop)]
-pub(crate) struct Counter<'c, 'g, 's, 'b, 'h, 'm, 'r, 'd, 'k, 'f, 'p> {
-    pub(crate) engine: &'c Engine<'g, 's, 'b, 'h, 'm, 'r, 'd, 'k, 'f, 'p>,
-    pub(crate) limits: &'c Limits,
+pub(crate) struct Counter<'e, 'r, 'k> {
+    pub(crate) engine: &'e Engine<'e, 'r, 'k>,
+    pub(crate) limits: &'e Limits,
     pub(crate) desks: Desks,
     pub(crate) share: Share,
 }
@@ -51,7 +51,7 @@ fn count_of(answer: &ItemAnswer) -> Count
 fn count_line<Rt: Threads + Wait + Sync>(
     rt: &Rt,
     alloc: Global,
-    engine: &Engine<'_, '_, '_, '_, '_, '_, '_, '_, '_, '_>,
+    engine: &Engine<'_, '_, '_>,
     desk: &mut Desk,
     limits: &Limits,
     line: &str,
@@ -69,7 +69,7 @@ fn count_line<Rt: Threads + Wait + Sync>(
     Ok(count_of(&answer))
 }
 
-impl Counter<'_, '_, '_, '_, '_, '_, '_, '_, '_, '_, '_> {
+impl Counter<'_, '_, '_> {
     ghost use Rattle.std.specs.Thread.{IsSync};
     ghost use Rattle.std.specs.Str.{IsUtf8};
     ghost use Rattle.chart_core.specs.Kept.{InRange};
@@ -106,7 +106,7 @@ impl Counter<'_, '_, '_, '_, '_, '_, '_, '_, '_, '_, '_> {
     }
 }
 
-impl Work<Vec<u8>, Count> for Counter<'_, '_, '_, '_, '_, '_, '_, '_, '_, '_, '_> {
+impl Work<Vec<u8>, Count> for Counter<'_, '_, '_> {
     ghost use Rattle.std.specs.Str.{IsUtf8};
     ghost use Rattle.chart_core.specs.Kept.{InRange};
     ghost use Rattle.packed_items.specs.Answers.{limits_in};

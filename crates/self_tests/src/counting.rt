@@ -47,7 +47,7 @@ impl<X> Use<(), (), X> for Counting<'_> {
         &self,
         rt: &Rt,
         alloc: Global,
-        engine: &Engine<'_, '_, '_, '_, '_, '_, '_, '_, '_, '_>,
+        engine: &Engine<'_, '_, '_>,
         _a: &mut (),
         _b: &mut (),
         _c: &mut X,

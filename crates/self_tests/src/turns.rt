@@ -24,7 +24,7 @@ use worker_gate::Gate;
 fn count_again<Rt: Threads + Wait + Sync>(
     rt: &Rt,
     alloc: Global,
-    counter: &Counter<'_, '_, '_, '_, '_, '_, '_, '_, '_, '_, '_>,
+    counter: &Counter<'_, '_, '_>,
     lines: &[Vec<u8>],
     counts: &mut Vec<Count>,
 )
@@ -45,7 +45,7 @@ fn count_again<Rt: Threads + Wait + Sync>(
 fn count_in_turn<Rt: Threads + Wait + Sync>(
     rt: &Rt,
     alloc: Global,
-    counter: &Counter<'_, '_, '_, '_, '_, '_, '_, '_, '_, '_, '_>,
+    counter: &Counter<'_, '_, '_>,
     lines: &[Vec<u8>],
     gate: &dyn Gate,
 ) -> Result<Vec<Count>, NoMemory>
@@ -66,7 +66,7 @@ fn count_in_turn<Rt: Threads + Wait + Sync>(
 pub(crate) fn count_all<Rt: Threads + Wait + Sync>(
     rt: &Rt,
     alloc: Global,
-    mut counter: Counter<'_, '_, '_, '_, '_, '_, '_, '_, '_, '_, '_>,
+    mut counter: Counter<'_, '_, '_>,
     lines: &[Vec<u8>],
     workers: u32,
     gate: &dyn Gate,

@@ -10,7 +10,7 @@ use crate::facts::{facts, facts_in};
 use crate::names::{FEATS, type_of};
 use crate::steps::front;
 use fs_unify::{TypeFacts, TypeSystem};
-use grammar_types::complete;
+use glb_completion::complete;
 use std::alloc::{AllocError, Global};
 use type_hierarchy::{Decl, Hierarchy, Ty, Types};
 

@@ -30,7 +30,7 @@ option_line_of Empty = codes "  --empty N        the most words without a predic
 option_line_of Workers = codes "  --workers N      how many workers fill a chart, or answer lines, 1 to 64 (1); no answer depends on it"
 option_line_of Lattice = codes "  --lattice        each line writes a lattice, FROM:TO:WORD for each step (a line is its words)"
 option_line_of Mrs = codes "  --mrs            each tree that is listed or licensed is followed by its MRS (no MRSs)"
-option_line_of Verbose = codes "  --verbose        tells where and why files have a fault, and the unknown words of a line without a tree (neither)"
+option_line_of Verbose = codes "  --verbose        tells where and why files have a fault, and, in parse, the unknown words of lines without a tree (neither)"
 
 -- what each command and option does, and the default of each option
 abbrev pub help_lines : List (List ℕ)
@@ -77,20 +77,6 @@ help_lines =
 abbrev pub help_page : List ℕ
 help_page = flat_map (λ line. line ++ 10 ∷ []) help_lines
 
--- how a command is used
-abbrev pub usage_of : CommandName → List ℕ
-usage_of named.Parse = codes "usage: lkb parse GRAMMAR, with options"
-usage_of named.Chart = codes "usage: lkb chart GRAMMAR, with options"
-usage_of named.Explain = codes "usage: lkb explain GRAMMAR, with options"
-usage_of named.Generate = codes "usage: lkb generate GRAMMAR, with options"
-usage_of named.Types = codes "usage: lkb types GRAMMAR, with options"
-usage_of named.Check = codes "usage: lkb check GRAMMAR, with options"
-usage_of named.Expand = codes "usage: lkb expand GRAMMAR NAME, with options"
-usage_of named.SelfTest = codes "usage: lkb self-test NUMBER SIZE, with options"
-usage_of named.Batch = codes "usage: lkb batch GRAMMAR PROFILE, with options"
-usage_of named.Scope = codes "usage: lkb scope, with options"
-usage_of named.Transfer = codes "usage: lkb transfer RULES, with options"
-
 -- the options that a command heeds
 abbrev pub heeded_by : CommandName → List OptionName
 heeded_by named.Parse = Settings ∷ Edges ∷ Readings ∷ Lexical ∷ Unary ∷ Workers ∷ Lattice ∷ Mrs ∷ Verbose ∷ []
@@ -105,6 +91,6 @@ heeded_by named.Batch = Settings ∷ Edges ∷ Readings ∷ Lexical ∷ Unary �
 heeded_by named.Scope = Readings ∷ Workers ∷ []
 heeded_by named.Transfer = Settings ∷ Workers ∷ Verbose ∷ []
 
--- help on a command: how it is used, its line, and those of the options that it heeds
+-- help on a command: its line, and those of the options that it heeds
 abbrev pub page_on : CommandName → List ℕ
-page_on command = flat_map (λ line. line ++ 10 ∷ []) (usage_of command ∷ command_line_of command ∷ map option_line_of (heeded_by command))
+page_on command = flat_map (λ line. line ++ 10 ∷ []) (command_line_of command ∷ map option_line_of (heeded_by command))

@@ -36,7 +36,7 @@ const HELP: &[u8] = b"\
     \x20 --workers N      how many workers fill a chart, or answer lines, 1 to 64 (1); no answer depends on it\n\
     \x20 --lattice        each line writes a lattice, FROM:TO:WORD for each step (a line is its words)\n\
     \x20 --mrs            each tree that is listed or licensed is followed by its MRS (no MRSs)\n\
-    \x20 --verbose        tells where and why files have a fault, and the unknown words of a line without a tree (neither)\n\
+    \x20 --verbose        tells where and why files have a fault, and, in parse, the unknown words of lines without a tree (neither)\n\
     \n\
     Every command takes every option and heeds those that concern it.\n\
     \n\
@@ -54,7 +54,6 @@ pub fn help_text() -> &'static [u8]
 
 // Help on each command.
 const PARSE: &[u8] = b"\
-    usage: lkb parse GRAMMAR, with options\n\
     \x20 parse GRAMMAR          for each line of the input the number of its packed classes, and all its trees\n\
     \x20 --settings NAME  a file of settings (each setting's default)\n\
     \x20 --edges N        the most packed classes of a line, 1 to 20000 (5000)\n\
@@ -64,11 +63,10 @@ const PARSE: &[u8] = b"\
     \x20 --workers N      how many workers fill a chart, or answer lines, 1 to 64 (1); no answer depends on it\n\
     \x20 --lattice        each line writes a lattice, FROM:TO:WORD for each step (a line is its words)\n\
     \x20 --mrs            each tree that is listed or licensed is followed by its MRS (no MRSs)\n\
-    \x20 --verbose        tells where and why files have a fault, and the unknown words of a line without a tree (neither)\n\
+    \x20 --verbose        tells where and why files have a fault, and, in parse, the unknown words of lines without a tree (neither)\n\
 ";
 
 const CHART: &[u8] = b"\
-    usage: lkb chart GRAMMAR, with options\n\
     \x20 chart GRAMMAR          for each line of the input the words that no entry covers, and its packed classes\n\
     \x20 --settings NAME  a file of settings (each setting's default)\n\
     \x20 --edges N        the most packed classes of a line, 1 to 20000 (5000)\n\
@@ -76,20 +74,18 @@ const CHART: &[u8] = b"\
     \x20 --unary N        the most unary rules one over another, 0 to 32 (8)\n\
     \x20 --workers N      how many workers fill a chart, or answer lines, 1 to 64 (1); no answer depends on it\n\
     \x20 --lattice        each line writes a lattice, FROM:TO:WORD for each step (a line is its words)\n\
-    \x20 --verbose        tells where and why files have a fault, and the unknown words of a line without a tree (neither)\n\
+    \x20 --verbose        tells where and why files have a fault, and, in parse, the unknown words of lines without a tree (neither)\n\
 ";
 
 const EXPLAIN: &[u8] = b"\
-    usage: lkb explain GRAMMAR, with options\n\
     \x20 explain GRAMMAR        for each tree of the input whether it is licensed, and if not, where it fails and why\n\
     \x20 --settings NAME  a file of settings (each setting's default)\n\
     \x20 --workers N      how many workers fill a chart, or answer lines, 1 to 64 (1); no answer depends on it\n\
     \x20 --mrs            each tree that is listed or licensed is followed by its MRS (no MRSs)\n\
-    \x20 --verbose        tells where and why files have a fault, and the unknown words of a line without a tree (neither)\n\
+    \x20 --verbose        tells where and why files have a fault, and, in parse, the unknown words of lines without a tree (neither)\n\
 ";
 
 const GENERATE: &[u8] = b"\
-    usage: lkb generate GRAMMAR, with options\n\
     \x20 generate GRAMMAR       for each MRS of the input the number of its packed classes, and all its sentences\n\
     \x20 --settings NAME  a file of settings (each setting's default)\n\
     \x20 --edges N        the most packed classes of a line, 1 to 20000 (5000)\n\
@@ -98,32 +94,28 @@ const GENERATE: &[u8] = b"\
     \x20 --unary N        the most unary rules one over another, 0 to 32 (8)\n\
     \x20 --empty N        the most words without a predicate in a generated sentence, 0 to 16 (4)\n\
     \x20 --workers N      how many workers fill a chart, or answer lines, 1 to 64 (1); no answer depends on it\n\
-    \x20 --verbose        tells where and why files have a fault, and the unknown words of a line without a tree (neither)\n\
+    \x20 --verbose        tells where and why files have a fault, and, in parse, the unknown words of lines without a tree (neither)\n\
 ";
 
 const TYPES: &[u8] = b"\
-    usage: lkb types GRAMMAR, with options\n\
     \x20 types GRAMMAR          the completed types, each with its immediate supertypes\n\
     \x20 --settings NAME  a file of settings (each setting's default)\n\
-    \x20 --verbose        tells where and why files have a fault, and the unknown words of a line without a tree (neither)\n\
+    \x20 --verbose        tells where and why files have a fault, and, in parse, the unknown words of lines without a tree (neither)\n\
 ";
 
 const CHECK: &[u8] = b"\
-    usage: lkb check GRAMMAR, with options\n\
     \x20 check GRAMMAR          one line that counts types, features, entries, rules and roots\n\
     \x20 --settings NAME  a file of settings (each setting's default)\n\
-    \x20 --verbose        tells where and why files have a fault, and the unknown words of a line without a tree (neither)\n\
+    \x20 --verbose        tells where and why files have a fault, and, in parse, the unknown words of lines without a tree (neither)\n\
 ";
 
 const EXPAND: &[u8] = b"\
-    usage: lkb expand GRAMMAR NAME, with options\n\
     \x20 expand GRAMMAR NAME    the structure of a type, entry, rule or root: a line for each path\n\
     \x20 --settings NAME  a file of settings (each setting's default)\n\
-    \x20 --verbose        tells where and why files have a fault, and the unknown words of a line without a tree (neither)\n\
+    \x20 --verbose        tells where and why files have a fault, and, in parse, the unknown words of lines without a tree (neither)\n\
 ";
 
 const SELF_TEST: &[u8] = b"\
-    usage: lkb self-test NUMBER SIZE, with options\n\
     \x20 self-test NUMBER SIZE  the workload of NUMBER with SIZE lines (1 to 1000), parsed and summed up in a line\n\
     \x20 --edges N        the most packed classes of a line, 1 to 20000 (5000)\n\
     \x20 --readings N     the most trees of a line, or the most readings of an MRS, 1 to 100000 (10000)\n\
@@ -133,7 +125,6 @@ const SELF_TEST: &[u8] = b"\
 ";
 
 const BATCH: &[u8] = b"\
-    usage: lkb batch GRAMMAR PROFILE, with options\n\
     \x20 batch GRAMMAR PROFILE  each item of a profile compared with what the grammar gives, and a summary\n\
     \x20 --settings NAME  a file of settings (each setting's default)\n\
     \x20 --edges N        the most packed classes of a line, 1 to 20000 (5000)\n\
@@ -141,22 +132,20 @@ const BATCH: &[u8] = b"\
     \x20 --lexical N      the most lexical rules over an entry, 0 to 15 (7)\n\
     \x20 --unary N        the most unary rules one over another, 0 to 32 (8)\n\
     \x20 --workers N      how many workers fill a chart, or answer lines, 1 to 64 (1); no answer depends on it\n\
-    \x20 --verbose        tells where and why files have a fault, and the unknown words of a line without a tree (neither)\n\
+    \x20 --verbose        tells where and why files have a fault, and, in parse, the unknown words of lines without a tree (neither)\n\
 ";
 
 const SCOPE: &[u8] = b"\
-    usage: lkb scope, with options\n\
     \x20 scope                  for each MRS of the input the number of its scoped readings, and all of them\n\
     \x20 --readings N     the most trees of a line, or the most readings of an MRS, 1 to 100000 (10000)\n\
     \x20 --workers N      how many workers fill a chart, or answer lines, 1 to 64 (1); no answer depends on it\n\
 ";
 
 const TRANSFER: &[u8] = b"\
-    usage: lkb transfer RULES, with options\n\
     \x20 transfer RULES         for each MRS of the input what the rules of RULES make of it, and in how many steps\n\
     \x20 --settings NAME  a file of settings (each setting's default)\n\
     \x20 --workers N      how many workers fill a chart, or answer lines, 1 to 64 (1); no answer depends on it\n\
-    \x20 --verbose        tells where and why files have a fault, and the unknown words of a line without a tree (neither)\n\
+    \x20 --verbose        tells where and why files have a fault, and, in parse, the unknown words of lines without a tree (neither)\n\
 ";
 
 // Help on `parse`.

@@ -3,7 +3,7 @@ use Rattle.std.specs.Prelude.{ℕ, ◌≡◌, Bool, List}
 use Rattle.mrs_model.specs.Meanings.{Meaning}
 use Rattle.generate_model.specs.Sentences.{GenAnswer}
 use Rattle.generate_commands.specs.Answers.{IsAnswerTo}
-use Rattle.generate_commands.specs.Reports.{answer_lines, is_refused}
+use Rattle.sentence_reports.specs.Reports.{answer_lines, is_refused}
 use Rattle.generate_commands.specs.Contributing.{speaker_of, bounds_of}
 use Rattle.generate_commands.specs.declared.answering.Generator.{Generator}
 

@@ -8,6 +8,11 @@ pub record AreWithin (nodes : List NodeTree) : Type 0 where
   pub edges : (n : ℕ) (e : EdgeTree) → n < length nodes → Has e (node_at nodes n).edges → e.to < length nodes
   pub near : (rules : List ℕ) (n : ℕ) → n < length nodes → Runs nodes rules n 0 → (node_at nodes n).distance ≤ length rules
 
+-- a node of such a graph, from which a search outwards may start
+pub record IsStart (nodes : List NodeTree) (node : ℕ) : Type 0 where
+  pub within : AreWithin nodes
+  pub there : node < length nodes
+
 -- at most so many rules by which edges lead from a node to node 0, with what is made of an entry and them
 abbrev pub IsRouteOf : {V : Type 0} → List NodeTree → (ℕ → List ℕ → V → Type 0) → ℕ → ℕ → ℕ → List ℕ → V → Type 0
 IsRouteOf nodes A depth start entry rules v = Runs nodes rules start 0 × A entry rules v × (length rules ≤ depth)

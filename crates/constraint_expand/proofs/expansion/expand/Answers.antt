@@ -8,14 +8,15 @@ use Rattle.fs_model.specs.Claims.{IsBare}
 use Rattle.fs_unify.specs.Rules.{Grammar, IsGrammar, system_of}
 use Rattle.constraint_expand.specs.Systems.{settled_of, words_of, IsSystemOf}
 use Rattle.constraint_expand.specs.Books.{AreConstraints}
-use Rattle.constraint_expand.specs.Shaped.{IsFaultyAmongInstances}
-use Rattle.constraint_expand.specs.Faults.{IsFaultOf}
+use Rattle.constraint_expand.specs.Shaped.{HasNoShape, IsFaultyAmongInstances}
+use Rattle.constraint_expand.specs.Faults.{HasNoStructure, IsFaultOf}
+use Rattle.constraint_expand.specs.Statements.{defines_instance, HoldsOfNone, IsNowhere}
 use Rattle.constraint_expand.specs.Found.{IsIntroduced}
 use Rattle.constraint_expand.proofs.FirstLemmas.{placed_within}
 use Rattle.constraint_expand.proofs.MissingLemmas.{at_exit}
 use Rattle.constraint_expand.proofs.FaultLemmas.{early_fault}
 use Rattle.constraint_expand.proofs.ExpandLemmas.{facts_defined}
-use Rattle.constraint_expand.proofs.BookLemmas.{all_covered, all_in_range, fault_of_types, fault_of_instances, book_is}
+use Rattle.constraint_expand.proofs.BookLemmas.{all_covered, all_in_range, fault_of_types, fault_of_instances, all_shaped, book_is}
 use Rattle.constraint_expand.proofs.expansion.expand.Goals as goal
 
 pub system_with-requires-clause-introduced : goal.system_with-requires-clause-introduced
@@ -88,7 +89,7 @@ returns-in_err-instances-clause-fault c =
     let again = texts c.deref-2.result.now in
     let sys' = subst (λ (l : List Name). IsSystemOf types s ps l g) (ap texts (c.deref.ensures.value ∙ sym c.deref-2.ensures.value)) sys in
     let e = c.in_err-instances.field-0.0 in
-    let fault = subst (λ (h : Grammar). IsFaultyAmongInstances h (words_of h.types s.lists again) ps e) c.in_ok-constraints.ensures.same c.in_err-instances.ensures.fault in
+    let fault = subst (λ (h : Grammar). IsFaultyAmongInstances h s.node_limit (words_of h.types s.lists again) ps e) c.in_ok-constraints.ensures.same c.in_err-instances.ensures.fault in
     at_exit (IsFaultOf types s ps) c.from_residual-in_err-instances.result e c.from_residual-in_err-instances.ensures.1
     (fault_of_instances types s ps again g c.requires sys' e c.in_ok-feats.ensures.introduced.known c.in_ok-constraints.ensures.all fault)
 
@@ -111,9 +112,15 @@ returns-clause-book c =
       instances = c.in_ok-instances.instances;
       names = c.in_ok-names.names;
     } in
+    let g = c.in_ok-system.system in
+    let again = texts c.deref-2.result.now in
+    let shapes = subst (λ (h : Grammar). HoldsOfNone defines_instance ps (HasNoShape h s.node_limit (words_of h.types s.lists again))) c.in_ok-constraints.ensures.same c.in_ok-instances.ensures.all in
+    let has = all_shaped types s ps feats g c.requires c.in_ok-system.ensures.system c.in_ok-constraints.ensures.all
+    (subst (λ (l : List Name). HoldsOfNone defines_instance ps (HasNoShape g s.node_limit (words_of g.types s.lists l))) (ap texts (c.deref-2.ensures.value ∙ sym c.deref.ensures.value)) shapes) in
     book_is c.args.types (settled_of c.args.names.now) (map placed_of c.args.statements.now) b (texts c.deref.result.now) (texts c.deref-2.result.now)
     (texts c.deref-3.result.now) c.types-2.result.now (ap texts c.deref.ensures.value) (ap texts c.deref-2.ensures.value) (ap texts c.deref-3.ensures.value) c.types-2.ensures
     c.in_ok-feats.ensures.introduced.known (subst (IsSystemOf types s ps feats) back c.in_ok-system.ensures.system) (subst IsGrammar back c.in_ok-system.ensures.in_range)
     (subst (λ (g : Grammar). IsBare (system_of g)) back c.in_ok-system.ensures.bare)
+    (subst (λ (g : Grammar). IsNowhere ps (HasNoStructure g s feats)) back has)
     (subst (λ (g : Grammar). AreConstraints g c.in_ok-constraints.constraints.items) back c.in_ok-constraints.ensures.constraints)
     c.in_ok-instances.ensures.instances c.in_ok-names.ensures

@@ -7,7 +7,7 @@ use Rattle.grammar_files.specs.Placings.{placed_of}
 use Rattle.constraint_expand.specs.Kinds.{picks}
 use Rattle.constraint_expand.specs.Features.{uses_in}
 use Rattle.constraint_expand.specs.Found.{with_each, features_under}
-use Rattle.constraint_expand.proofs.ListLemmas.{flat_map-map, flat_map-if}
+use Rattle.type_facts.proofs.ListLemmas.{flat_map-map, flat_map-if}
 use Rattle.constraint_expand.proofs.NameLemmas.{each_step, map-flat_map}
 use Rattle.constraint_expand.proofs.features.add_kind.Goals as goal
 

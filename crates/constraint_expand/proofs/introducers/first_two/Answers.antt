@@ -1,7 +1,7 @@
 use Rattle.std.proofs.Common.{◌<◌, ◌≤◌, inl, inr, length, slice_index_or, ap, arith}
 use Rattle.type_hierarchy.specs.declared.types.Ty.{Ty}
 use Rattle.constraint_expand.specs.Introducers.{numbers_of}
-use Rattle.constraint_expand.proofs.ListLemmas.{true_not_false}
+use Rattle.type_facts.proofs.ListLemmas.{true_not_false}
 use Rattle.constraint_expand.proofs.IntroducerLemmas.{writer_at, read_is, two_begin, two_taken, two_passed, two_all, two_same}
 use Rattle.constraint_expand.proofs.introducers.first_two.Goals as goal
 use Rattle.constraint_expand.proofs.introducers.first_two.Goals.{then-t-b+then-t-a+then-is_most_general, else-t-b, else-t-b-via-then-t-b+then-t-a+else-is_most_general, else-t-b-via-then-t-b+else-t-a, else-t-b-via-else-t-b}

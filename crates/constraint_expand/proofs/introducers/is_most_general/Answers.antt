@@ -2,7 +2,7 @@ use Rattle.std.proofs.Common.{◌≡◌, ◌<◌, ◌∙◌, true, length, slice
 use Rattle.std.proofs.lemmas.Bool.{false≢true}
 use Rattle.type_hierarchy.specs.declared.types.Ty.{Ty}
 use Rattle.type_hierarchy.specs.Table.{is_below}
-use Rattle.constraint_expand.proofs.ListLemmas.{true_not_false, each_next}
+use Rattle.type_facts.proofs.ListLemmas.{true_not_false, each_next}
 use Rattle.constraint_expand.proofs.IntroducerLemmas.{writer_within, writer_at, read_is}
 use Rattle.constraint_expand.proofs.introducers.is_most_general.Goals as goal
 use Rattle.constraint_expand.proofs.introducers.is_most_general.Goals.{else-writer-t-via-then-writer-t+else-at_or_below, else-writer-t-via-else-writer-t}

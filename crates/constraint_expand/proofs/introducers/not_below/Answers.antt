@@ -1,7 +1,7 @@
 use Rattle.std.proofs.Common.{◌≡◌, ◌<◌, ◌∙◌, true, length, slice_index_or, sym, arith}
 use Rattle.type_hierarchy.specs.declared.types.Ty.{Ty}
 use Rattle.type_hierarchy.specs.Table.{is_below}
-use Rattle.constraint_expand.proofs.ListLemmas.{each_next}
+use Rattle.type_facts.proofs.ListLemmas.{each_next}
 use Rattle.constraint_expand.proofs.IntroducerLemmas.{writer_at, read_is}
 use Rattle.constraint_expand.proofs.introducers.not_below.Goals as goal
 

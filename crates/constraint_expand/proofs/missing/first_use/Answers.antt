@@ -4,7 +4,7 @@ use Rattle.body_facts.specs.declared.brackets.Use.{Use}
 use Rattle.body_facts.specs.BracketUses.{used_of}
 use Rattle.constraint_expand.specs.Faults.{no_use, use_at}
 use Rattle.constraint_expand.specs.Found.{HasNoWriter}
-use Rattle.constraint_expand.proofs.ListLemmas.{true_not_false}
+use Rattle.type_facts.proofs.ListLemmas.{true_not_false}
 use Rattle.constraint_expand.proofs.MissingLemmas.{IsSoFar, so_far_taken, so_far_without, so_far_kept, best_all}
 use Rattle.constraint_expand.proofs.missing.first_use.Goals as goal
 use Rattle.constraint_expand.proofs.missing.first_use.Goals.{then-has_no_writer+then-is_before, else-has_no_writer, else-has_no_writer-via-then-has_no_writer+else-is_before, else-has_no_writer-via-else-has_no_writer}

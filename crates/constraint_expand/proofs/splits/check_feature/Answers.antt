@@ -1,6 +1,6 @@
 use Rattle.std.proofs.Common.{map}
 use Rattle.grammar_files.specs.Placings.{placed_of}
-use Rattle.constraint_expand.specs.Notes.{noted}
+use Rattle.type_facts.specs.Notes.{noted}
 use Rattle.constraint_expand.proofs.IntroducerLemmas.{all_writers}
 use Rattle.constraint_expand.proofs.SplitLemmas.{split_noted}
 use Rattle.constraint_expand.proofs.splits.check_feature.Goals as goal

@@ -5,7 +5,7 @@ use Rattle.fs_model.specs.Claims.{Has}
 use Rattle.type_hierarchy.specs.Decls.{texts}
 use Rattle.grammar_files.specs.Placings.{placed_of}
 use Rattle.constraint_expand.specs.Found.{numbers_noted, HasNoted, IsSplitAmong}
-use Rattle.constraint_expand.proofs.ListLemmas.{Has-read, Has-map}
+use Rattle.type_facts.proofs.ListLemmas.{Has-read, Has-map}
 use Rattle.constraint_expand.proofs.NumberLemmas.{text_at}
 use Rattle.constraint_expand.proofs.MissingLemmas.{at_exit}
 use Rattle.constraint_expand.proofs.SplitLemmas.{split_here, introduced_next, introduced_all}

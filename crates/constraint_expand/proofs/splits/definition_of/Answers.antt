@@ -2,7 +2,7 @@ use Rattle.std.proofs.Common.{◌≡◌, ◌<◌, true, length, map, Some, sym, 
 use Rattle.type_hierarchy.specs.Named.{type_named}
 use Rattle.grammar_files.specs.Placings.{placed_of}
 use Rattle.constraint_expand.specs.Statements.{defines_type, name_of}
-use Rattle.constraint_expand.proofs.ListLemmas.{true_not_false}
+use Rattle.type_facts.proofs.ListLemmas.{true_not_false}
 use Rattle.constraint_expand.proofs.FirstLemmas.{at_placed, none_next}
 use Rattle.constraint_expand.proofs.splits.definition_of.Goals as goal
 

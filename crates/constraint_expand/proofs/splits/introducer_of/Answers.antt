@@ -1,4 +1,4 @@
-use Rattle.constraint_expand.specs.Notes.{noted}
+use Rattle.type_facts.specs.Notes.{noted}
 use Rattle.constraint_expand.proofs.IntroducerLemmas.{all_writers}
 use Rattle.constraint_expand.proofs.splits.introducer_of.Goals as goal
 

@@ -6,7 +6,7 @@ use Rattle.fs_model.specs.Claims.{Has}
 use Rattle.type_hierarchy.specs.Decls.{texts}
 use Rattle.constraint_expand.specs.Introducers.{numbers_of, IsIntroducer}
 use Rattle.constraint_expand.specs.Found.{numbers_noted}
-use Rattle.constraint_expand.proofs.ListLemmas.{Has-read, Has-map}
+use Rattle.type_facts.proofs.ListLemmas.{Has-read, Has-map}
 use Rattle.constraint_expand.proofs.SplitLemmas.{zip_next}
 use Rattle.constraint_expand.proofs.splits.introducers_of.Goals as goal
 

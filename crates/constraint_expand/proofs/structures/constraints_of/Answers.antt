@@ -26,13 +26,13 @@ known_constraint-requires-clause-defined c =
     let t = c.loop-t.t in
     let ps = map placed_of c.args.statements.now in
     let lt : c.loop-t.t < completed_count c.args.system.now.types = omega (arith, c.loop-t-test.true, c.completed_count-completed.ensures.count) in
-    subst (λ (h : Grammar). HasNoConstraint h t → IsDefined h.types ps t) (sym c.loop-t.invariant.same)
-    (λ none. first_is_defined g ps t c.closure_laws.ensures.falls c.completed_count-completed.ensures.laws c.requires.facts (c.requires.covered t lt) none c.loop-t.invariant.so_far.none)
+    subst (λ (h : Grammar). HasNoConstraint h c.args.limit t → IsDefined h.types ps t) (sym c.loop-t.invariant.same)
+    (λ none. first_is_defined g c.args.limit ps t c.closure_laws.ensures.grows c.closure_laws.ensures.falls c.completed_count-completed.ensures.laws c.requires.facts (c.requires.covered t lt) none c.loop-t.invariant.so_far.none)
 
 pub loop-t-init : goal.loop-t-init
 loop-t-init c = record {
   same = refl;
-  so_far = subst (AreConstraintsTo c.args.system.now 0) (sym c.new-graphs.ensures.items) (constraints_none c.args.system.now);
+  so_far = subst (AreConstraintsTo c.args.system.now c.args.limit 0) (sym c.new-graphs.ensures.items) (constraints_none c.args.system.now c.args.limit);
 }
 
 pub loop-t-preserved : goal.loop-t-preserved
@@ -41,14 +41,15 @@ loop-t-preserved c =
     let t = c.loop-t.t in
     record {
       same = c.in_ok-graph.ensures.same ∙ c.loop-t.invariant.same;
-      so_far = constraints_more g t c.loop-t.graphs.items c.push.new.self.items c.in_ok-graph.graph c.in_ok-push.ensures.items c.loop-t.invariant.so_far
-          (subst (λ (h : Grammar). IsConstraintOf h t c.in_ok-graph.graph) c.loop-t.invariant.same c.in_ok-graph.ensures.constraint);
+      so_far = constraints_more g c.args.limit t c.loop-t.graphs.items c.push.new.self.items c.in_ok-graph.graph c.in_ok-push.ensures.items c.loop-t.invariant.so_far
+          (subst (λ (h : Grammar). IsConstraintOf h t c.in_ok-graph.graph) c.loop-t.invariant.same c.in_ok-graph.ensures.constraint)
+          (subst (λ (h : Grammar). HasNoConstraint h c.args.limit t → ⊥) c.loop-t.invariant.same c.in_ok-graph.ensures.some);
     }
 
 pub returns-clause-constraints : goal.returns-clause-constraints
 returns-clause-constraints c =
     let past : c.loop-t.t ≡ completed_count c.args.system.now.types = omega (arith, c.loop-t-test.false, c.completed_count-completed.ensures.count) in
-    constraints_all c.args.system.now c.loop-t.t c.loop-t.graphs.items past c.loop-t.invariant.so_far
+    constraints_all c.args.system.now c.args.limit c.loop-t.t c.loop-t.graphs.items past c.loop-t.invariant.so_far
 
 pub returns-clause-all : goal.returns-clause-all
 returns-clause-all c = λ u lt.
@@ -62,6 +63,6 @@ pub returns-in_err-graph-clause-fault : goal.returns-in_err-graph-clause-fault
 returns-in_err-graph-clause-fault c =
     let ps = map placed_of c.args.statements.now in
     let e = c.in_err-graph.field-0.0 in
-    let found = subst (λ (h : Grammar). (e ≡ NoMemory) ⊎ (HasNoConstraint h c.loop-t.t × IsFaultyType h.types ps c.loop-t.t e)) c.loop-t.invariant.same c.in_err-graph.ensures.fault in
-    at_exit (IsFaultyAmongTypes c.args.system.now ps) c.from_residual.result e c.from_residual.ensures.1
-    (faulty_first c.args.system.now ps c.loop-t.t e found c.loop-t.invariant.so_far.none)
+    let found = subst (λ (h : Grammar). (e ≡ NoMemory) ⊎ (HasNoConstraint h c.args.limit c.loop-t.t × IsFaultyType h.types ps c.loop-t.t e)) c.loop-t.invariant.same c.in_err-graph.ensures.fault in
+    at_exit (IsFaultyAmongTypes c.args.system.now c.args.limit ps) c.from_residual.result e c.from_residual.ensures.1
+    (faulty_first c.args.system.now c.args.limit ps c.loop-t.t e found c.loop-t.invariant.so_far.none)

@@ -6,5 +6,5 @@ abbrev pub invariant-loop-t : goal.invariant-loop-t
 invariant-loop-t l =
     record {
       same : l.system ≡ l.fn.system;
-      so_far : AreConstraintsTo l.fn.system l.t l.graphs.items;
+      so_far : AreConstraintsTo l.fn.system l.fn.limit l.t l.graphs.items;
     }

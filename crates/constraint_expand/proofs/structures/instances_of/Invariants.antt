@@ -12,5 +12,5 @@ abbrev pub invariant-loop-i : goal.invariant-loop-i
 invariant-loop-i l =
     record {
       shaped : AllZip (IsInstanceBy l.system (table_of l.words)) (filter defines_instance (take l.i (map placed_of l.statements))) (map instance_of l.instances.items);
-      none : HasNoneBefore defines_instance (map placed_of l.statements) (HasNoShape l.system (table_of l.words)) l.i;
+      none : HasNoneBefore defines_instance (map placed_of l.statements) (HasNoShape l.system l.limit (table_of l.words)) l.i;
     }

@@ -5,7 +5,7 @@ use Rattle.body_facts.specs.declared.brackets.Use.{Use}
 use Rattle.body_facts.specs.BracketUses.{used_of}
 use Rattle.constraint_expand.specs.Features.{is_writing}
 use Rattle.constraint_expand.specs.Found.{numbers_noted}
-use Rattle.constraint_expand.proofs.ListLemmas.{push_step}
+use Rattle.type_facts.proofs.ListLemmas.{push_step}
 use Rattle.constraint_expand.proofs.WriterLemmas.{writings_flat}
 use Rattle.constraint_expand.proofs.writers.note_uses.Goals as goal
 

@@ -4,7 +4,7 @@ use Rattle.std.proofs.lemmas.List.{take_all}
 use Rattle.body_facts.specs.Writing.{list_names}
 use Rattle.grammar_files.specs.Placings.{placed_of}
 use Rattle.constraint_expand.specs.Found.{writings_by}
-use Rattle.constraint_expand.proofs.ListLemmas.{push_step}
+use Rattle.type_facts.proofs.ListLemmas.{push_step}
 use Rattle.constraint_expand.proofs.WriterLemmas.{writers_flat}
 use Rattle.constraint_expand.proofs.writers.writers_by_feature.Goals as goal
 

@@ -22,6 +22,7 @@ returns-in-Ok-clause-typed c = record {
   system =
       subst (λ (ps : List Placed). IsSystemOf c.args.types (settled_of c.args.names.now) (map placed_of ps) (texts c.in-Ok.typed.feats.items) c.in-Ok.typed.system) c.deref.ensures.value
       c.in-Ok.ensures.system;
+  bare = c.in-Ok.ensures.bare;
 }
 
 pub returns-in-Err-clause-read : goal.returns-in-Err-clause-read

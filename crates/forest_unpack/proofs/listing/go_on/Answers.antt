@@ -2,6 +2,7 @@ use Rattle.std.proofs.Common.{◌<◌, arith, refl, subst, sym, length, true}
 use Rattle.chart_core.specs.Kept.{core_of, rows_in}
 use Rattle.forest_unpack.specs.Plans.{row_of}
 use Rattle.forest_unpack.specs.Inner.Memos.{known_in}
+use Rattle.forest_unpack.proofs.Filling.{gave_on}
 use Rattle.forest_unpack.proofs.Memos.{stays_same, stays_on, extends_same}
 use Rattle.forest_unpack.proofs.Waiting.{daughters_low, full, list_same, row_fits, row_gone, waits_for, whole}
 use Rattle.forest_unpack.proofs.listing.go_on.Goals as goal
@@ -45,11 +46,12 @@ loop-list-preserved g c =
     let list = c.loop-list.list in
     let row = c.index-row.result.now in
     let low : list.next < length list.group.items = omega (arith, c.loop-list-test.true, c.len.ensures) in
-    let added = c.in_ok-add_row.ensures in (
+    let added = c.in_ok-full.ensures in
+    let gave = gave_on value w c.in_ok-full.full c.note.new.cut c.note.ensures.full c.args.table.now row list.made.items c.add_row.new.made.items added.made in (
       c.loop-list.invariant.0,
-      λ x. added.cut (c.loop-list.invariant.1 x),
+      λ x. c.note.ensures.before (c.loop-list.invariant.1 x),
       stays_on value w c.args.memo.now c.loop-list.memo c.add_row.new.memo c.args.table.now c.args.table.now c.loop-list.invariant.2 added.ready,
-      row_gone value w made c.loop-list.cut c.add_row.new.cut added.cut known (known_in value c.add_row.new.memo) added.ready.known c.args.table.now list row c.add_row.new.made low c.index-row.ensures c.loop-list.invariant.3 added.made added.numbered,
+      row_gone value w made c.loop-list.cut c.note.new.cut c.note.ensures.before known (known_in value c.add_row.new.memo) added.ready.known c.args.table.now list row c.add_row.new.made low c.index-row.ensures c.loop-list.invariant.3 gave added.numbered,
     )
 
 pub returns-then-len-most-clause-list : goal.returns-then-len-most-clause-list

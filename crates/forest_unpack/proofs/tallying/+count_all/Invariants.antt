@@ -10,6 +10,6 @@ decreases-count_all g l = length l.rest.now
 
 abbrev pub invariant-loop-class : goal.invariant-loop-class
 invariant-loop-class g l =
-    Learned (g.F.Fulls.value l.fulls) (g.F.Fulls.wholes l.fulls) l.fn.memo l.memo
-    × All (IsFit (g.F.Fulls.value l.fulls) (g.F.Fulls.wholes l.fulls) (g.F.Fulls.named l.fulls) (known_in (g.F.Fulls.value l.fulls) l.memo)) l.made.items
-    × EachOf (g.F.Fulls.value l.fulls) (g.F.Fulls.wholes l.fulls) l.rule (full_values (g.F.Fulls.value l.fulls) l.chosen) l.times (map (classes_at (g.F.Fulls.value l.fulls) l.table) l.more) l.class-items l.class-index l.fn.made.items l.made.items
+    Learned (g.F.Fulls.value l.by.fulls.now) (g.F.Fulls.wholes l.by.fulls.now) l.fn.memo l.memo
+    × All (IsFit (g.F.Fulls.value l.by.fulls.now) (g.F.Fulls.wholes l.by.fulls.now) (g.F.Fulls.named l.by.fulls.now) (known_in (g.F.Fulls.value l.by.fulls.now) l.memo)) l.made.items
+    × EachOf (g.F.Fulls.value l.by.fulls.now) (g.F.Fulls.wholes l.by.fulls.now) l.by.rule (full_values (g.F.Fulls.value l.by.fulls.now) l.picked.chosen) l.picked.times (map (classes_at (g.F.Fulls.value l.by.fulls.now) l.by.table.now) l.more) l.class-items l.class-index l.fn.made.items l.made.items

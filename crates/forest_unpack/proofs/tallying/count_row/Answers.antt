@@ -6,6 +6,7 @@ use Rattle.forest_unpack.specs.Plans.{row_of}
 use Rattle.forest_unpack.specs.Inner.Classes.{IsFit, classes_at, classes_of}
 use Rattle.forest_unpack.specs.Inner.Memos.{known_in}
 use Rattle.forest_unpack.proofs.Grouping.{on_ok}
+use Rattle.forest_unpack.proofs.Filling.{whole_fits}
 use Rattle.forest_unpack.proofs.Memos.{value_at}
 use Rattle.forest_unpack.proofs.Products.{leaf_fit, leaf_named, leaf_pushed, leaf_raised, more_fit, no_fulls, number_learned, whole_counts}
 use Rattle.forest_unpack.proofs.Raising.{fit_on}
@@ -77,3 +78,13 @@ returns-in-Whole-clause-counts g c =
     let value = g.F.Fulls.value c.args.plan.now.fulls.now in
     let w = g.F.Fulls.wholes c.args.plan.now.fulls.now in
     on_ok c.count_all.result (λ all. whole_counts value w c.args.row.now c.in-Whole.rule c.in-Whole.daughters c.deref.result.now (full_values value c.nothing-none.result) c.args.table.now c.args.made.now.items c.count_all.new.made.items c.in-Whole.is c.deref.ensures.value (no_fulls value w c.nothing-none.result c.nothing-none.ensures.items) all) c.count_all.ensures.counts
+
+pub count_all-requires-clause-rule : goal.count_all-requires-clause-rule
+count_all-requires-clause-rule g c =
+    let fulls = c.args.plan.now.fulls.now in
+    (whole_fits (g.F.Fulls.named fulls) (g.F.Fulls.ruled fulls) _ c.args.plan.now.ranks.now c.requires.row.0 c.args.row.now c.in-Whole.rule c.in-Whole.daughters _ c.deref.result.now c.in-Whole.is c.deref.ensures.value c.nothing-none.ensures.count c.requires.row.1).0
+
+pub count_all-requires-clause-short : goal.count_all-requires-clause-short
+count_all-requires-clause-short g c =
+    let fulls = c.args.plan.now.fulls.now in
+    (whole_fits (g.F.Fulls.named fulls) (g.F.Fulls.ruled fulls) _ c.args.plan.now.ranks.now c.requires.row.0 c.args.row.now c.in-Whole.rule c.in-Whole.daughters _ c.deref.result.now c.in-Whole.is c.deref.ensures.value c.nothing-none.ensures.count c.requires.row.1).1

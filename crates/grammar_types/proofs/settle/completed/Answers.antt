@@ -1,5 +1,5 @@
 use Rattle.std.proofs.Common.{subst}
-use Rattle.grammar_types.specs.Completion.{IsCompleteFault}
+use Rattle.glb_completion.specs.Completion.{IsCompleteFault}
 use Rattle.grammar_files.specs.WalkViews.{walked_of}
 use Rattle.grammar_types.proofs.SettleFaults.{too_many_is}
 use Rattle.grammar_types.proofs.settle.completed.Goals as goal

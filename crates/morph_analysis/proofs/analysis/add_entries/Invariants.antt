@@ -7,4 +7,4 @@ use Rattle.morph_analysis.proofs.analysis.add_entries.Given as goal
 
 abbrev pub invariant-loop-entry : goal.invariant-loop-entry
 invariant-loop-entry g l =
-    AddsThose (OfSome (λ a. IsOf (λ e. e ≡ a) (IsRouteOf l.graph (g.M.Maker.makes l.maker) l.depth l.node) (λ k. Has k l.froms.items) (map string_bytes l.front ++ string_bytes l.step.word ∷ []) l.step.to) (take l.entry-index l.entries)) (map (made_of (g.M.Maker.value l.maker)) l.initial.out.items) (map (made_of (g.M.Maker.value l.maker)) l.out.items)
+    AddsThose (OfSome (λ a. IsOf (λ e. e ≡ a) (IsRouteOf l.stem.graph.now (g.M.Maker.makes l.search.maker.now) l.search.depth l.stem.node) (λ k. Has k l.froms.items) (map string_bytes l.stem.front.now ++ string_bytes l.stem.step.now.word ∷ []) l.stem.step.now.to) (take l.entry-index l.entries)) (map (made_of (g.M.Maker.value l.search.maker.now)) l.initial.out.items) (map (made_of (g.M.Maker.value l.search.maker.now)) l.out.items)

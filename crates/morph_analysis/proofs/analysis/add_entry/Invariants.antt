@@ -6,4 +6,4 @@ use Rattle.morph_analysis.proofs.analysis.add_entry.Given as goal
 
 abbrev pub invariant-loop-from : goal.invariant-loop-from
 invariant-loop-from g l =
-    AddsThose (OfSome (λ m. IsOf (λ e. e ≡ l.entry) (IsRouteOf l.graph (g.M.Maker.makes l.maker) l.depth l.node) (λ k. k ≡ m) (map string_bytes l.front ++ string_bytes l.step.word ∷ []) l.step.to) (take l.from-index l.froms)) (map (made_of (g.M.Maker.value l.maker)) l.initial.out.items) (map (made_of (g.M.Maker.value l.maker)) l.out.items)
+    AddsThose (OfSome (λ m. IsOf (λ e. e ≡ l.entry) (IsRouteOf l.stem.graph.now (g.M.Maker.makes l.search.maker.now) l.search.depth l.stem.node) (λ k. k ≡ m) (map string_bytes l.stem.front.now ++ string_bytes l.stem.step.now.word ∷ []) l.stem.step.now.to) (take l.from-index l.froms)) (map (made_of (g.M.Maker.value l.search.maker.now)) l.initial.out.items) (map (made_of (g.M.Maker.value l.search.maker.now)) l.out.items)

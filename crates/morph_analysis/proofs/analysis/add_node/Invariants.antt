@@ -7,4 +7,4 @@ use Rattle.morph_analysis.proofs.analysis.add_node.Given as goal
 
 abbrev pub invariant-loop-group : goal.invariant-loop-group
 invariant-loop-group g l =
-    AddsThose (OfSome (OfWords l.graph (g.M.Maker.makes l.maker) l.depth l.arrivals (step_of l.step) l.node) (map group_of (take l.group-index l.groups))) (map (made_of (g.M.Maker.value l.maker)) l.initial.out.items) (map (made_of (g.M.Maker.value l.maker)) l.out.items)
+    AddsThose (OfSome (OfWords l.graph (g.M.Maker.makes l.search.maker.now) l.search.depth l.search.arrivals.now (step_of l.step) l.node) (map group_of (take l.group-index l.groups))) (map (made_of (g.M.Maker.value l.search.maker.now)) l.initial.out.items) (map (made_of (g.M.Maker.value l.search.maker.now)) l.out.items)

@@ -5,4 +5,4 @@ use Rattle.morph_analysis.specs.LatticeViews.{step_of}
 use Rattle.morph_analysis.proofs.analysis.add_step.Given as goal
 
 abbrev pub invariant-loop-node : goal.invariant-loop-node
-invariant-loop-node g l = AddsThose (OfNodes l.lexicon l.graph (g.M.Maker.makes l.maker) l.depth l.arrivals (step_of l.step) l.node) (map (made_of (g.M.Maker.value l.maker)) l.initial.out.items) (map (made_of (g.M.Maker.value l.maker)) l.out.items)
+invariant-loop-node g l = AddsThose (OfNodes l.search.lexicon.now l.graph (g.M.Maker.makes l.search.maker.now) l.search.depth l.search.arrivals.now (step_of l.step) l.node) (map (made_of (g.M.Maker.value l.search.maker.now)) l.initial.out.items) (map (made_of (g.M.Maker.value l.search.maker.now)) l.out.items)

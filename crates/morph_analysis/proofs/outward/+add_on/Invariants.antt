@@ -5,9 +5,9 @@ use Rattle.morph_analysis.specs.Views.{edge_of, made_of}
 use Rattle.morph_analysis.proofs.outward.+add_on.Given as goal
 
 abbrev pub decreases-add_on : goal.decreases-add_on
-decreases-add_on g l = l.depth - length l.route.rules.items
+decreases-add_on g l = l.search.now.depth - length l.route.rules.items
 
 abbrev pub invariant-loop-edge : goal.invariant-loop-edge
 invariant-loop-edge g l =
-    AddsThose (OfSome (λ e. IsOf (λ x. x ≡ l.entry) (IsAlong l.graph (g.M.Maker.makes l.maker) l.depth l.route.rules.items e) (λ m. m ≡ l.from) (map string_bytes l.front ++ string_bytes l.step.word ∷ []) l.step.to) (map edge_of (take l.edge-index l.edge-items)))
-    (map (made_of (g.M.Maker.value l.maker)) l.initial.out.items) (map (made_of (g.M.Maker.value l.maker)) l.out.items)
+    AddsThose (OfSome (λ e. IsOf (λ x. x ≡ l.entry) (IsAlong l.stem.graph.now (g.M.Maker.makes l.search.maker.now) l.search.depth l.route.rules.items e) (λ m. m ≡ l.from) (map string_bytes l.stem.front.now ++ string_bytes l.stem.step.now.word ∷ []) l.stem.step.now.to) (map edge_of (take l.edge-index l.edge-items)))
+    (map (made_of (g.M.Maker.value l.search.maker.now)) l.initial.out.items) (map (made_of (g.M.Maker.value l.search.maker.now)) l.out.items)

@@ -9,6 +9,6 @@ use Rattle.mrs_places.proofs.lists.with_parts.Given as goal
 abbrev pub invariant-loop-k : goal.invariant-loop-k
 invariant-loop-k l = record {
   all_in : All (IsPairIn (length l.graph.types)) (pairs_of l.pairs.items);
-  there : all_there (map (look_pair l.graph (feature_of l.one) (feature_of l.two)) (placed (element_path (paths_of l.paths) (feature_of l.list)) 0 (nodes_of (take l.k l.elements))))
+  there : all_there (map (look_pair l.graph (feature_of l.feats.one.now) (feature_of l.feats.two.now)) (placed (element_path (paths_of l.paths) (feature_of l.feats.list.now)) 0 (nodes_of (take l.k l.elements))))
       ≡ Ok (pairs_of l.pairs.items);
 }

@@ -1,7 +1,7 @@
 use Rattle.std.proofs.Common.{◌≡◌, map}
 use Rattle.mrs_model.specs.Views.{meaning_of}
 use Rattle.mrs_generate.specs.Views.{answer_seen}
-use Rattle.generate_commands.specs.Reports.{answer_lines, is_refused}
+use Rattle.sentence_reports.specs.Reports.{answer_lines, is_refused}
 use Rattle.generate_commands.specs.Inner.Generators.{IsReportOf}
 use Rattle.engine.proofs.Results.{if-both}
 use Rattle.generate_commands.proofs.answering.Generator.generated.Goals as goal

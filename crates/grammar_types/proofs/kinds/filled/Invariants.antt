@@ -1,5 +1,0 @@
-use Rattle.grammar_types.proofs.KindLemmas.{HasPlacesTo}
-use Rattle.grammar_types.proofs.kinds.filled.Given as goal
-
-abbrev pub invariant-loop-i : goal.invariant-loop-i
-invariant-loop-i l = HasPlacesTo l.row l.places.items l.i

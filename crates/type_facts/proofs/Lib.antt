@@ -1,0 +1,4 @@
+pub mod ListLemmas
+pub mod Bytes
+pub mod Numbered
+pub mod RuleLemmas
