@@ -52,6 +52,12 @@ pub struct Types {
 /// More words than the row of a hierarchy has.
 const WORDS: usize = 257;
 
+/// The words of hierarchies of at most 1,024 written types.
+const FEW_WORDS: usize = 16;
+
+/// The words of hierarchies of at most 4,096 written types.
+const SOME_WORDS: usize = 64;
+
 impl Model for Types {
     ghost use Rattle.type_hierarchy.specs.Table.{TypeTable};
 
@@ -323,6 +329,24 @@ fn find_within(sets: &IndexSet<Vec<u64>>, buffer: &mut [u64], x: &[u64], y: &[u6
     find_common(sets, words, x, y)
 }
 
+// The same, with room that is made here: as little as will do, since all of it is cleared each time.
+fn find_in_room(sets: &IndexSet<Vec<u64>>, x: &[u64], y: &[u64]) -> Option<usize>
+    requires few { length x.now ≤ 257 }
+    requires same_size { length x.now ≡ length y.now }
+    ensures { (n : ℕ) → All (λ row. IsRow n row.items) sets.now.keys → IsRow n x.now → result ≡ place_of_common n sets.now.keys x.now y.now }
+{
+    if x.len() <= FEW_WORDS {
+        let mut few = [0; FEW_WORDS];
+        return find_within(sets, &mut few, x, y);
+    }
+    if x.len() <= SOME_WORDS {
+        let mut some = [0; SOME_WORDS];
+        return find_within(sets, &mut some, x, y);
+    }
+    let mut all = [0; WORDS];
+    find_within(sets, &mut all, x, y)
+}
+
 // The type of the members that two types have in common, where there are any.
 fn common_type(sets: &IndexSet<Vec<u64>>, marks: &[u64], written: u32, a: u32, b: u32) -> Option<Ty>
     requires marks { AreMarks sets.now.keys marks.now }
@@ -338,7 +362,6 @@ fn common_type(sets: &IndexSet<Vec<u64>>, marks: &[u64], written: u32, a: u32, b
     if are_disjoint_in(x, y, marks[a as usize] & marks[b as usize]) {
         return None;
     }
-    let mut buffer = [0; WORDS];
-    let place = find_within(sets, &mut buffer, x, y)?;
+    let place = find_in_room(sets, x, y)?;
     Some(Ty(place as u32))
 }

@@ -19,13 +19,13 @@ returns-then-are_disjoint_in c =
     ∙ c.are_disjoint_in.ensures.0 c.if-are_disjoint_in.true z g))
     c.requires.filled)
 
-pub find_within-requires-clause-room : goal.find_within-requires-clause-room
-find_within-requires-clause-room c =
+pub find_in_room-requires-clause-few : goal.find_in_room-requires-clause-few
+find_in_room-requires-clause-few c =
     let x = row_at_is c.args.written c.args.sets.now.keys c.args.a c.requires.rows c.requires.a_in in
     omega (arith, x.spare, c.requires.few, ap length c.row-x.ensures)
 
-pub find_within-requires-clause-same_size : goal.find_within-requires-clause-same_size
-find_within-requires-clause-same_size c =
+pub find_in_room-requires-clause-same_size : goal.find_in_room-requires-clause-same_size
+find_in_room-requires-clause-same_size c =
     let x = row_at_is c.args.written c.args.sets.now.keys c.args.a c.requires.rows c.requires.a_in in
     let y = row_at_is c.args.written c.args.sets.now.keys c.args.b c.requires.rows c.requires.b_in in
     ap length c.row-x.ensures ∙ same_size c.args.written _ _ x y ∙ sym (ap length c.row-y.ensures)
