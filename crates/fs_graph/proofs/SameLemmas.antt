@@ -1,5 +1,5 @@
 -- Two graphs that are one structure are equal.
-use Rattle.std.proofs.Common.{ℕ, suc, ◌≡◌, ◌≢◌, ◌≤◌, ◌<◌, ◌==◌, ◌&&◌, Decides, ◌⊎◌, inl, inr, Bool, true, false, cond, Option, Some, None, option_map, List, [], ◌∷◌, length, slice_index, refl, sym, ◌∙◌, ap, subst, arith, eq-eqb}
+use Rattle.std.proofs.Common.{ℕ, suc, ◌≡◌, ◌≢◌, ◌≤◌, ◌<◌, ◌==◌, ◌&&◌, Decides, ◌⊎◌, inl, inr, Bool, true, false, not, cond, Option, Some, None, option_map, List, [], ◌∷◌, length, slice_index, refl, sym, ◌∙◌, ap, subst, arith, eq-eqb}
 use Rattle.std.specs.List.{find}
 use Rattle.std.proofs.lemmas.Bool.{cases_lt, ne_eqb, eqb-true}
 use Rattle.std.proofs.lemmas.List.{ext_get_or}
@@ -7,6 +7,7 @@ use Rattle.fs_model.specs.Sources.{IsSameStructure}
 use Rattle.fs_model.specs.Numbering.{IsSameTable}
 use Rattle.fs_model.proofs.NumberingLemmas.{numbers_are_one}
 use Rattle.fs_model.proofs.StepLemmas.{same_or_other}
+use Rattle.type_hierarchy.specs.declared.types.Ty.{Ty}
 use Rattle.fs_graph.specs.declared.graph.GraphArc.{GraphArc}
 use Rattle.fs_graph.specs.GraphMap.{GraphMap, arc_to, arcs_at, type_at, table_of, reader_of, Rises, IsGraph, IsSameNode}
 use Rattle.fs_graph.specs.Visits.{feats_of}
@@ -82,17 +83,36 @@ arc_eq-Decides a b = (yes_of, λ e. subst (λ z. arc_eq a z ≡ true) e (both (e
         ap (λ z. record { feat = record { 0 = z }; to = a.to }) (eqb-true a.feat.0 b.feat.0 p.0)
         ∙ ap (λ z. record { feat = b.feat; to = record { 0 = z } }) (eqb-true a.to.0 b.to.0 p.1)
 
--- graphs whose nodes are the same
-pub same_graphs : (g h : GraphMap) → IsGraph g → IsGraph h → length g.types ≡ length h.types → ((n : ℕ) → n < length g.types → IsSameNode g h n) →
-    IsSameStructure (reader_of g) (reader_of h)
-same_graphs g h a b size nodes =
-    subst (λ z. IsSameStructure (reader_of g) (reader_of z)) equal (record {
+-- whether two types are equal
+abbrev pub ty_eq : Ty → Ty → Bool
+ty_eq a b = a.0 == b.0
+
+pub number_eq-Decides : (a b : ℕ) → Decides (a == b) (a ≡ b)
+number_eq-Decides a b = (eqb-true a b, eq-eqb a b)
+
+pub ty_eq-Decides : (a b : Ty) → Decides (ty_eq a b) (a ≡ b)
+ty_eq-Decides a b = (λ e. ap (λ z. record { 0 = z }) (eqb-true a.0 b.0 e), λ e. eq-eqb a.0 b.0 (ap (λ t. t.0) e))
+
+-- where `!=` is false, `==` is true
+pub no_unlike : {r e : Bool} → r ≡ not e → r ≡ false → e ≡ true
+no_unlike {e = true} h f = refl
+no_unlike {e = false} h f = let d : true ≡ false = sym h ∙ f in absurd cc
+
+-- equal graphs are one structure
+pub equal_graphs : {g h : GraphMap} → g ≡ h → IsSameStructure (reader_of g) (reader_of h)
+equal_graphs {g} {h} e =
+    subst (λ z. IsSameStructure (reader_of g) (reader_of z)) e (record {
       there = λ p n e. (n, e);
       there_back = λ p n e. (n, e);
       equal = λ p q n m x y z. y ∙ sym x ∙ z;
       equal_back = λ p q n m x y z. y ∙ sym x ∙ z;
       types = λ p n m x y. let e : Some n ≡ Some m = sym x ∙ y in let d : n ≡ m = cc in ap (type_at g) d;
     })
+
+-- graphs whose nodes are the same
+pub same_graphs : (g h : GraphMap) → IsGraph g → IsGraph h → length g.types ≡ length h.types → ((n : ℕ) → n < length g.types → IsSameNode g h n) →
+    IsSameStructure (reader_of g) (reader_of h)
+same_graphs g h a b size nodes = equal_graphs equal
   where
     types : g.types ≡ h.types
     types = ext_get_or 0 g.types h.types size (λ k l. (nodes k l).0)

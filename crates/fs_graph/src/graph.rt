@@ -1,6 +1,6 @@
 //! Graphs, their nodes and arcs.
 
-ghost use Rattle.std.specs.Prelude.{◌≡◌, ℕ, ◌+◌, ◌<◌, ◌≤◌, ◌^◌, ◌↔◌, length, List, map, Some, None, IsTrue, option_map};
+ghost use Rattle.std.specs.Prelude.{◌≡◌, ℕ, ◌+◌, ◌<◌, ◌≤◌, ◌^◌, ◌↔◌, length, List, map, Some, None, IsTrue, option_map, true};
 ghost use Rattle.std.specs.List.{range_with_len};
 ghost use Rattle.fs_model.specs.Sources.{IsSameStructure};
 ghost use Rattle.fs_graph.specs.Facts.{path_of};
@@ -117,6 +117,9 @@ impl Graph {
     pub fn same(&self, other: &Graph) -> bool
         ensures { IsTrue result ↔ IsSameStructure (reader_of self.now) (reader_of other.now) }
     {
+        if self.has_lists_of(other) {
+            return true;
+        }
         let nodes = self.nodes();
         if nodes != other.nodes() {
             return false;
@@ -127,6 +130,20 @@ impl Graph {
             }
         }
         true
+    }
+
+    // Whether the lists of two graphs are seen to be the same. It is asked first: most graphs that are compared are equal, and lists
+    // are gone through faster than the arcs of each node.
+    fn has_lists_of(&self, other: &Graph) -> bool
+        ensures { result ≡ true → self.now ≡ other.now }
+    {
+        if self.types.as_slice() != other.types.as_slice() {
+            return false;
+        }
+        if self.starts.as_slice() != other.starts.as_slice() {
+            return false;
+        }
+        self.arcs.as_slice() == other.arcs.as_slice()
     }
 
     // Whether a node has the same type and the same arcs in both graphs.

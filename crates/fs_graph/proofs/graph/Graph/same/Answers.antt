@@ -1,6 +1,9 @@
 use Rattle.std.proofs.Common.{refl, sym, ◌∙◌, arith}
-use Rattle.fs_graph.proofs.SameLemmas.{same_graphs, one_graph}
+use Rattle.fs_graph.proofs.SameLemmas.{equal_graphs, same_graphs, one_graph}
 use Rattle.fs_graph.proofs.graph.Graph.same.Goals as goal
+
+pub returns-then-has_lists_of : goal.returns-then-has_lists_of
+returns-then-has_lists_of c = (λ _. equal_graphs (c.has_lists_of.ensures c.if-has_lists_of.true), λ _. refl)
 
 pub returns-then-nodes : goal.returns-then-nodes
 returns-then-nodes c = (
