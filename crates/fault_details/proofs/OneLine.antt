@@ -5,7 +5,7 @@ use Rattle.type_hierarchy.specs.Decls.{Name}
 use Rattle.fs_model.specs.Sources.{Told}
 use Rattle.fs_unify.specs.Rules.{Grammar, system_of}
 use Rattle.fs_unify.specs.Given.{facts_source}
-use Rattle.forced_types.specs.Verdicts.{IsVerdict, VerdictsAreOne}
+use Rattle.forced_types.specs.Limits.{IsVerdictWithin, VerdictsWithinAreOne}
 use Rattle.grammar_files.specs.declared.expand_fault.ExpandFault.{ExpandFault}
 use Rattle.grammar_files.specs.declared.expand_fault.ExpandFault.TheVariants.{UnknownName, NoIntro, Intro, NoStructure, NoMemory}
 use Rattle.constraint_expand.specs.Statements.{statement_at}
@@ -17,11 +17,11 @@ use Rattle.grammar_files.specs.Walks.{WalkedTree}
 use Rattle.grammar_load.specs.Expanding.{names_by}
 use Rattle.grammar_load.proofs.OneSystem.{tree-laws, one-system}
 use Rattle.fault_places.specs.Places.{set_in}
-use Rattle.fault_details.specs.Further.{verdict_text, IsClashLine, IsExpansionLine, IsFurtherLine, is_clash, has_further, IsFurther, no_more, one_line}
+use Rattle.fault_details.specs.Further.{told_text, IsClashLine, IsExpansionLine, IsFurtherLine, is_clash, has_further, IsFurther, no_more, one_line}
 use Rattle.fault_details.proofs.Systems.{OneTable}
 use Rattle.fault_details.proofs.Reading.{OneWalk}
 
-module _ (table : OneTable) (verdict : VerdictsAreOne) (w : WalkedTree) where
+module _ (table : OneTable) (verdict : VerdictsWithinAreOne) (w : WalkedTree) where
   clash-one : (k : ℕ) (x y : List ℕ) → IsClashLine w k x → IsClashLine w k y → x ≡ y
   clash-one k x y a b =
       let s = names_by w.settings in
@@ -29,11 +29,11 @@ module _ (table : OneTable) (verdict : VerdictsAreOne) (w : WalkedTree) where
       let types : b.types ≡ a.types = table w b.types a.types b.typed a.typed in
       let moved = subst (λ (t : TypeTable). IsSystemOf t s w.statements b.feats b.system) types b.system_is in
       let both = one-system a.types s w.statements (tree-laws w a.types a.typed) a.feats b.feats a.system b.system a.system_is moved in
-      let here' = subst (λ (l : List Name). IsVerdict (system_of a.system) (Told (facts_source (claims_of_definition a.system s l p))) a.verdict) both.0 a.verdict_is in
-      let there' = subst (λ (g : Grammar). IsVerdict (system_of g) (Told (facts_source (claims_of_definition g s b.feats p))) a.verdict) both.1 here' in
-      let one : a.verdict ≡ b.verdict = verdict (system_of b.system) (facts_source (claims_of_definition b.system s b.feats p)) a.verdict b.verdict there' b.verdict_is in
-      a.line_is ∙ ap (λ (t : TypeTable). verdict_text t a.feats a.verdict) (sym types) ∙ ap (λ (l : List Name). verdict_text b.types l a.verdict) both.0
-      ∙ ap (verdict_text b.types b.feats) one ∙ sym b.line_is
+      let here' = subst (λ (l : List Name). IsVerdictWithin (system_of a.system) (Told (facts_source (claims_of_definition a.system s l p))) s.node_limit a.verdict) both.0 a.verdict_is in
+      let there' = subst (λ (g : Grammar). IsVerdictWithin (system_of g) (Told (facts_source (claims_of_definition g s b.feats p))) s.node_limit a.verdict) both.1 here' in
+      let one : a.verdict ≡ b.verdict = verdict (system_of b.system) (facts_source (claims_of_definition b.system s b.feats p)) s.node_limit a.verdict b.verdict there' b.verdict_is in
+      a.line_is ∙ ap (λ (t : TypeTable). told_text t a.feats a.verdict) (sym types) ∙ ap (λ (l : List Name). told_text b.types l a.verdict) both.0
+      ∙ ap (told_text b.types b.feats) one ∙ sym b.line_is
 
   expansion-one : (e : ExpandFault) (x y : List ℕ) → IsExpansionLine w e x → IsExpansionLine w e y → x ≡ y
   expansion-one (NoStructure name k) x y a b = clash-one k x y a b
@@ -83,7 +83,7 @@ line-more w TooManyTypes x a = absurd a
 apart : (why : Why) {A : Type 0} → has_further why ≡ false → has_further why ≡ true → A
 apart why a b = let no : false ≡ true = sym a ∙ b in absurd cc
 
-pub further-one : OneWalk → OneTable → VerdictsAreOne → (files : Name → Option (List ℕ)) (name : Name) (settings : Option Name) (why : Why) (x y : List ℕ)
+pub further-one : OneWalk → OneTable → VerdictsWithinAreOne → (files : Name → Option (List ℕ)) (name : Name) (settings : Option Name) (why : Why) (x y : List ℕ)
     → IsFurther (Some files) name settings why x → IsFurther (Some files) name settings why y → x ≡ y
 further-one walk table verdict files name settings why _ _ (no_more e) (no_more d) = refl
 further-one walk table verdict files name settings why _ _ (no_more e) (one_line v l b is) = apart why e (line-more v why l is)

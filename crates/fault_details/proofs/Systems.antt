@@ -14,7 +14,8 @@ use Rattle.fs_graph.specs.GraphMap.{GraphMap, reader_of}
 use Rattle.fs_unify.specs.Rules.{Grammar, system_of}
 use Rattle.fs_unify.specs.Given.{facts_source}
 use Rattle.fs_unify.specs.Limits.{IsUnifiedWithin}
-use Rattle.forced_types.specs.Verdicts.{Verdict, IsVerdict}
+use Rattle.forced_types.specs.Verdicts.{Verdict}
+use Rattle.forced_types.specs.Limits.{IsVerdictWithin}
 use Rattle.forced_types.specs.declared.placed.Verdict.{Verdict as Answer}
 use Rattle.forced_types.specs.Views.{source_of_facts, verdict_of}
 use Rattle.body_facts.specs.Numbers.{type_number}
@@ -38,7 +39,7 @@ use Rattle.grammar_load.proofs.OneFault.{one-fault}
 use Rattle.grammar_load.proofs.OneSystem.{tree-laws, one-system}
 use Rattle.fault_places.specs.declared.Lack.{Lack}
 use Rattle.fault_places.specs.Places.{set_in}
-use Rattle.fault_details.specs.Further.{IsClashLine, verdict_text}
+use Rattle.fault_details.specs.Further.{IsClashLine, told_text}
 use Rattle.fault_details.specs.Inner.{IsTypedBy, IsVerdictAt, IsLackAt, IsNoStructureAt, LacksStructure}
 use Rattle.fault_details.proofs.Definitions.{first-met}
 
@@ -86,12 +87,13 @@ facts-some facts g s feats p is =
     omega (arith, some, ap length is)
 
 -- the verdict on facts, as one on the claims that they are
-pub verdicts-moved : (g : Grammar) (facts read : List Fact) (claims : List Claim) (r : Result Answer Lack) → claims_of facts ≡ claims → read ≡ facts
-    → IfOk r (λ v. IsVerdict (system_of g) (Told (source_of_facts read)) (verdict_of v)) → IfOk r (λ v. IsVerdict (system_of g) (Told (facts_source claims)) (verdict_of v))
-verdicts-moved g facts read claims (Ok v) is same h =
-    let own = subst (λ (l : List Fact). IsVerdict (system_of g) (Told (source_of_facts l)) (verdict_of v)) same h in
-    subst (λ (l : List Claim). IsVerdict (system_of g) (Told (facts_source l)) (verdict_of v)) is own
-verdicts-moved g facts read claims (Err e) is same h = tt
+pub verdicts-moved : (g : Grammar) (limit : ℕ) (facts read : List Fact) (claims : List Claim) (r : Result (Option Answer) Lack) → claims_of facts ≡ claims → read ≡ facts
+    → IfOk r (λ o. IsVerdictWithin (system_of g) (Told (source_of_facts read)) limit (option_map verdict_of o))
+    → IfOk r (λ o. IsVerdictWithin (system_of g) (Told (facts_source claims)) limit (option_map verdict_of o))
+verdicts-moved g limit facts read claims (Ok o) is same h =
+    let own = subst (λ (l : List Fact). IsVerdictWithin (system_of g) (Told (source_of_facts l)) limit (option_map verdict_of o)) same h in
+    subst (λ (l : List Claim). IsVerdictWithin (system_of g) (Told (facts_source l)) limit (option_map verdict_of o)) is own
+verdicts-moved g limit facts read claims (Err e) is same h = tt
 
 -- that facts have no structure, as of the claims that they are
 lack-moved : (g : Grammar) (limit : ℕ) (facts read : List Fact) (claims : List Claim) → claims_of facts ≡ claims → read ≡ facts
@@ -99,7 +101,7 @@ lack-moved : (g : Grammar) (limit : ℕ) (facts read : List Fact) (claims : List
 lack-moved g limit facts read claims is same h =
     subst (λ (l : List Claim). IsUnifiedWithin (system_of g) limit (facts_source l) None) (ap claims_of same ∙ is) h
 
-pub lacks-moved : (g : Grammar) (limit : ℕ) (facts read : List Fact) (claims : List Claim) (r : Result Answer Lack) → claims_of facts ≡ claims → read ≡ facts
+pub lacks-moved : (g : Grammar) (limit : ℕ) (facts read : List Fact) (claims : List Claim) (r : Result (Option Answer) Lack) → claims_of facts ≡ claims → read ≡ facts
     → OnOk r (IsUnifiedWithin (system_of g) limit (facts_source (claims_of read)) None) → OnOk r (IsUnifiedWithin (system_of g) limit (facts_source claims) None)
 lacks-moved g limit facts read claims (Ok v) is same h = lack-moved g limit facts read claims is same h
 lacks-moved g limit facts read claims (Err e) is same h = tt
@@ -133,9 +135,9 @@ types-for w s t by = subst (λ (y : TypeTable). AreTypesFor y w.statements) (sym
 pub own-system : (w : WalkedTree) (s : Settled) (t : Typed) → IsTypedBy w s t → IsSystemOf t.system.types s w.statements (texts t.feats.items) t.system
 own-system w s t by = subst (λ (y : TypeTable). IsSystemOf y s w.statements (texts t.feats.items) t.system) (sym by.system.types_are) by.system
 
-pub clash-line : (w : WalkedTree) (s : Settled) (t : Typed) (k : ℕ) (v : Verdict) → s ≡ names_by w.settings → IsTypedBy w s t → k < length w.statements
+pub clash-line : (w : WalkedTree) (s : Settled) (t : Typed) (k : ℕ) (v : Option Verdict) → s ≡ names_by w.settings → IsTypedBy w s t → k < length w.statements
     → (defines_type (statement_at w.statements k) || defines_instance (statement_at w.statements k)) ≡ true → IsVerdictAt w s t k v → IsLackAt w s t k
-    → IsClashLine w k (verdict_text t.system.types (texts t.feats.items) v)
+    → IsClashLine w k (told_text t.system.types (texts t.feats.items) v)
 clash-line w s t k v names by there defines is lacks = record {
   there = there;
   defines = defines;
@@ -147,14 +149,14 @@ clash-line w s t k v names by there defines is lacks = record {
   verdict = v;
   verdict_is = subst (λ (x : Settled). IsVerdictAt w x t k v) names is;
   lacks = subst (λ (x : Settled). IsLackAt w x t k) names lacks;
-  line_is = ap (λ (y : TypeTable). verdict_text y (texts t.feats.items) v) by.system.types_are;
+  line_is = ap (λ (y : TypeTable). told_text y (texts t.feats.items) v) by.system.types_are;
 }
 
-pub clash-told : (w : WalkedTree) (s : Settled) (t : Typed) (k : ℕ) (v : Verdict) → s ≡ names_by w.settings → IsTypedBy w s t → k < length w.statements
+pub clash-told : (w : WalkedTree) (s : Settled) (t : Typed) (k : ℕ) (v : Option Verdict) → s ≡ names_by w.settings → IsTypedBy w s t → k < length w.statements
     → (defines_type (statement_at w.statements k) || defines_instance (statement_at w.statements k)) ≡ true → IsVerdictAt w s t k v → IsLackAt w s t k → (r : Result (Vec ℕ Global) Lack)
-    → IfOk r (λ x. x.items ≡ set_in (verdict_text t.system.types (texts t.feats.items) v))
+    → IfOk r (λ x. x.items ≡ set_in (told_text t.system.types (texts t.feats.items) v))
     → IfOk r (λ x. (line : List ℕ) × IsClashLine w k line × (x.items ≡ set_in line))
-clash-told w s t k v names by there defines is lacks (Ok x) told = (verdict_text t.system.types (texts t.feats.items) v, clash-line w s t k v names by there defines is lacks, told)
+clash-told w s t k v names by there defines is lacks (Ok x) told = (told_text t.system.types (texts t.feats.items) v, clash-line w s t k v names by there defines is lacks, told)
 clash-told w s t k v names by there defines is lacks (Err e) told = tt
 
 -- there are as many statements as were placed

@@ -1,5 +1,5 @@
 -- What is told of a fault beyond its place: the two types that clash in a definition, and the path that was looked at for daughters or words.
-use Rattle.std.specs.Prelude.{ℕ, ◌≡◌, ◌<◌, ◌||◌, Bool, true, false, List, [], ◌∷◌, ◌++◌, map, flat_map, length, codes, Option, None, Ok}
+use Rattle.std.specs.Prelude.{ℕ, ◌≡◌, ◌<◌, ◌||◌, Bool, true, false, List, [], ◌∷◌, ◌++◌, map, flat_map, length, codes, Option, Some, None, Ok}
 use Rattle.std.specs.Char.{to_ascii_uppercase}
 use Rattle.type_hierarchy.specs.Table.{TypeTable}
 use Rattle.fs_model.specs.Claims.{Path}
@@ -8,7 +8,8 @@ use Rattle.fs_graph.specs.Text.{path_text, type_text}
 use Rattle.fs_unify.specs.Rules.{Grammar, system_of}
 use Rattle.fs_unify.specs.Given.{facts_source}
 use Rattle.fs_unify.specs.Limits.{IsUnifiedWithin}
-use Rattle.forced_types.specs.Verdicts.{Verdict, Fits, Clash, TooLong, IsVerdict}
+use Rattle.forced_types.specs.Verdicts.{Verdict, Fits, Clash, TooLong}
+use Rattle.forced_types.specs.Limits.{IsVerdictWithin}
 use Rattle.grammar_files.specs.declared.expand_fault.ExpandFault.{ExpandFault}
 use Rattle.grammar_files.specs.declared.expand_fault.ExpandFault.TheVariants.{NoStructure}
 use Rattle.constraint_expand.specs.Statements.{statement_at, defines_type, defines_instance}
@@ -35,14 +36,19 @@ names_path (f ∷ p) = flat_map (λ n. 46 ∷ map to_ascii_uppercase n) (f ∷ p
 abbrev pub clash_text : TypeTable → List Name → Path → (t u : ℕ) → List ℕ
 clash_text types feats p t u = path_text feats p ++ (32 ∷ (type_text types t ++ (32 ∷ (type_text types u ++ codes ": no common subtype"))))
 
--- that, or `.PATH too-long`; or `. too-large`, where all goes together and no path is too long
+-- that, or `.PATH too-long`; or `. too-large`, where all goes together and no path is too long, so that there are too many
 abbrev pub verdict_text : TypeTable → List Name → Verdict → List ℕ
 verdict_text types feats Fits = codes ". too-large"
 verdict_text types feats (Clash p t u) = clash_text types feats p t u
 verdict_text types feats (TooLong p) = path_text feats p ++ codes " too-long"
 
--- The definition at this place among the statements has no structure, and this line says why: by the verdict on what its structure would be the
--- closure of, in the type system of the statements. Where all of that goes together, and no path is too long, it has too many paths.
+-- `. too-large` too, where more paths are forced than the limit allows: then what clashes isn't looked for
+abbrev pub told_text : TypeTable → List Name → Option Verdict → List ℕ
+told_text types feats None = codes ". too-large"
+told_text types feats (Some v) = verdict_text types feats v
+
+-- The definition at this place among the statements has no structure, and this line says why: by the verdict, within the limit on paths, on what
+-- its structure would be the closure of, in the type system of the statements.
 pub record IsClashLine (w : WalkedTree) (k : ℕ) (line : List ℕ) : Type 0 where
   pub there : k < length w.statements
   pub defines : (defines_type (statement_at w.statements k) || defines_instance (statement_at w.statements k)) ≡ true
@@ -51,10 +57,11 @@ pub record IsClashLine (w : WalkedTree) (k : ℕ) (line : List ℕ) : Type 0 whe
   pub feats : List Name
   pub system : Grammar
   pub system_is : IsSystemOf types (names_by w.settings) w.statements feats system
-  pub verdict : Verdict
-  pub verdict_is : IsVerdict (system_of system) (Told (facts_source (claims_of_definition system (names_by w.settings) feats (statement_at w.statements k)))) verdict
+  pub verdict : Option Verdict
+  pub verdict_is : IsVerdictWithin (system_of system) (Told (facts_source (claims_of_definition system (names_by w.settings) feats (statement_at w.statements k))))
+      (names_by w.settings).node_limit verdict
   pub lacks : IsUnifiedWithin (system_of system) (names_by w.settings).node_limit (facts_source (claims_of_definition system (names_by w.settings) feats (statement_at w.statements k))) None
-  pub line_is : line ≡ verdict_text types feats verdict
+  pub line_is : line ≡ told_text types feats verdict
 
 -- what is told of a fault of expansion
 abbrev pub IsExpansionLine : WalkedTree → ExpandFault → List ℕ → Type 0

@@ -1,5 +1,5 @@
 -- What the parts of the program see.
-use Rattle.std.specs.Prelude.{ℕ, String, None}
+use Rattle.std.specs.Prelude.{ℕ, String, Option, None}
 use Rattle.std.specs.Global.{Global}
 use Rattle.type_hierarchy.specs.Decls.{texts}
 use Rattle.type_hierarchy.specs.Table.{TypeTable}
@@ -8,7 +8,8 @@ use Rattle.fs_model.specs.Sources.{Told}
 use Rattle.fs_unify.specs.Rules.{system_of}
 use Rattle.fs_unify.specs.Given.{facts_source}
 use Rattle.fs_unify.specs.Limits.{IsUnifiedWithin}
-use Rattle.forced_types.specs.Verdicts.{Verdict, IsVerdict}
+use Rattle.forced_types.specs.Verdicts.{Verdict}
+use Rattle.forced_types.specs.Limits.{IsVerdictWithin}
 use Rattle.grammar_files.specs.declared.expand_fault.ExpandFault.TheVariants.{NoStructure}
 use Rattle.constraint_expand.specs.declared.definitions.Typed.{Typed}
 use Rattle.constraint_expand.specs.Statements.{statement_at}
@@ -26,9 +27,10 @@ pub record IsTypedBy (w : WalkedTree) (s : Settled) (t : Typed) : Type 0 where
   pub system : IsSystemOf types s w.statements (texts t.feats.items) t.system
   pub bare : IsBare (system_of t.system)
 
--- the verdict on what the structure of a definition is the closure of
-abbrev pub IsVerdictAt : WalkedTree → Settled → Typed → ℕ → Verdict → Type 0
-IsVerdictAt w s t k v = IsVerdict (system_of t.system) (Told (facts_source (claims_of_definition t.system s (texts t.feats.items) (statement_at w.statements k)))) v
+-- the verdict, within the limit on paths, on what the structure of a definition is the closure of
+abbrev pub IsVerdictAt : WalkedTree → Settled → Typed → ℕ → Option Verdict → Type 0
+IsVerdictAt w s t k v =
+    IsVerdictWithin (system_of t.system) (Told (facts_source (claims_of_definition t.system s (texts t.feats.items) (statement_at w.statements k)))) s.node_limit v
 
 -- it has none within the limit on paths
 abbrev pub IsLackAt : WalkedTree → Settled → Typed → ℕ → Type 0

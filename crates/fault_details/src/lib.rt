@@ -141,10 +141,10 @@ fn has_further(why: &Why) -> bool
     }
 }
 
-/// What is told of a fault of this cause beyond its place, as lines after two blanks: for a definition without a structure the least path
-/// at which two types are forced that have no common subtype, and these types, or a path that is too long; for a rule or an entry the path
-/// that the settings name for its daughters or its words; and nothing for other causes. The files are read once more for it, and only
-/// where there is something to tell.
+/// What is told of a fault of this cause beyond its place, as lines after two blanks: for a definition without a structure that more paths
+/// are forced than the limit allows, or else the least path at which two types are forced that have no common subtype, and these types, or
+/// a path that is too long; for a rule or an entry the path that the settings name for its daughters or its words; and nothing for other
+/// causes. The files are read once more for it, and only where there is something to tell.
 ///
 /// `Unread` comes where they can't be, or say something else by now: told files never do, where the shelf counts no fault.
 pub fn further<S: Shelf>(

@@ -1,6 +1,6 @@
 //! Why a definition has no structure.
 
-ghost use Rattle.std.specs.Prelude.{◌≡◌, ◌<◌, ◌||◌, ◌≢◌, ℕ, List, None, true, false, length, IfOk, OnOk, IsErrOf};
+ghost use Rattle.std.specs.Prelude.{◌≡◌, ◌<◌, ◌||◌, ◌≢◌, ℕ, List, None, true, false, length, IfOk, IfSome, OnOk, IsErrOf, option_map};
 ghost use Rattle.type_hierarchy.specs.Decls.{texts};
 ghost use Rattle.type_hierarchy.specs.Table.{TypeTable, count_of};
 ghost use Rattle.grammar_files.specs.Placings.{placed_of};
@@ -10,7 +10,8 @@ ghost use Rattle.fs_graph.specs.Facts.{claims_of};
 ghost use Rattle.fs_unify.specs.Rules.{system_of};
 ghost use Rattle.fs_unify.specs.Given.{facts_source};
 ghost use Rattle.fs_unify.specs.Limits.{IsUnifiedWithin};
-ghost use Rattle.forced_types.specs.Verdicts.{IsVerdict, IsVerdictIn};
+ghost use Rattle.forced_types.specs.Verdicts.{IsVerdictIn};
+ghost use Rattle.forced_types.specs.Limits.{IsVerdictWithin};
 ghost use Rattle.forced_types.specs.Views.{verdict_of, source_of_facts, AreFactsIn};
 ghost use Rattle.constraint_expand.specs.Statements.{statement_at, defines_type, defines_instance};
 ghost use Rattle.constraint_expand.specs.Systems.{settled_of};
@@ -19,7 +20,7 @@ ghost use Rattle.grammar_files.specs.WalkViews.{walked_of, CanSettle};
 ghost use Rattle.grammar_load.specs.Expanding.{names_by};
 ghost use Rattle.grammar_types.specs.Typings.{AreTypesOf};
 ghost use Rattle.fault_places.specs.Places.{set_in};
-ghost use Rattle.fault_details.specs.Further.{IsClashLine, verdict_text};
+ghost use Rattle.fault_details.specs.Further.{IsClashLine, told_text};
 ghost use Rattle.fault_details.specs.Inner.{IsTypedBy, IsVerdictAt, IsLackAt, IsNoStructureAt, LacksStructure};
 
 use crate::lack_in;
@@ -142,15 +143,20 @@ fn lacks(alloc: Global, typed: &Typed, facts: &[Fact], limit: u32) -> Result<(),
     }
 }
 
-// The verdict on facts in a type system.
-fn facts_verdict(alloc: Global, typed: &Typed, facts: &[Fact]) -> Result<Verdict, Lack>
+// The verdict on facts in a type system, within the limit on paths.
+fn facts_verdict(
+    alloc: Global,
+    typed: &Typed,
+    facts: &[Fact],
+    limit: u32,
+) -> Result<Option<Verdict>, Lack>
     requires some { 0 < length facts.now }
     requires within { AreFactsIn typed.now.system facts.now }
-    ensures verdict { IfOk result (λ v. IsVerdict (system_of typed.now.system) (Told (source_of_facts facts.now)) (verdict_of v)) }
-    ensures within { IfOk result (λ v. IsVerdictIn (length typed.now.system.introducers) (count_of typed.now.system.types) (verdict_of v)) }
+    ensures verdict { IfOk result (λ o. IsVerdictWithin (system_of typed.now.system) (Told (source_of_facts facts.now)) limit (option_map verdict_of o)) }
+    ensures within { IfOk result (λ o. IfSome o (λ v. IsVerdictIn (length typed.now.system.introducers) (count_of typed.now.system.types) (verdict_of v))) }
     ensures read { IsErrOf result Lack.Unread → ⊥ }
 {
-    match verdict_on_facts(alloc, &typed.system, facts) {
+    match verdict_on_facts(alloc, &typed.system, facts, limit) {
         Ok(verdict) => Ok(verdict),
         Err(_) => Err(Lack::NoMemory),
     }
@@ -162,17 +168,17 @@ fn lacking_verdict(
     typed: &Typed,
     facts: &[Fact],
     limit: u32,
-) -> Result<Verdict, Lack>
+) -> Result<Option<Verdict>, Lack>
     requires bare { IsBare (system_of typed.now.system) }
     requires some { 0 < length facts.now }
     requires within { AreFactsIn typed.now.system facts.now }
-    ensures verdict { IfOk result (λ v. IsVerdict (system_of typed.now.system) (Told (source_of_facts facts.now)) (verdict_of v)) }
-    ensures within { IfOk result (λ v. IsVerdictIn (length typed.now.system.introducers) (count_of typed.now.system.types) (verdict_of v)) }
+    ensures verdict { IfOk result (λ o. IsVerdictWithin (system_of typed.now.system) (Told (source_of_facts facts.now)) limit (option_map verdict_of o)) }
+    ensures within { IfOk result (λ o. IfSome o (λ v. IsVerdictIn (length typed.now.system.introducers) (count_of typed.now.system.types) (verdict_of v))) }
     ensures none { OnOk result (IsUnifiedWithin (system_of typed.now.system) limit (facts_source (claims_of facts.now)) None) }
     ensures read { IsErrOf result Lack.Unread → IsUnifiedWithin (system_of typed.now.system) limit (facts_source (claims_of facts.now)) None → ⊥ }
 {
     match lacks(alloc, typed, facts, limit) {
-        Ok(()) => facts_verdict(alloc, typed, facts),
+        Ok(()) => facts_verdict(alloc, typed, facts, limit),
         Err(lack) => Err(lack),
     }
 }
@@ -184,12 +190,12 @@ fn verdict_at(
     names: &Names,
     typed: &Typed,
     k: usize,
-) -> Result<Verdict, Lack>
+) -> Result<Option<Verdict>, Lack>
     requires typed { IsTypedBy (walked_of walked.now) (settled_of names.now) typed.now }
     requires there { k < length walked.now.statements.items }
     requires defines { (defines_type (statement_at (walked_of walked.now).statements k) || defines_instance (statement_at (walked_of walked.now).statements k)) ≡ true }
-    ensures verdict { IfOk result (λ v. IsVerdictAt (walked_of walked.now) (settled_of names.now) typed.now k (verdict_of v)) }
-    ensures within { IfOk result (λ v. IsVerdictIn (length typed.now.system.introducers) (count_of typed.now.system.types) (verdict_of v)) }
+    ensures verdict { IfOk result (λ o. IsVerdictAt (walked_of walked.now) (settled_of names.now) typed.now k (option_map verdict_of o)) }
+    ensures within { IfOk result (λ o. IfSome o (λ v. IsVerdictIn (length typed.now.system.introducers) (count_of typed.now.system.types) (verdict_of v))) }
     ensures lacks { OnOk result (IsLackAt (walked_of walked.now) (settled_of names.now) typed.now k) }
     ensures read { IsErrOf result Lack.Unread → IsLackAt (walked_of walked.now) (settled_of names.now) typed.now k → ⊥ }
 {
@@ -200,9 +206,9 @@ fn verdict_at(
 }
 
 // The line of a verdict on a definition.
-fn told(alloc: Global, typed: &Typed, verdict: &Verdict) -> Result<Vec<u8>, Lack>
-    requires { IsVerdictIn (length typed.now.feats.items) (count_of typed.now.system.types) (verdict_of verdict.now) }
-    ensures line { IfOk result (λ v. v.items ≡ set_in (verdict_text typed.now.system.types (texts typed.now.feats.items) (verdict_of verdict.now))) }
+fn told(alloc: Global, typed: &Typed, verdict: &Option<Verdict>) -> Result<Vec<u8>, Lack>
+    requires { IfSome verdict.now (λ v. IsVerdictIn (length typed.now.feats.items) (count_of typed.now.system.types) (verdict_of v)) }
+    ensures line { IfOk result (λ v. v.items ≡ set_in (told_text typed.now.system.types (texts typed.now.feats.items) (option_map verdict_of verdict.now))) }
     ensures read { IsErrOf result Lack.Unread → ⊥ }
 {
     match verdict_line(alloc, verdict, typed.system.types(), &typed.feats) {

@@ -1,6 +1,6 @@
 //! The texts of paths, types and verdicts.
 
-ghost use Rattle.std.specs.Prelude.{◌≡◌, ◌++◌, ◌∷◌, [], ◌<◌, All, length, map, flat_map, string_bytes, codes, IfOk, OnOk};
+ghost use Rattle.std.specs.Prelude.{◌≡◌, ◌++◌, ◌∷◌, [], ◌<◌, All, length, map, flat_map, string_bytes, codes, IfOk, IfSome, OnOk, option_map};
 ghost use Rattle.std.specs.Char.{to_ascii_uppercase};
 ghost use Rattle.type_hierarchy.specs.Table.{count_of};
 ghost use Rattle.fs_graph.specs.Facts.{path_of};
@@ -8,7 +8,7 @@ ghost use Rattle.fs_graph.specs.Text.{feature_text, path_text, escaped, type_tex
 ghost use Rattle.forced_types.specs.Verdicts.{IsVerdictIn};
 ghost use Rattle.forced_types.specs.Views.{verdict_of};
 ghost use Rattle.fault_places.specs.Places.{set_in};
-ghost use Rattle.fault_details.specs.Further.{names_path, clash_text, verdict_text};
+ghost use Rattle.fault_details.specs.Further.{names_path, clash_text, verdict_text, told_text};
 
 use fault_places::NoMemory;
 use forced_types::Verdict;
@@ -121,6 +121,14 @@ fn put_too_long(path: &[Feat], feats: &[String], into: &mut Vec<u8>) -> Result<(
     Ok(())
 }
 
+// `. too-large`
+fn put_too_large(into: &mut Vec<u8>) -> Result<(), NoMemory>
+    ensures { OnOk result (into.new.items ≡ into.old.items ++ codes ". too-large") }
+{
+    into.extend_from_slice(b". too-large")?;
+    Ok(())
+}
+
 // What a verdict tells of what has no structure: where something clashes or is too long, or that there are too many paths.
 fn put_verdict(
     verdict: &Verdict,
@@ -132,10 +140,7 @@ fn put_verdict(
     ensures { OnOk result (into.new.items ≡ into.old.items ++ verdict_text types.now (map string_bytes feats.now) (verdict_of verdict.now)) }
 {
     match verdict {
-        Verdict::Fits => {
-            into.extend_from_slice(b". too-large")?;
-            Ok(())
-        }
+        Verdict::Fits => put_too_large(into),
         Verdict::Clash {
             path,
             first,
@@ -145,18 +150,34 @@ fn put_verdict(
     }
 }
 
-/// The line of a verdict, after two blanks.
+// The same within the limit on paths: where more are forced, nothing else is told.
+fn put_told(
+    verdict: &Option<Verdict>,
+    types: &Types,
+    feats: &[String],
+    into: &mut Vec<u8>,
+) -> Result<(), NoMemory>
+    requires { IfSome verdict.now (λ v. IsVerdictIn (length feats.now) (count_of types.now) (verdict_of v)) }
+    ensures { OnOk result (into.new.items ≡ into.old.items ++ told_text types.now (map string_bytes feats.now) (option_map verdict_of verdict.now)) }
+{
+    match verdict {
+        Some(verdict) => put_verdict(verdict, types, feats, into),
+        None => put_too_large(into),
+    }
+}
+
+/// The line of a verdict within the limit on paths, after two blanks.
 pub(crate) fn verdict_line(
     alloc: Global,
-    verdict: &Verdict,
+    verdict: &Option<Verdict>,
     types: &Types,
     feats: &[String],
 ) -> Result<Vec<u8>, NoMemory>
-    requires { IsVerdictIn (length feats.now) (count_of types.now) (verdict_of verdict.now) }
-    ensures { IfOk result (λ line. line.items ≡ set_in (verdict_text types.now (map string_bytes feats.now) (verdict_of verdict.now))) }
+    requires { IfSome verdict.now (λ v. IsVerdictIn (length feats.now) (count_of types.now) (verdict_of v)) }
+    ensures { IfOk result (λ line. line.items ≡ set_in (told_text types.now (map string_bytes feats.now) (option_map verdict_of verdict.now))) }
 {
     let mut line = Vec::from_slice(alloc, b"  ")?;
-    put_verdict(verdict, types, feats, &mut line)?;
+    put_told(verdict, types, feats, &mut line)?;
     line.push(b'\n')?;
     Ok(line)
 }

@@ -1,5 +1,6 @@
 mod ForcedLemmas
 pub mod VerdictLemmas
+mod ArcLemmas
 mod EntryLemmas
 mod SoundLemmas
 mod StepLemmas
@@ -11,3 +12,5 @@ mod LoadLemmas
 mod SearchLemmas
 mod VerdictSteps
 mod RangeLemmas
+mod DistinctLemmas
+mod CountLemmas

@@ -1,5 +1,5 @@
 -- What is forced by what is in range is in range, so a verdict on it tells types and features of the grammar.
-use Rattle.std.specs.Prelude.{ℕ, ◌≡◌, ◌==◌, ◌<◌, ◌≤◌, ◌⊎◌, true, All, List, [], ◌∷◌, ◌++◌, length}
+use Rattle.std.specs.Prelude.{ℕ, ◌≡◌, ◌==◌, ◌<◌, ◌≤◌, ◌⊎◌, true, All, Option, Some, None, IfSome, option_map, List, [], ◌∷◌, ◌++◌, length}
 use Rattle.std.proofs.Common.{inl, inr, sym, subst, ◌∙◌, arith}
 use Rattle.std.proofs.lemmas.Bool.{cases_lt, eqb-true, or_cases}
 use Rattle.std.proofs.lemmas.List.Elements.{All-nil, All-cons, All-head, All-tail}
@@ -11,9 +11,11 @@ use Rattle.fs_model.specs.Sources.{Told, told_claim, told_part}
 use Rattle.fs_graph.specs.declared.facts.Fact.{Fact}
 use Rattle.fs_closing.specs.Rules.{Grammar, system_of, IsClaimIn, IsGrammar}
 use Rattle.fs_closing.proofs.StepLemmas.{facts_of_rule}
-use Rattle.forced_types.specs.Views.{source_of_facts, AreFactsIn}
+use Rattle.forced_types.specs.declared.placed.Verdict.{Verdict as Answer}
+use Rattle.forced_types.specs.Views.{source_of_facts, verdict_of, AreFactsIn}
 use Rattle.forced_types.specs.Forced.{Forced, IsPathIn, given_claim, given_front, same_exists, below_exists, prefix, same_refl, same_sym, same_trans, same_extend, same_type, introduced, met, raised, topped, constrained, constrained_front}
 use Rattle.forced_types.specs.Verdicts.{Verdict, Fits, Clash, TooLong, IsVerdict, IsVerdictIn}
+use Rattle.forced_types.specs.Limits.{IsVerdictWithin}
 
 -- what is above a type of the table is one
 below_in : (types : TypeTable) → completed_count types ≤ count_of types → (t u : ℕ) → t < count_of types → is_below types t u ≡ true → u < count_of types
@@ -95,3 +97,8 @@ module _ (g : Grammar) where
 pub facts_told_in : (g : Grammar) (facts : List Fact) → AreFactsIn g facts → (c : Claim) → Told (source_of_facts facts) c → IsClaimIn (count_of g.types) (length g.introducers) c
 facts_told_in g facts h _ (told_claim c x) = h c x
 facts_told_in g facts h _ (told_part part c x tells) = elim x [ ]
+
+pub answer_in : (g : Grammar) → IsGrammar g → HasTypeLaws g.types → completed_count g.types ≤ count_of g.types → (facts : List Fact) → AreFactsIn g facts → (limit : ℕ) (o : Option Answer) →
+    IsVerdictWithin (system_of g) (Told (source_of_facts facts)) limit (option_map verdict_of o) → IfSome o (λ v. IsVerdictIn (length g.introducers) (count_of g.types) (verdict_of v))
+answer_in g is laws counts facts within limit None h = tt
+answer_in g is laws counts facts within limit (Some v) h = verdict_in g is laws counts (facts_told_in g facts within) (verdict_of v) h.0

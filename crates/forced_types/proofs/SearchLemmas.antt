@@ -17,7 +17,7 @@ use Rattle.forced_types.proofs.ClosedLemmas.{walk-up, walk-on, walk-ends}
 
 module _ (g : Given) (t : Nodes) (flat : IsFlat t) where
   -- the arc that a walk takes from a live node, and what is left of it
-  first_arc : (n m f : ℕ) (s : Path) → n < size_of t → (entry_in t n).up ≡ n → walk_in t n (f ∷ s) ≡ Some m →
+  pub first_arc : (n m f : ℕ) (s : Path) → n < size_of t → (entry_in t n).up ≡ n → walk_in t n (f ∷ s) ≡ Some m →
       (j : ℕ) × (arc_to (entry_in t n).arcs f ≡ Some j) × (j < size_of t) × (walk_in t (entry_in t j).up s ≡ Some m)
   first_arc n m f s h live e = go (arc_to (entry_in t n).arcs f) refl
     where

@@ -8,6 +8,7 @@ use Rattle.type_hierarchy.specs.Table.{count_of}
 use Rattle.fs_model.specs.Claims.{Path, exists_at, same, below, Has}
 use Rattle.fs_model.proofs.StepLemmas.{same_or_other}
 use Rattle.fs_graph.specs.declared.graph.GraphArc.{GraphArc}
+use Rattle.fs_graph.specs.GraphMap.{arc_to}
 use Rattle.fs_closing.proofs.HasLemmas.{Has-one}
 use Rattle.forced_types.specs.declared.given.Given.{Given}
 use Rattle.forced_types.specs.declared.nodes.Image.{Image}
@@ -15,8 +16,10 @@ use Rattle.forced_types.specs.declared.nodes.Nodes.{Nodes}
 use Rattle.forced_types.specs.declared.nodes.Pair.{Pair}
 use Rattle.forced_types.specs.Forced.{same_refl, topped}
 use Rattle.forced_types.specs.Views.{ArePartsIn, AreFactsIn}
-use Rattle.forced_types.specs.Inner.Entries.{Entry, no_entry, entry_of, entry_at, entries_of, Alters, Adds, fresh, IsTyped, IsArced, IsRaised}
+use Rattle.forced_types.specs.Inner.Entries.{Entry, AreFeatsApart, no_entry, entry_of, entry_at, entries_of, Alters, Adds, fresh, IsTyped, IsArced, IsRaised}
 use Rattle.forced_types.specs.Inner.Sound.{Forces, IsImage, IsSoundAt, AreEntriesSound, IsPairSound, AreSound, KeepPaths, paths_in, size_of, entry_in, path_in}
+use Rattle.forced_types.proofs.ArcLemmas.{none_apart, apart_more}
+use Rattle.forced_types.proofs.EntryLemmas.{pushed}
 
 pub entry_count : (t : Nodes) → length (entries_of t.list.items) ≡ size_of t
 entry_count t = length-map t.list.items entry_of
@@ -31,6 +34,7 @@ sound_kept g size size' path path' e h more keeps = record {
   type_forced = h.type_forced;
   arc_in = λ a m. (let b = (h.arc_in a m).0 in omega (arith, b), (h.arc_in a m).1);
   arc_forced = λ a m. subst (λ x. Forces g (same (e.path ++ a.feat.0 ∷ []) x)) (sym (keeps a.to.0 (h.arc_in a m).0)) (h.arc_forced a m);
+  arcs_apart = h.arcs_apart;
   image = h.image;
 }
 
@@ -97,6 +101,7 @@ typed g size path e e' ty h a ty_in f = record {
   type_forced = λ t m. subst (λ x. Forces g (below x t)) (sym a.path) (forced t (a.types t m));
   arc_in = λ x m. h.arc_in x (subst (Has x) a.arcs m);
   arc_forced = λ x m. subst (λ y. Forces g (same (y ++ x.feat.0 ∷ []) (path x.to.0))) (sym a.path) (h.arc_forced x (subst (Has x) a.arcs m));
+  arcs_apart = subst AreFeatsApart (sym a.arcs) h.arcs_apart;
   image = λ im m. subst (λ y. IsImage g.parts.now y im) (sym a.path) (h.image im (sym a.image ∙ m));
 }
   where
@@ -109,18 +114,27 @@ typed g size path e e' ty h a ty_in f = record {
     forced t (inr is) = subst (λ x. Forces g (below e.path x)) (sym is) f
 
 pub arced : (g : Given) (size : ℕ) (path : ℕ → Path) (e e' : Entry) (arc : GraphArc) → IsSoundAt g size path e → IsArced e e' arc → arc.to.0 < size →
-    arc.feat.0 < length g.system.now.introducers → Forces g (same (e.path ++ arc.feat.0 ∷ []) (path arc.to.0)) → IsSoundAt g size path e'
-arced g size path e e' arc h a to_in feat_in f = record {
+    arc.feat.0 < length g.system.now.introducers → arc_to e.arcs arc.feat.0 ≡ None → Forces g (same (e.path ++ arc.feat.0 ∷ []) (path arc.to.0)) → IsSoundAt g size path e'
+arced g size path e e' arc h a to_in feat_in lacks f = record {
   there = subst (λ x. Forces g (exists_at x)) (sym a.path) h.there;
   up_in = omega (arith, h.up_in, a.up);
   up_same = subst (λ x. Forces g (same x (path e'.up))) (sym a.path) (subst (λ x. Forces g (same e.path (path x))) (sym a.up) h.up_same);
   type_in = λ t m. h.type_in t (subst (Has t) a.types m);
   type_forced = λ t m. subst (λ x. Forces g (below x t)) (sym a.path) (h.type_forced t (subst (Has t) a.types m));
-  arc_in = λ x m. in_range x (a.arcs x m);
-  arc_forced = λ x m. subst (λ y. Forces g (same (y ++ x.feat.0 ∷ []) (path x.to.0))) (sym a.path) (forced x (a.arcs x m));
+  arc_in = λ x m. in_range x (either a.arcs x m);
+  arc_forced = λ x m. subst (λ y. Forces g (same (y ++ x.feat.0 ∷ []) (path x.to.0))) (sym a.path) (forced x (either a.arcs x m));
+  arcs_apart = apart a.arcs;
   image = λ im m. subst (λ y. IsImage g.parts.now y im) (sym a.path) (h.image im (sym a.image ∙ m));
 }
   where
+    either : (e'.arcs ≡ e.arcs) ⊎ (e'.arcs ≡ e.arcs ++ arc ∷ []) → (x : GraphArc) → Has x e'.arcs → Has x e.arcs ⊎ (x ≡ arc)
+    either (inl is) x m = inl (subst (Has x) is m)
+    either (inr is) x m = pushed e.arcs e'.arcs arc is x m
+
+    apart : (e'.arcs ≡ e.arcs) ⊎ (e'.arcs ≡ e.arcs ++ arc ∷ []) → AreFeatsApart e'.arcs
+    apart (inl is) = subst AreFeatsApart (sym is) h.arcs_apart
+    apart (inr is) = subst AreFeatsApart (sym is) (apart_more e.arcs arc h.arcs_apart lacks)
+
     in_range : (x : GraphArc) → Has x e.arcs ⊎ (x ≡ arc) → (x.to.0 < size) × (x.feat.0 < length g.system.now.introducers)
     in_range x (inl m) = h.arc_in x m
     in_range x (inr is) = subst (λ (y : GraphArc). (y.to.0 < size) × (y.feat.0 < length g.system.now.introducers)) (sym is) (to_in, feat_in)
@@ -139,6 +153,7 @@ raised_up g size path e e' up h a up_in f = record {
   type_forced = λ t m. subst (λ x. Forces g (below x t)) (sym a.path) (h.type_forced t (subst (Has t) a.types m));
   arc_in = λ x m. h.arc_in x (subst (Has x) a.arcs m);
   arc_forced = λ x m. subst (λ y. Forces g (same (y ++ x.feat.0 ∷ []) (path x.to.0))) (sym a.path) (h.arc_forced x (subst (Has x) a.arcs m));
+  arcs_apart = subst AreFeatsApart (sym a.arcs) h.arcs_apart;
   image = λ im m. subst (λ y. IsImage g.parts.now y im) (sym a.path) (h.image im (sym a.image ∙ m));
 }
 
@@ -173,6 +188,9 @@ module _ (g : Given) (t t' : Nodes) (path : Path) (image : Option Image) (is : A
     same_at = λ k h. old_path k (omega (arith, entry_count t, h));
   }
 
+  pub added_others : (k : ℕ) → k < size_of t → entry_in t' k ≡ entry_in t k
+  added_others k h = ap (λ l. entry_at l k) is ∙ added_old es (fresh (length es) path image) k (omega (arith, entry_count t, h))
+
   pub added_sound : AreSound g t → 0 < count_of g.system.now.types → size_of t' < 2 ^ 32 → Forces g (exists_at path) → ((im : Image) → image ≡ Some im → IsImage g.parts.now path im) → t'.pairs.items ≡ t.pairs.items → AreSound g t'
   added_sound h some small forced im pairs = record {
     within = h.within;
@@ -198,6 +216,7 @@ module _ (g : Given) (t t' : Nodes) (path : Path) (image : Option Image) (is : A
         type_forced = λ y m. subst (λ z. Forces g (below path z)) (sym (Has-one y 0 m)) (topped path forced);
         arc_in = λ a m. elim m [ ];
         arc_forced = λ a m. elim m [ ];
+        arcs_apart = none_apart;
         image = im;
       }
 
@@ -250,6 +269,7 @@ begun_sound g t within facts some forced is none = record {
       type_forced = λ y m. subst (λ z. Forces g (below [] z)) (sym (Has-one y 0 m)) (topped [] forced);
       arc_in = λ a m. elim m [ ];
       arc_forced = λ a m. elim m [ ];
+      arcs_apart = none_apart;
       image = no_image;
     }
     at_k (suc k) i = absurd (omega arith)

@@ -6,6 +6,7 @@ use Rattle.fs_model.specs.Claims.{Path, Claim, exists_at, below, System}
 use Rattle.fs_model.specs.Closure.{IsConsistent}
 use Rattle.fs_model.specs.Numbering.{IsBefore, shorter, smaller, further}
 use Rattle.forced_types.specs.Verdicts.{Verdict, Fits, Clash, TooLong, IsForced, IsFirstClash, IsVerdict}
+use Rattle.forced_types.specs.Limits.{IsVerdictWithin}
 use Rattle.forced_types.proofs.ForcedLemmas.{forced_within, closure_from_forced, forced_from_closure}
 
 once : (p q p' q' : Path) → IsBefore p q → IsBefore q' p' → p ≡ p' → q ≡ q' → ⊥
@@ -111,3 +112,10 @@ module _ (s : System) (g : Claim → Type 0) where
   one_verdict (TooLong p) Fits h k = absurd (k.1 p h.1.long)
   one_verdict (TooLong p) (Clash q v w) h k = absurd (h.0 q v w k.clashes)
   one_verdict (TooLong p) (TooLong q) h k = ap TooLong (one_least p q (h.1.least q k.1.long) (k.1.least p h.1.long))
+
+  -- within a limit too
+  pub one_within : (limit : ℕ) (a b : Option Verdict) → IsVerdictWithin s g limit a → IsVerdictWithin s g limit b → a ≡ b
+  one_within limit None None h k = refl
+  one_within limit None (Some b) h k = absurd (k.1 h)
+  one_within limit (Some a) None h k = absurd (h.1 k)
+  one_within limit (Some a) (Some b) h k = ap Some (one_verdict a b h.0 k.0)

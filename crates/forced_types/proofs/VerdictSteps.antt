@@ -22,7 +22,7 @@ use Rattle.forced_types.proofs.ClosedLemmas.{walk-up, walk-ends, says}
 use Rattle.forced_types.proofs.SearchLemmas.{near_at}
 
 -- a walk's path is forced equal to that of its end
-walk_sound : (g : Given) (t : Nodes) → AreSound g t → IsFlat t → (p q : Path) (n m : ℕ) → n < size_of t → Forces g (same q (path_in t n)) → length (q ++ p) ≤ most_of g →
+pub walk_sound : (g : Given) (t : Nodes) → AreSound g t → IsFlat t → (p q : Path) (n m : ℕ) → n < size_of t → Forces g (same q (path_in t n)) → length (q ++ p) ≤ most_of g →
     walk_in t n p ≡ Some m → Forces g (same (q ++ p) (path_in t m))
 walk_sound g t sound flat [] q n m h f l e =
     let up = (sound.entries.each n (omega (arith, entry_count t, h))).up_same in

@@ -1,4 +1,5 @@
 pub mod Forced
 pub mod Verdicts
+pub mod Limits
 pub mod Views
 pub mod Inner

@@ -5,6 +5,7 @@
 
 mod closed;
 mod closed_types;
+mod counting;
 mod facts;
 mod given;
 mod laws;

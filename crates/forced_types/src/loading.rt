@@ -1,7 +1,7 @@
 //! Parts are loaded: each node of a graph that a path of few enough features leads to gets a node.
 
 ghost use Rattle.std.specs.Prelude.{◌≡◌, ℕ, ◌<◌, ◌∷◌, ◌++◌, [], length, true, Some, IfSome, IfOk, All};
-ghost use Rattle.fs_model.specs.Claims.{exists_at, Has};
+ghost use Rattle.fs_model.specs.Claims.{exists_at, same, Has};
 ghost use Rattle.type_hierarchy.specs.Table.{count_of};
 ghost use Rattle.fs_graph.specs.Facts.{path_of};
 ghost use Rattle.fs_graph.specs.GraphMap.{IsGraph, type_at, arcs_at};
@@ -174,6 +174,21 @@ impl Nodes {
         self.add_node(alloc, given, path, Some(end))
     }
 
+    // A node has an arc. Where it has one of that feature, the ends of both are to be merged.
+    fn link(&mut self, given: Given<'_>, n: u32, arc: GraphArc) -> Result<(), NoMemory>
+        requires sound { AreSound given self.old }
+        requires node { n < size_of self.old }
+        requires to { arc.to.0 < size_of self.old }
+        requires feat { arc.feat.0 < length given.system.now.introducers }
+        requires forced { Forces given (same (path_in self.old n ++ arc.feat.0 ∷ []) (path_in self.old arc.to.0)) }
+        ensures { AreSound given.entry self.new }
+    {
+        match self.arc_end(given, n, arc.feat) {
+            Some(end) => self.add_pair(given, end, arc.to.0),
+            None => self.add_arc(given, n, arc),
+        }
+    }
+
     // A node has an arc of the graph's node. It leads to `hint`, if that was made for the arc's end, else to a new node. The
     // answer is where it leads.
     fn copy_arc(
@@ -202,7 +217,7 @@ impl Nodes {
         };
         let to = self.image_node(alloc, given, n, arc.feat, end, hint)?;
         let to_node = GraphNode(to);
-        self.add_arc(
+        self.link(
             given,
             n,
             GraphArc {

@@ -1,12 +1,14 @@
 //! Facts are put at nodes.
 
-ghost use Rattle.std.specs.Prelude.{◌≡◌, ℕ, ◌<◌, ◌≤◌, ◌+◌, ◌∷◌, ◌++◌, [], length, All, IfOk, IfSome, OnOk};
+ghost use Rattle.std.specs.Prelude.{◌≡◌, ℕ, ◌<◌, ◌≤◌, ◌+◌, ◌∷◌, ◌++◌, [], length, None, All, IfOk, IfSome, OnOk};
 ghost use Rattle.fs_model.specs.Claims.{exists_at, same};
 ghost use Rattle.fs_graph.specs.Facts.{path_of, claim_of};
-ghost use Rattle.forced_types.specs.Inner.Sound.{Forces, AreSound, KeepPaths, AreFronts, MayPut, IsEnd, EndsAt, GoesOn, size_of, path_in};
+ghost use Rattle.fs_graph.specs.GraphMap.{arc_to};
+ghost use Rattle.forced_types.specs.Inner.Sound.{Forces, AreSound, KeepPaths, AreFronts, MayPut, IsEnd, EndsAt, GoesOn, size_of, entry_in, path_in};
 
 use crate::given::Given;
 use crate::nodes::Nodes;
+use crate::steps::find_arc;
 use fs_closing::NoMemory;
 use fs_graph::{Fact, Feat, GraphArc, Node as GraphNode};
 use std::alloc::Global;
@@ -36,6 +38,7 @@ impl Nodes {
         requires sound { AreSound given self.old }
         requires node { n < size_of self.old }
         requires feat { feat.0 < length given.system.now.introducers }
+        requires lacks { arc_to (entry_in self.old n).arcs feat.0 ≡ None }
         requires forced { Forces given (exists_at (path_in self.old n ++ feat.0 ∷ [])) }
         ensures sound { AreSound given.entry self.new }
         ensures keeps { KeepPaths self.old self.new }
@@ -68,7 +71,7 @@ impl Nodes {
         ensures keeps { KeepPaths self.old self.new }
         ensures end { IfOk result (λ o. IfSome o (EndsAt given.entry self.new (path_in self.old n) feat.0)) }
     {
-        if let Some(to) = crate::steps::find_arc(self.arcs(n), feat) {
+        if let Some(to) = find_arc(self.arcs(n), feat) {
             return Ok(Some(to));
         }
         if self.depth(n) >= given.most() {

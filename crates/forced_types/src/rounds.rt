@@ -237,12 +237,15 @@ impl Nodes {
         self.join_all(given)
     }
 
-    /// All that all nodes lack. What that brings about is left for another round.
-    pub fn round(&mut self, alloc: Global, given: Given<'_>) -> Result<(), NoMemory>
+    /// All that all nodes lack, until there are more nodes than `most`. What that brings about is left for another round.
+    pub fn round(&mut self, alloc: Global, given: Given<'_>, most: u32) -> Result<(), NoMemory>
         requires { AreSound given self.old }
         ensures { AreSound given.entry self.new }
     {
         for n in 0..self.size() {
+            if self.size() > most {
+                break;
+            }
             self.visit(alloc, given, n)?;
         }
         self.flatten(given);

@@ -1,6 +1,6 @@
 //! Steps that add to nodes. None says what isn't forced.
 
-ghost use Rattle.std.specs.Prelude.{◌≡◌, ℕ, ◌<◌, ◌≤◌, ◌∷◌, ◌++◌, [], length, true, Some, IfOk, IfSome, OnOk, OnErr, option_map};
+ghost use Rattle.std.specs.Prelude.{◌≡◌, ℕ, ◌<◌, ◌≤◌, ◌∷◌, ◌++◌, [], length, true, Some, None, IfOk, IfSome, OnOk, OnErr, option_map};
 ghost use Rattle.type_hierarchy.specs.Table.{count_of, meet_of};
 ghost use Rattle.fs_model.specs.Claims.{exists_at, same, below, Has};
 ghost use Rattle.fs_graph.specs.Facts.{path_of};
@@ -173,12 +173,13 @@ impl Nodes {
         self.push_type(n, ty)
     }
 
-    /// One arc more.
+    /// One arc more, of a feature that a node lacks.
     pub fn add_arc(&mut self, given: Given<'_>, n: u32, arc: GraphArc) -> Result<(), NoMemory>
         requires sound { AreSound given self.old }
         requires node { n < size_of self.old }
         requires to { arc.to.0 < size_of self.old }
         requires feat { arc.feat.0 < length given.system.now.introducers }
+        requires lacks { arc_to (entry_in self.old n).arcs arc.feat.0 ≡ None }
         requires forced { Forces given (same (path_in self.old n ++ arc.feat.0 ∷ []) (path_in self.old arc.to.0)) }
         ensures sound { AreSound given.entry self.new }
         ensures keeps { KeepPaths self.old self.new }
@@ -213,6 +214,7 @@ impl Nodes {
         ensures path { IfOk result (λ n. path_in self.new n ≡ path_of path.items) }
         ensures sound { AreSound given.entry self.new }
         ensures keeps { KeepPaths self.old self.new }
+        ensures others { OnOk result ((k : ℕ) → k < size_of self.old → entry_in self.new k ≡ entry_in self.old k) }
     {
         given.system.laws();
         let node = self.push_node(alloc, path, image)?;

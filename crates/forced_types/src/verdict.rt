@@ -1,11 +1,12 @@
 //! Verdicts on parts, and on facts.
 
-ghost use Rattle.std.specs.Prelude.{◌≡◌, ◌<◌, [], length, IfOk};
+ghost use Rattle.std.specs.Prelude.{◌≡◌, ◌<◌, [], length, IfOk, IfSome, option_map};
 ghost use Rattle.fs_model.specs.Claims.{exists_at};
 ghost use Rattle.fs_model.specs.Sources.{Told};
 ghost use Rattle.fs_closing.specs.Rules.{system_of};
 ghost use Rattle.type_hierarchy.specs.Table.{count_of};
 ghost use Rattle.forced_types.specs.Verdicts.{IsVerdict, IsVerdictIn};
+ghost use Rattle.forced_types.specs.Limits.{IsVerdictWithin};
 ghost use Rattle.forced_types.specs.Views.{source_of, source_of_facts, verdict_of, ArePartsIn, AreFactsIn};
 ghost use Rattle.forced_types.specs.Inner.Sound.{AreSound, Forces, source_in};
 ghost use Rattle.forced_types.specs.Inner.Closed.{IsClosed};
@@ -39,6 +40,21 @@ fn begin(alloc: Global, given: Given<'_>) -> Result<Nodes, NoMemory>
     Ok(nodes)
 }
 
+// Nodes that say what is given.
+fn loaded_nodes(alloc: Global, given: Given<'_>) -> Result<Nodes, NoMemory>
+    requires there { Forces given (exists_at []) }
+    requires parts { ArePartsIn given.system.now given.parts.now }
+    requires facts { AreFactsIn given.system.now given.facts.now }
+    ensures { IfOk result (AreSound given.entry) }
+{
+    let mut nodes = begin(alloc, given)?;
+    nodes.load_all(alloc, given)?;
+    nodes.put_facts(alloc, given)?;
+    nodes.join_all(given)?;
+    nodes.flatten(given);
+    Ok(nodes)
+}
+
 // Nodes that say all that is forced.
 fn closed_nodes(alloc: Global, given: Given<'_>) -> Result<Nodes, NoMemory>
     requires there { Forces given (exists_at []) }
@@ -47,16 +63,12 @@ fn closed_nodes(alloc: Global, given: Given<'_>) -> Result<Nodes, NoMemory>
     ensures sound { IfOk result (AreSound given.entry) }
     ensures closed { IfOk result (IsClosed given.entry) }
 {
-    let mut nodes = begin(alloc, given)?;
-    nodes.load_all(alloc, given)?;
-    nodes.put_facts(alloc, given)?;
-    nodes.join_all(given)?;
-    nodes.flatten(given);
+    let mut nodes = loaded_nodes(alloc, given)?;
     for _ in 0..NONE {
         if nodes.is_closed(alloc, given)? {
             return Ok(nodes);
         }
-        nodes.round(alloc, given)?;
+        nodes.round(alloc, given, NONE)?;
     }
     Err(NoMemory)
 }
@@ -104,15 +116,20 @@ fn told_verdict(alloc: Global, given: Given<'_>, nodes: &Nodes) -> Result<Verdic
     Ok(Verdict::Fits)
 }
 
-// The verdict on what is given.
-fn told_on(alloc: Global, given: Given<'_>) -> Result<Verdict, NoMemory>
+// The verdict on what is given, `None` where it forces more paths than the limit.
+fn told_within(alloc: Global, given: Given<'_>, limit: u32) -> Result<Option<Verdict>, NoMemory>
     requires there { Forces given (exists_at []) }
     requires parts { ArePartsIn given.system.now given.parts.now }
     requires facts { AreFactsIn given.system.now given.facts.now }
-    ensures { IfOk result (λ v. IsVerdict (system_of given.entry.system.now) (Told (source_in given.entry)) (verdict_of v)) }
+    ensures { IfOk result (λ o. IsVerdictWithin (system_of given.entry.system.now) (Told (source_in given.entry)) limit (option_map verdict_of o)) }
 {
-    let nodes = closed_nodes(alloc, given)?;
-    told_verdict(alloc, given, &nodes)
+    let mut nodes = loaded_nodes(alloc, given)?;
+    let few = nodes.close_within(alloc, given, limit)?;
+    if few {
+        let verdict = told_verdict(alloc, given, &nodes)?;
+        return Ok(Some(verdict));
+    }
+    Ok(None)
 }
 
 /// Whether parts go together, and else why not: the first path at which they force two types without a common subtype, or a path
@@ -133,21 +150,24 @@ pub fn verdict_on(
         parts,
         facts: &[],
     };
-    told_on(alloc, given)
+    let nodes = closed_nodes(alloc, given)?;
+    told_verdict(alloc, given, &nodes)
 }
 
-/// The same of facts on paths from the root: what the structure of a definition is the closure of.
+/// The same of facts on paths from the root, what the structure of a definition is the closure of: `None` exactly where they force more
+/// paths than the limit, beside that of the root. Then it stops soon after there are more, before what clashes is looked for.
 ///
 /// `NoMemory` comes for want of memory, or where counts don't fit 32 bits.
 pub fn verdict_on_facts(
     alloc: Global,
     system: &TypeSystem,
     facts: &[Fact],
-) -> Result<Verdict, NoMemory>
+    limit: u32,
+) -> Result<Option<Verdict>, NoMemory>
     requires some { 0 < length facts.now }
     requires within { AreFactsIn system.now facts.now }
-    ensures verdict { IfOk result (λ v. IsVerdict (system_of system.now) (Told (source_of_facts facts.now)) (verdict_of v)) }
-    ensures within { IfOk result (λ v. IsVerdictIn (length system.now.introducers) (count_of system.now.types) (verdict_of v)) }
+    ensures verdict { IfOk result (λ o. IsVerdictWithin (system_of system.now) (Told (source_of_facts facts.now)) limit (option_map verdict_of o)) }
+    ensures within { IfOk result (λ o. IfSome o (λ v. IsVerdictIn (length system.now.introducers) (count_of system.now.types) (verdict_of v))) }
 {
     system.laws();
     let types = system.types();
@@ -158,6 +178,6 @@ pub fn verdict_on_facts(
         parts: &[],
         facts,
     };
-    let verdict = told_on(alloc, given)?;
+    let verdict = told_within(alloc, given, limit)?;
     Ok(verdict)
 }

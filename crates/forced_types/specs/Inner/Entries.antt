@@ -1,8 +1,9 @@
 -- Nodes in plain terms.
-use Rattle.std.specs.Prelude.{ℕ, ◌≡◌, ◌≢◌, ◌⊎◌, Option, None, List, [], ◌∷◌, ◌++◌, map, length, slice_index_or}
+use Rattle.std.specs.Prelude.{ℕ, ◌≡◌, ◌≢◌, ◌<◌, ◌⊎◌, Option, None, List, [], ◌∷◌, ◌++◌, map, length, slice_index_or}
 use Rattle.fs_model.specs.Claims.{Path, Has}
 use Rattle.fs_graph.specs.Facts.{path_of}
 use Rattle.fs_graph.specs.declared.graph.GraphArc.{GraphArc}
+use Rattle.fs_graph.specs.Visits.{feats_of}
 use Rattle.forced_types.specs.declared.nodes.Image.{Image}
 use Rattle.forced_types.specs.declared.nodes.Node.{Node}
 
@@ -31,6 +32,13 @@ paths_of es = map (λ e. e.path) es
 abbrev pub path_at : List Path → ℕ → Path
 path_at ps k = slice_index_or ps k []
 
+-- no two arcs of a row have one feature
+abbrev pub feat_at : List GraphArc → ℕ → ℕ
+feat_at arcs i = slice_index_or (feats_of arcs) i 0
+
+abbrev pub AreFeatsApart : List GraphArc → Type 0
+AreFeatsApart arcs = (i j : ℕ) → i < j → j < length arcs → feat_at arcs i ≢ feat_at arcs j
+
 -- a node gets no types but one
 pub record IsTyped (old new : Entry) (ty : ℕ) : Type 0 where
   pub path : new.path ≡ old.path
@@ -39,13 +47,13 @@ pub record IsTyped (old new : Entry) (ty : ℕ) : Type 0 where
   pub image : new.image ≡ old.image
   pub types : (t : ℕ) → Has t new.types → Has t old.types ⊎ (t ≡ ty)
 
--- a node gets no arcs but one
+-- a node gets one arc more, or none
 pub record IsArced (old new : Entry) (arc : GraphArc) : Type 0 where
   pub path : new.path ≡ old.path
   pub up : new.up ≡ old.up
   pub types : new.types ≡ old.types
   pub image : new.image ≡ old.image
-  pub arcs : (a : GraphArc) → Has a new.arcs → Has a old.arcs ⊎ (a ≡ arc)
+  pub arcs : (new.arcs ≡ old.arcs) ⊎ (new.arcs ≡ old.arcs ++ arc ∷ [])
 
 -- a node is merged into another one
 pub record IsRaised (old new : Entry) (up : ℕ) : Type 0 where

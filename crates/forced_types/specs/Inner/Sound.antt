@@ -14,7 +14,7 @@ use Rattle.forced_types.specs.declared.nodes.Pair.{Pair}
 use Rattle.forced_types.specs.declared.placed.PlacedGraph.{PlacedGraph}
 use Rattle.forced_types.specs.Forced.{Forced, IsWithin, IsPathIn}
 use Rattle.forced_types.specs.Views.{part_of, ArePartsIn, AreFactsIn}
-use Rattle.forced_types.specs.Inner.Entries.{Entry, entry_at, entries_of}
+use Rattle.forced_types.specs.Inner.Entries.{Entry, AreFeatsApart, entry_at, entries_of}
 
 -- the greatest number of features of a path in what is forced
 abbrev pub most_of : Given → ℕ
@@ -52,6 +52,7 @@ pub record IsSoundAt (g : Given) (size : ℕ) (path : ℕ → Path) (e : Entry) 
   pub type_forced : (t : ℕ) → Has t e.types → Forces g (below e.path t)
   pub arc_in : (a : GraphArc) → Has a e.arcs → (a.to.0 < size) × (a.feat.0 < length g.system.now.introducers)
   pub arc_forced : (a : GraphArc) → Has a e.arcs → Forces g (same (e.path ++ a.feat.0 ∷ []) (path a.to.0))
+  pub arcs_apart : AreFeatsApart e.arcs
   pub image : (im : Image) → e.image ≡ Some im → IsImage g.parts.now e.path im
 
 abbrev pub paths_in : List Entry → ℕ → Path

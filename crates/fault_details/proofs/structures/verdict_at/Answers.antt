@@ -22,7 +22,7 @@ lacking_verdict-requires-clause-within c = subst (λ (l : List Fact). AreFactsIn
 pub returns-in-Ok-clause-verdict : goal.returns-in-Ok-clause-verdict
 returns-in-Ok-clause-verdict c =
     let t = c.args.typed.now in
-    verdicts-moved t.system c.in-Ok.facts.items c.deref.result.now
+    verdicts-moved t.system c.args.names.now.node_limit c.in-Ok.facts.items c.deref.result.now
     (claims_of_definition t.system (settled_of c.args.names.now) (texts t.feats.items) (statement_at (walked_of c.args.walked.now).statements c.args.k)) c.lacking_verdict.result
     c.in-Ok.ensures.claims c.deref.ensures.value c.lacking_verdict.ensures.verdict
 

@@ -10,7 +10,7 @@ returns-clause-sound c =
     let alters = c.push_arc.ensures.node in
     changed_sound c.args.given t c.push_arc.new.self c.args.n (λ e f. IsArced e f c.args.arc) c.requires.sound alters c.push_arc.ensures.pairs alters.here.path
     (arced c.args.given _ (path_in t) (entry_in t c.args.n) _ c.args.arc (c.requires.sound.entries.each c.args.n (omega (arith, entry_count t, c.requires.node))) alters.here
-    (omega (arith, entry_count t, c.requires.to)) c.requires.feat c.requires.forced)
+    (omega (arith, entry_count t, c.requires.to)) c.requires.feat c.requires.lacks c.requires.forced)
 
 pub returns-clause-keeps : goal.returns-clause-keeps
 returns-clause-keeps c = changed_keeps c.args.self.now c.push_arc.new.self c.args.n (λ e f. IsArced e f c.args.arc) c.push_arc.ensures.node c.push_arc.ensures.node.here.path

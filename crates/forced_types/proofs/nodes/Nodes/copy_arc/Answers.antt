@@ -20,8 +20,8 @@ image_node-requires-clause-image c =
     let at = c.requires.entries.each c.args.n (omega (arith, entry_count t, c.in-Some.ensures.node)) in
     arc_image g (path_in t c.args.n) c.in-Some.image c.in-Some.ensures.image c.image_arc.ensures.graph at.there c.in-Some-image_arc.arc c.in-Some-image_arc.ensures.has
 
-pub add_arc-requires-clause-forced : goal.add_arc-requires-clause-forced
-add_arc-requires-clause-forced c =
+pub link-requires-clause-forced : goal.link-requires-clause-forced
+link-requires-clause-forced c =
     let g = c.args.given in
     let t = c.args.self.now in
     let t' = c.image_node.new.self in

@@ -38,3 +38,6 @@ returns-clause-end c =
       inside = c.in_ok-to.ensures.inside;
       leads = λ p e on. subst (λ x. Forces c.args.given (same (p ++ f ∷ []) x)) (sym c.in_ok-to.ensures.path) (extended c.args.given p (path_in t c.args.n) f e on room);
     }
+
+pub grow-requires-clause-lacks : goal.grow-requires-clause-lacks
+grow-requires-clause-lacks c = ap (λ x. arc_to x c.args.feat.0) (sym c.arcs.ensures) ∙ sym c.find_arc.ensures ∙ c.in_default.is
