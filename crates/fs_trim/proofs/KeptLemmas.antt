@@ -20,12 +20,12 @@ use Rattle.fs_graph.proofs.RowLemmas.{row_at}
 use Rattle.fs_closing.specs.Rules.{Grammar}
 use Rattle.fs_unify.specs.Entering.{IsGraphIn}
 use Rattle.fs_unify.proofs.EnterLemmas.{rises_found, arc_to_has}
+use Rattle.fs_drawing.proofs.FilterLemmas.{either_none, arc_to-filter}
 use Rattle.tree_model.specs.Cuts.{Cut, is_kept}
 use Rattle.tree_model.specs.Views.{IsKeptOf, without}
 use Rattle.fs_trim.specs.Cutting.{IsShort}
 use Rattle.fs_trim.specs.Inner.Rows.{leaves, IsCutPlan}
 use Rattle.fs_trim.proofs.KeepLemmas.{IsBared, bared_kept}
-use Rattle.fs_trim.proofs.LeftLemmas.{either_none, arc_to-filter}
 
 -- one structure after another
 same_on : {a b c : Reader} → IsSameStructure a b → IsSameStructure b c → IsSameStructure a c

@@ -7,3 +7,4 @@ pub mod OweLemmas
 pub mod MeetLemmas
 pub mod MarkLemmas
 pub mod ArcLemmas
+pub mod CutLemmas

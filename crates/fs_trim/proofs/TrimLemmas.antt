@@ -62,7 +62,7 @@ alone_in g graph is p (there h) = elim h [ ]
 -- what a cut keeps, in the words of the model
 pub without_answer : (g : Grammar) (source : Source) (cut : Cut) (o : Option GraphMap) → KeepsUnified g source cut o → IsTrimmed (system_of g) source [] cut (option_map reader_of o)
 without_answer g source cut None x = x
-without_answer g source cut (Some k) x = cut_trims (system_of g) source cut (reader_of x.whole) (reader_of k) x.unified x.keeps
+without_answer g source cut (Some k) x = cut_trims (system_of g) source cut x.whole (reader_of k) x.unified x.keeps
 
 pub without_known : (g : Grammar) (source : Source) (cut : Cut) (o : Option GraphMap) → KeepsUnified g source cut o → IfSome o (IsShort g)
 without_known g source cut None x = tt
@@ -79,8 +79,8 @@ pub again_answer : (g : Grammar) (source alone : Source) (cut last : Cut) (bare 
 again_answer g source alone cut last bare None e made x =
     absurd ((steps_trim (system_of g) source cut last (reader_of bare) made).1 (subst (λ a. IsUnified (system_of g) a None) e x))
 again_answer g source alone cut last bare (Some k) e made x =
-    (steps_trim (system_of g) source cut last (reader_of bare) made).0 (reader_of x.whole) (reader_of k)
-    (subst (λ a. IsUnified (system_of g) a (Some (reader_of x.whole))) e x.unified) x.keeps
+    (steps_trim (system_of g) source cut last (reader_of bare) made).0 x.whole (reader_of k)
+    (subst (λ a. IsUnified (system_of g) a (Some x.whole)) e x.unified) x.keeps
 
 pub again_known : (g : Grammar) (source alone : Source) (cut last : Cut) (bare : GraphMap) (o : Option GraphMap) → alone ≡ source_alone (reader_of bare) →
     IsTrimmed (system_of g) source [] cut (Some (reader_of bare)) → KeepsUnified g alone last o → IfSome o (IsShort g)

@@ -19,7 +19,7 @@ mod nodes;
 mod subsuming;
 
 use fs_graph::{Feat, Graph};
-use fs_unify::{NoMemory, Owed, Parts, Scratch, TypeSystem, unify};
+use fs_unify::{NoMemory, Owed, Parts, Scratch, TypeSystem, unify_cut};
 pub use kept::keep;
 use std::alloc::Global;
 pub use subsuming::subsumes;
@@ -47,7 +47,7 @@ pub fn owing_laws()
     ensures closures { ClosuresOwe }
 {}
 
-// What a cut keeps of the unification of graphs, with the unification beside it.
+// What a cut keeps of the unification of graphs, which is told beside it.
 fn unify_and_keep(
     alloc: Global,
     scratch: &mut Scratch,
@@ -61,9 +61,8 @@ fn unify_and_keep(
     ensures room { room_of scratch.old ≤ room_of scratch.new }
     ensures keeps { IfOk result (λ o. KeepsUnified system.now (source_of parts.now) (cut_of cut.now) o) }
 {
-    match unify(alloc, scratch, system, parts)? {
-        Some(whole) => {
-            let kept = keep(alloc, &whole, cut)?;
+    match unify_cut(alloc, scratch, system, parts, &cut.at_root, &cut.anywhere)? {
+        Some(kept) => {
             kept.laws();
             Ok(Some(kept))
         }

@@ -4,26 +4,28 @@ use Rattle.std.proofs.lemmas.Bool.{cases_lt}
 use Rattle.std.proofs.Math.Seq.{drop-cons}
 use Rattle.fs_model.specs.Claims.{Path, Claim, exists_at, same, below, System, IsOrder, IsBare, Has, here}
 use Rattle.fs_model.specs.Closure.{Closure, IsConsistent, given_claim, same_exists, below_exists, prefix}
-use Rattle.fs_model.specs.Sources.{Reader, Source, Told, told_claim, told_part}
+use Rattle.fs_model.specs.Sources.{Reader, Source, Told, told_claim, told_part, Tells, tells_exists, tells_same, tells_below, IsGraphOf, IsUnified}
 use Rattle.fs_model.specs.Table.{Table, NodeClaim, from}
 use Rattle.fs_model.specs.Steps.{Starts}
+use Rattle.fs_model.proofs.ClosureLemmas.{closure_grows}
 use Rattle.fs_model.proofs.Ends.{Closes-starts}
 use Rattle.fs_model.proofs.StepLemmas.{same_or_other}
 use Rattle.fs_closing.specs.declared.nodes.Nodes.{Nodes}
 use Rattle.fs_closing.specs.declared.tasks.Tasks.{Tasks}
-use Rattle.fs_closing.specs.NodeTable.{table_of, at_of, own_type, own_row, depth_of, IsWhole, IsWithin, AreFlat}
+use Rattle.fs_closing.specs.NodeTable.{table_of, depth_of, IsWhole, IsWithin, AreFlat}
 use Rattle.fs_closing.specs.NodeSteps.{AddsNode, AddsDepth, EntersDepth}
 use Rattle.fs_closing.specs.Rules.{Grammar, system_of}
 use Rattle.fs_closing.specs.Work.{work_of}
-use Rattle.fs_unify.specs.Given.{facts_source, StandsFor, StandsForSome, Gathers, Decides, Pictured, Settles}
-use Rattle.fs_unify.specs.Drawing.{IsPictureIn, Shows, Answers}
-use Rattle.fs_unify.specs.declared.draw.Picture.{Picture}
-use Rattle.fs_graph.specs.Inside.{graph_map}
-use Rattle.fs_closing.proofs.MarkLemmas.{table_whole, root_lives}
-use Rattle.fs_unify.specs.Entering.{IsGraphIn}
-use Rattle.fs_unify.proofs.DrawLemmas.{picture_bounds, consistent_closed}
+use Rattle.fs_unify.specs.Given.{facts_source, StandsFor, StandsForSome, Gathers, Decides, Settles, SettlesWithout}
+use Rattle.fs_drawing.specs.Drawing.{Answers, AnswersWithout, BoundsPaths}
+use Rattle.fs_drawing.specs.Bounding.{Decided}
+use Rattle.fs_drawing.specs.declared.draw.Off.{Off}
+use Rattle.fs_unify.specs.Entering.{IsGraphIn, IsWellFormed}
+use Rattle.fs_unify.specs.Placing.{IsAnswerIn}
+use Rattle.fs_drawing.proofs.DrawLemmas.{consistent_closed}
 use Rattle.std.specs.Prelude.{IfSome, IsTrue, ◌↔◌}
-use Rattle.fs_graph.specs.GraphMap.{GraphMap}
+use Rattle.std.specs.Option.{option_map}
+use Rattle.fs_graph.specs.GraphMap.{GraphMap, reader_of}
 use Rattle.type_hierarchy.specs.Table.{count_of}
 use Rattle.fs_closing.specs.Keeps.{Deep, deep_of, Stands, Leads, Clashes, StepsTo}
 use Rattle.fs_closing.proofs.HasLemmas.{Has-map, Has-of_map}
@@ -99,23 +101,17 @@ decides_none g nodes tasks nodes' order leads none source st ok =
     let r = closed_stands g nodes tasks nodes' source st leads in
     none (system_of g) source r.0 order refl r.1 ok
 
--- closed nodes, with their picture if there is one
-pub pictured : (g : Grammar) (nodes : Nodes) (tasks : Tasks) (nodes' : Nodes) (limit : ℕ) (p : Picture) (b : Bool) → IsOrder (system_of g) → limit ≡ g.path_limit →
-    Leads g nodes (work_of g.rules tasks) nodes' [] → IsWhole nodes' → IsWithin (count_of g.types) (length g.introducers) nodes' → 0 < nodes'.size →
-    Shows nodes' limit p b → Pictured g nodes tasks nodes' p b
-pictured g nodes tasks nodes' limit p false order is leads whole within filled none =
-    decides_none g nodes tasks nodes' order leads (subst (λ l. Answers (deep_of nodes') l None) is none)
-pictured g nodes tasks nodes' limit p true order is leads whole within filled some =
-    let shown = subst (λ l. IsPictureIn (table_of nodes') l p) is some in
-    let root = root_lives (at_of nodes') (own_row nodes') nodes'.cells nodes'.merges nodes'.size whole.stands in
-    let ok = table_whole (at_of nodes') (own_type nodes') (own_row nodes') nodes'.cells nodes'.merges nodes'.size whole.stands in
-    let bounds = picture_bounds (table_of nodes') ok g.path_limit (graph_map p.types.items p.starts.items p.arcs.items) p.order.longest filled root shown.shows
-    shown.order.longest shown.short in
-    ((leads, whole, within, bounds, filled), shown)
-
 pub decides_clash : (g : Grammar) (nodes : Nodes) (tasks : Tasks) (nodes' : Nodes) → Clashes g nodes (work_of g.rules tasks) → Decides g nodes tasks nodes' false
 decides_clash g nodes tasks nodes' clash source st ok =
     clash [] source st.paths (padded (system_of g) (Told source) (deep_of nodes) (work_of g.rules tasks) st.paths st.stands) ok
+
+-- closed nodes, whose paths were looked at
+pub decides_closed : (g : Grammar) (nodes : Nodes) (tasks : Tasks) (nodes' : Nodes) (limit : ℕ) (b : Bool) → IsOrder (system_of g) → limit ≡ g.path_limit →
+    Leads g nodes (work_of g.rules tasks) nodes' [] → IsWhole nodes' → IsWithin (count_of g.types) (length g.introducers) nodes' → 0 < nodes'.size →
+    Decided nodes' limit b → Decides g nodes tasks nodes' b
+decides_closed g nodes tasks nodes' limit false order is leads whole within filled none =
+    decides_none g nodes tasks nodes' order leads (subst (λ l. Answers (deep_of nodes') l None) is none)
+decides_closed g nodes tasks nodes' limit true order is leads whole within filled bounds = (leads, whole, within, subst (BoundsPaths (table_of nodes')) is bounds, filled)
 
 -- the test alone
 pub decided : (g : Grammar) (nodes : Nodes) (tasks : Tasks) (nodes' : Nodes) (source : Source) (b : Bool) → IsOrder (system_of g) → StandsFor g source nodes tasks →
@@ -128,15 +124,15 @@ decided g nodes tasks nodes' source true order st d = (
 )
 decided g nodes tasks nodes' source false order st d = (λ e. absurd cc, λ ok. absurd (d source st ok))
 
--- what is decided where nodes are drawn
-pub decided_by : (g : Grammar) (nodes : Nodes) (tasks : Tasks) (nodes' : Nodes) (source : Source) (p : Picture) (b : Bool) → IsOrder (system_of g) →
-    StandsFor g source nodes tasks → Pictured g nodes tasks nodes' p b → IsTrue b ↔ IsConsistent (system_of g) (Told source)
-decided_by g nodes tasks nodes' source p false order st d = decided g nodes tasks nodes' source false order st d
-decided_by g nodes tasks nodes' source p true order st d = decided g nodes tasks nodes' source true order st d.0
-
 pub settles_by : (g : Grammar) (nodes : Nodes) (tasks : Tasks) (nodes' : Nodes) (o : Option Reader) → IsOrder (system_of g) →
     Leads g nodes (work_of g.rules tasks) nodes' [] → Answers (deep_of nodes') g.path_limit o → Settles g nodes tasks o
 settles_by g nodes tasks nodes' o order leads answers source st =
+    let r = closed_stands g nodes tasks nodes' source st leads in
+    answers (system_of g) source r.0 order refl r.1
+
+pub settles_without_by : (g : Grammar) (nodes : Nodes) (tasks : Tasks) (nodes' : Nodes) (off : Off) (o : Option Reader) → IsOrder (system_of g) →
+    Leads g nodes (work_of g.rules tasks) nodes' [] → AnswersWithout (deep_of nodes') g.path_limit off o → SettlesWithout g nodes tasks off o
+settles_without_by g nodes tasks nodes' off o order leads answers source st =
     let r = closed_stands g nodes tasks nodes' source st leads in
     answers (system_of g) source r.0 order refl r.1
 
@@ -175,3 +171,26 @@ flat_entered count nodes nodes' d flat n = go (cases_lt n nodes.size)
     go (inr h) =
         let e : nodes.size + (n - nodes.size) ≡ n = omega arith in
         subst (λ i. depth_of nodes' i ≡ 0) e (new (n - nodes.size) (cases_lt (n - nodes.size) count) (cases_lt 0 (n - nodes.size)))
+
+-- the structure of a closure is well-formed
+pub well_formed : (s : System) (g : Claim → Type 0) (r : Reader) → IsGraphOf s g r → IsWellFormed s r
+well_formed s g r x = record {
+  paths = λ p. ((λ c. (x.paths p).0 (back _ c)), (λ m. given_claim _ (tells_exists p m.0 m.1)));
+  equalities = λ p q. ((λ c. (x.equalities p q).0 (back _ c)), (λ m. given_claim _ (tells_same p q m.0 m.1 m.2)));
+  types_there = λ p n e. given_claim _ (tells_below p n e);
+  types_above = λ p n t e c. x.types_above p n t e (back _ c);
+}
+  where
+    said : (c : Claim) → Tells r c → Closure s g c
+    said _ (tells_exists p n e) = (x.paths p).1 (n, e)
+    said _ (tells_same p q n e d) = (x.equalities p q).1 (n, e, d)
+    said _ (tells_below p n e) = x.types_there p n e
+
+    back : (c : Claim) → Closure s (Tells r) c → Closure s g c
+    back c h = closure_grows s (Tells r) g said c h
+
+-- what is known of an answer
+pub known_some : (g : Grammar) (source : Source) (o : Option GraphMap) → IsUnified (system_of g) source (option_map reader_of o) →
+    IfSome o (IsGraphIn (count_of g.types) (length g.introducers)) → IfSome o (IsAnswerIn g)
+known_some g source None u i = i
+known_some g source (Some graph) u i = record { graph_in = i; well_formed = well_formed (system_of g) (Told source) (reader_of graph) u.1 }

@@ -1,12 +1,6 @@
-pub mod DrawLemmas
-pub mod DrawCells
-pub mod DrawOwn
-pub mod DrawRows
 pub mod GivenLemmas
-pub mod FewLemmas
 pub mod LimitLemmas
 pub mod EnterLemmas
-pub mod InsideLemmas
 pub mod OwedLemmas
 pub mod OwedRows
 pub mod PartModel

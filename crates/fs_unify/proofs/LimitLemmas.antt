@@ -1,13 +1,16 @@
 -- Closings within a limit on paths.
-use Rattle.std.proofs.Common.{ℕ, ◌≡◌, ◌<◌, ◌⊎◌, inl, inr, Bool, true, false, Option, Some, None, List, [], length, subst, refl, sym}
+use Rattle.std.proofs.Common.{ℕ, ◌≡◌, ◌<◌, ◌⊎◌, inl, inr, Bool, true, false, Option, Some, None, List, [], length, slice_index, slice_index_or, subst, refl, sym}
 use Rattle.std.specs.Prelude.{IfSome}
 use Rattle.std.specs.Option.{option_map}
 use Rattle.type_hierarchy.specs.Table.{count_of}
-use Rattle.fs_model.specs.Claims.{Path, System, IsOrder}
+use Rattle.fs_model.specs.Claims.{Path, Claim, System, IsOrder}
+use Rattle.fs_model.specs.Closure.{same_exists}
 use Rattle.fs_model.specs.Sources.{Reader, Source, Told, IsUnified}
-use Rattle.fs_model.specs.Table.{NodeClaim}
+use Rattle.fs_model.specs.Table.{Table, NodeClaim, Stated, by_node, by_arc, by_merge, by_type, by_work, IsSound}
+use Rattle.fs_model.proofs.TableLemmas.{from_root, Table-structure}
 use Rattle.type_hierarchy.specs.declared.types.Ty.{Ty}
 use Rattle.fs_graph.specs.declared.graph.GraphArc.{GraphArc}
+use Rattle.fs_graph.specs.Facts.{path_of}
 use Rattle.fs_graph.specs.GraphMap.{GraphMap, reader_of, table_of as graph_table}
 use Rattle.fs_graph.specs.Inside.{graph_map}
 use Rattle.fs_graph.specs.Orders.{ArePlan}
@@ -23,14 +26,16 @@ use Rattle.fs_closing.proofs.KeepsLemmas.{Turns-on, Refutes-after}
 use Rattle.fs_unify.specs.Entering.{IsGraphIn}
 use Rattle.fs_unify.specs.Placing.{IsAnswerIn}
 use Rattle.fs_unify.specs.Given.{StandsFor, StandsForSome, Gathers}
-use Rattle.fs_closing.proofs.MarkLemmas.{table_whole, root_lives}
-use Rattle.fs_unify.specs.declared.draw.Picture.{Picture}
-use Rattle.fs_unify.specs.Drawing.{Answers, IsPicture}
+use Rattle.fs_closing.proofs.MarkLemmas.{table_whole}
+use Rattle.fs_drawing.specs.declared.draw.Picture.{Picture}
+use Rattle.fs_drawing.specs.declared.draw.Off.{Off}
+use Rattle.fs_drawing.specs.Drawing.{leaves_of, Answers, IsPicture}
 use Rattle.fs_unify.specs.Limits.{HasMorePaths, IsUnifiedWithin}
-use Rattle.fs_unify.specs.Counting.{LeadsMore, Counts, Exceeds, AnswersWithin, SettlesWithin}
-use Rattle.fs_unify.proofs.DrawLemmas.{well_formed}
-use Rattle.fs_unify.proofs.GivenLemmas.{padded, unpadded, closed_stands, decides_clash}
-use Rattle.fs_unify.proofs.FewLemmas.{counts_shown, stands_more, closed_few}
+use Rattle.fs_drawing.specs.Counting.{LeadsMore, Counts}
+use Rattle.fs_unify.specs.Counting.{Exceeds, AnswersWithin, SettlesWithin}
+use Rattle.fs_drawing.proofs.DrawLemmas.{filled_plan}
+use Rattle.fs_unify.proofs.GivenLemmas.{well_formed, padded, unpadded, closed_stands, decides_clash}
+use Rattle.fs_drawing.proofs.FewLemmas.{counts_shown}
 
 -- the rows of a picture, as they are lent, are a plan
 pub laid_plan : (p : Picture) (starts : List ℕ) (arcs : List GraphArc) → starts ≡ p.starts.items → arcs ≡ p.arcs.items →
@@ -38,17 +43,55 @@ pub laid_plan : (p : Picture) (starts : List ℕ) (arcs : List GraphArc) → sta
 laid_plan p starts arcs s a plan =
     (p.types.items, subst (λ z. ArePlan p.types.items z arcs) (sym s) (subst (λ z. ArePlan p.types.items p.starts.items z) (sym a) plan))
 
--- and the paths along them are those of the nodes
-pub laid_count : (nodes : Nodes) → IsWhole nodes → 0 < nodes.size → (p : Picture) (starts : List ℕ) (arcs : List GraphArc) → starts ≡ p.starts.items → arcs ≡ p.arcs.items →
-    ArePlan p.types.items p.starts.items p.arcs.items → IsPicture (table_of nodes) (graph_map p.types.items p.starts.items p.arcs.items) → (limit : ℕ) (few : Bool) →
+-- and the paths along them are those of the nodes, where nothing is cut off
+pub laid_count : (nodes : Nodes) → IsWhole nodes → (off : Off) → path_of off.at_root.now ≡ [] → path_of off.anywhere.now ≡ [] → (p : Picture) (starts : List ℕ)
+    (arcs : List GraphArc) → starts ≡ p.starts.items → arcs ≡ p.arcs.items → ArePlan p.types.items p.starts.items p.arcs.items →
+    IsPicture (table_of nodes) (leaves_of off) (slice_index p.met.nodes.items) (graph_map p.types.items p.starts.items p.arcs.items) → (limit : ℕ) (few : Bool) →
     ((types : List Ty) → ArePlan types starts arcs → Counts (graph_table (graph_map types starts arcs)) limit few) → Counts (table_of nodes) limit few
-laid_count nodes whole filled p starts arcs s a plan shows limit few counts =
+laid_count nodes whole off no_root nowhere p starts arcs s a plan shows limit few counts =
     let moved = subst (λ z. ArePlan p.types.items z arcs) (sym s) (subst (λ z. ArePlan p.types.items p.starts.items z) (sym a) plan) in
     let here = subst (λ z. Counts (graph_table (graph_map p.types.items p.starts.items z)) limit few) a
     (subst (λ z. Counts (graph_table (graph_map p.types.items z arcs)) limit few) s (counts p.types.items moved)) in
-    let root = root_lives (at_of nodes) (own_row nodes) nodes.cells nodes.merges nodes.size whole.stands in
     let ok = table_whole (at_of nodes) (own_type nodes) (own_row nodes) nodes.cells nodes.merges nodes.size whole.stands in
-    counts_shown (table_of nodes) ok filled root (graph_map p.types.items p.starts.items p.arcs.items) shows limit few here
+    counts_shown (table_of nodes) ok off no_root nowhere (slice_index p.met.nodes.items) (graph_map p.types.items p.starts.items p.arcs.items)
+    (filled_plan p.types.items p.starts.items p.arcs.items plan) shows limit few here
+
+-- what a table says by itself it says beside its work
+beside_work : (t : Table) (work : List NodeClaim) (c : NodeClaim) → Stated t [] c → Stated t work c
+beside_work t work _ (by_node n h) = by_node n h
+beside_work t work _ (by_arc n f m h l e) = by_arc n f m h l e
+beside_work t work _ (by_merge n h) = by_merge n h
+beside_work t work _ (by_type n h l) = by_type n h l
+beside_work t work _ (by_work c h) = elim h [ ]
+
+-- the paths of a table are in the closure, whatever work is left
+pub stands_more : (s : System) (given : Claim → Type 0) (x : Deep) (work : List NodeClaim) (w : ℕ → Path) (limit : ℕ) → Stands s given x work w →
+    LeadsMore x.table limit → HasMorePaths s given limit
+stands_more s given x work w limit st m =
+    let c = st.closes in
+    let sound : IsSound s given x.table [] w =
+    record { root = c.sound.root; stated_in = λ k h. c.sound.stated_in k (beside_work x.table work k h) } in
+    record {
+      paths = m.paths;
+      apart = m.apart;
+      exist = λ i h.
+          let r = m.lead i h in
+          same_exists (slice_index_or m.paths i []) (w r.0) (from_root s given x.table c.table c.filled w sound r.0 (slice_index_or m.paths i []) r.1);
+      more = m.more;
+    }
+
+-- those of a table without work are all that are there
+pub closed_few : (s : System) → IsOrder s → (source : Source) (x : Deep) (w : ℕ → Path) (limit : ℕ) → Stands s (Told source) x [] w →
+    Counts x.table limit true → HasMorePaths s (Told source) limit → ⊥
+closed_few s order source x w limit st few m =
+    let c = st.closes in
+    let structure_is = Table-structure s order (Told source) x.table c.table c.filled w c.sound c.complete in
+    few (record {
+      paths = m.paths;
+      apart = m.apart;
+      lead = λ i h. (structure_is.paths (slice_index_or m.paths i [])).0 (m.exist i h);
+      more = m.more;
+    })
 
 -- nodes to which others lead stand for the same
 pub led : (g : Grammar) (nodes : Nodes) (tasks : Tasks) (nodes' : Nodes) (tasks' : Tasks) (source : Source) → StandsFor g source nodes tasks →

@@ -9,8 +9,10 @@ use Rattle.fs_closing.specs.declared.tasks.Tasks.{Tasks}
 use Rattle.fs_closing.specs.Rules.{Grammar, system_of}
 use Rattle.fs_closing.specs.Work.{work_of}
 use Rattle.fs_closing.specs.NodeTable.{table_of, IsWhole, IsWithin}
-use Rattle.fs_unify.specs.Drawing.{BoundsPaths, IsPictureIn}
-use Rattle.fs_unify.specs.declared.draw.Picture.{Picture}
+use Rattle.fs_graph.specs.Facts.{path_of}
+use Rattle.fs_drawing.specs.Cutting.{IsUnifiedWithout}
+use Rattle.fs_drawing.specs.Drawing.{BoundsPaths}
+use Rattle.fs_drawing.specs.declared.draw.Off.{Off}
 use Rattle.fs_closing.specs.Keeps.{AreSound, deep_of, Stands, Leads}
 
 abbrev pub facts_source : List Claim → Source
@@ -38,11 +40,11 @@ Decides g nodes tasks nodes' true =
 Decides g nodes tasks nodes' false =
     (source : Source) → StandsFor g source nodes tasks → IsConsistent (system_of g) (Told source) → ⊥
 
--- nodes were closed with their tasks and drawn, or all claims for which they stand are inconsistent
-abbrev pub Pictured : Grammar → Nodes → Tasks → Nodes → Picture → Bool → Type 0
-Pictured g nodes tasks nodes' p true = Decides g nodes tasks nodes' true × IsPictureIn (table_of nodes') g.path_limit p
-Pictured g nodes tasks nodes' p false = Decides g nodes tasks nodes' false
-
 -- the answer of unification, for all claims for which nodes with tasks stand
 abbrev pub Settles : Grammar → Nodes → Tasks → Option Reader → Type 0
 Settles g nodes tasks o = (source : Source) → StandsFor g source nodes tasks → IsUnified (system_of g) source o
+
+-- the same without features that are cut off
+abbrev pub SettlesWithout : Grammar → Nodes → Tasks → Off → Option Reader → Type 0
+SettlesWithout g nodes tasks off o =
+    (source : Source) → StandsFor g source nodes tasks → IsUnifiedWithout (system_of g) source (path_of off.at_root.now) (path_of off.anywhere.now) o

@@ -1,12 +1,9 @@
 -- Structures of closures that have no more paths than a limit.
-use Rattle.std.specs.Prelude.{ℕ, ◌≡◌, ◌≢◌, ◌<◌, ◌+◌, ◌⊎◌, Option, Some, None, List, [], length, slice_index_or}
+use Rattle.std.specs.Prelude.{ℕ, ◌<◌, ◌+◌, ◌⊎◌, Option, Some, None, List, [], length, slice_index_or}
 use Rattle.fs_model.specs.Claims.{Path, Claim, exists_at, System}
 use Rattle.fs_model.specs.Closure.{Closure}
 use Rattle.fs_model.specs.Sources.{Reader, Source, Told, IsUnified}
-
--- no path of a list is there twice
-abbrev pub AreApart : List Path → Type 0
-AreApart ps = (i j : ℕ) → i < j → j < length ps → slice_index_or ps i [] ≢ slice_index_or ps j []
+pub use Rattle.fs_drawing.specs.Counting.{AreApart}
 
 -- More paths than a limit exist in the closure, beside that of the root, whether or not it is consistent. More claims have no fewer, so
 -- that the order in which claims are worked off doesn't matter.

@@ -1,5 +1,5 @@
 -- What a graph owes that is well-formed but for some facts.
-use Rattle.std.specs.Prelude.{ℕ, ◌≡◌, ◌<◌, ◌==◌, ◌||◌, Bool, true, false, if◌then◌else◌, Some, List, [], ◌∷◌, ◌++◌, length, filter, slice_index_or}
+use Rattle.std.specs.Prelude.{ℕ, ◌≡◌, ◌<◌, ◌||◌, Bool, true, false, if◌then◌else◌, Some, List, [], ◌∷◌, ◌++◌, length, filter, slice_index_or}
 use Rattle.std.specs.List.{list_any}
 use Rattle.type_hierarchy.specs.Table.{count_of}
 use Rattle.fs_model.specs.Claims.{Path, Claim, exists_at, same, below, at, System, Has}
@@ -7,6 +7,7 @@ use Rattle.fs_model.specs.Sources.{Reader}
 use Rattle.fs_graph.specs.GraphMap.{GraphMap, reader_of}
 use Rattle.fs_closing.specs.Rules.{Grammar, no_rule, rules_above, system_of, HaveSame}
 use Rattle.fs_unify.specs.Entering.{IsWellFormed}
+pub use Rattle.fs_drawing.specs.Cutting.{is_one_of, begins_with, is_cut_off}
 
 -- a fact holds in a graph
 abbrev pub Holds : System → Reader → Claim → Type 0
@@ -30,17 +31,6 @@ pub record IsWellFormedBut (s : System) (r : Reader) (owed : OwedFacts) : Type 0
   pub introduced : (p : Path) (f n m : ℕ) → r.node_at p ≡ Some n → r.node_at (p ++ f ∷ []) ≡ Some m → s.is_below (r.type_of n) (s.introducer f) ≡ true
   pub constrained : (p : Path) (n u : ℕ) (c : Claim) → r.node_at p ≡ Some n → s.is_below (r.type_of n) u ≡ true → Has c (s.facts_of u) →
       is_owed owed p c ≡ false → Holds s r (at p c)
-
-abbrev pub is_one_of : List ℕ → ℕ → Bool
-is_one_of feats f = list_any (λ g. g == f) feats
-
-abbrev pub begins_with : List ℕ → Path → Bool
-begins_with feats [] = false
-begins_with feats (f ∷ p) = is_one_of feats f
-
--- a path begins with a feature that is cut off at the root, or holds one that is cut off anywhere
-abbrev pub is_cut_off : List ℕ → List ℕ → Path → Bool
-is_cut_off at_root anywhere p = begins_with at_root p || list_any (is_one_of anywhere) p
 
 -- a fact speaks of a path that is cut off
 abbrev pub speaks_of : List ℕ → List ℕ → Claim → Bool

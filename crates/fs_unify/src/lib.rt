@@ -1,9 +1,7 @@
 //! Unification of typed feature structures (Copestake 2002).
 #![tactic(auto)]
 
-pub mod draw;
 pub mod entering;
-pub mod few;
 pub mod limited;
 pub mod owed;
 pub mod parts;
@@ -18,4 +16,4 @@ pub use parts::Parts;
 pub use scratch::Scratch;
 pub use std::alloc::AllocError as NoMemory;
 pub use structure::structure_of;
-pub use unifier::{unifies, unify};
+pub use unifier::{unifies, unify, unify_cut};

@@ -13,11 +13,10 @@ ghost use Rattle.fs_unify.specs.Entering.{IsGraphIn};
 ghost use Rattle.fs_unify.specs.Placing.{IsAnswerIn};
 ghost use Rattle.fs_unify.specs.Given.{facts_source, StandsForSome};
 ghost use Rattle.fs_unify.specs.Limits.{IsUnifiedWithin};
-ghost use Rattle.fs_unify.specs.Counting.{Counts, ClosedWithin, AnswersWithin, SettlesWithin};
+ghost use Rattle.fs_drawing.specs.Counting.{Counts};
+ghost use Rattle.fs_unify.specs.Counting.{ClosedWithin, AnswersWithin, SettlesWithin};
 ghost use Rattle.fs_unify.specs.Room.{room_of};
 
-use crate::draw::{Picture, draw, graph_from, lay_out};
-use crate::few::few_paths;
 use crate::scratch::Scratch;
 use crate::structure::gather_facts;
 use fs_closing::NoMemory;
@@ -25,6 +24,8 @@ use fs_closing::closing::{Progress, close_to};
 use fs_closing::nodes::Nodes;
 use fs_closing::system::TypeSystem;
 use fs_closing::tasks::Tasks;
+use fs_drawing::draw::{Off, Picture, draw, graph_from, lay_out};
+use fs_drawing::few::few_paths;
 use fs_graph::{Fact, Graph};
 use std::alloc::Global;
 
@@ -42,7 +43,7 @@ fn has_few(picture: &mut Picture, nodes: &Nodes<'_>, limit: u32) -> Result<bool,
     requires filled { 0 < nodes.now.size }
     ensures { IfOk result (Counts (table_of nodes.now) limit) }
 {
-    lay_out(picture, nodes)?;
+    lay_out(picture, nodes, Off::none())?;
     let few = few_paths(&picture.starts, &picture.arcs, &mut picture.row, limit)?;
     Ok(few)
 }
@@ -90,7 +91,8 @@ fn draw_few(
     ensures answer { IfOk result (λ o. AnswersWithin (deep_of nodes.now) longest limit (option_map reader_of o)) }
     ensures inside { IfOk result (λ o. IfSome o (λ g. (types feats : ℕ) → IsWithin types feats nodes.now → IsGraphIn types feats g)) }
 {
-    let drawn = draw(picture, nodes, longest)?;
+    let all = Off::none();
+    let drawn = draw(picture, nodes, longest, all)?;
     if !drawn {
         return Ok(None);
     }
@@ -98,7 +100,7 @@ fn draw_few(
     if !few {
         return Ok(None);
     }
-    let graph = graph_from(alloc, nodes, longest, picture)?;
+    let graph = graph_from(alloc, nodes, longest, all, picture)?;
     Ok(Some(graph))
 }
 
@@ -189,7 +191,7 @@ pub fn structure_within(
         alloc,
         &mut nodes,
         &mut scratch.tasks,
-        &mut scratch.picture,
+        &mut scratch.desk.picture,
         system,
         facts,
         limit,

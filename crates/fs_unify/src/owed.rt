@@ -11,6 +11,7 @@ ghost use Rattle.fs_unify.specs.Inner.Marks.{HaveMarks};
 
 use fs_closing::NoMemory;
 use fs_closing::system::TypeSystem;
+use fs_drawing::draw::has;
 use fs_graph::{Fact, Feat};
 use std::alloc::Global;
 use std::marker::Model;
@@ -30,13 +31,6 @@ impl Model for Owed {
     ghost Value = { OwedRules };
 
     ghost view = { λ o. record { at_root = map (λ row. row.items) o.at_root.items; further = map (λ row. row.items) o.further.items } };
-}
-
-// Whether a feature is one of these, which are few.
-fn has(feats: &[Feat], feat: Feat) -> bool
-    ensures { result ≡ is_one_of (path_of feats.now) feat.0 }
-{
-    feats.contains(&feat)
 }
 
 // Whether a path begins with one of these features.

@@ -5,15 +5,36 @@ ghost use Rattle.std.specs.Borrow.{sem};
 ghost use Rattle.fs_closing.specs.NodeTable.{IsWhole, IsWithin, AreFlat};
 ghost use Rattle.fs_unify.specs.Room.{room_of, LendsMarks};
 
-use crate::draw::Picture;
 use fs_closing::NoMemory;
 use fs_closing::cells::Cells;
 use fs_closing::marks::Marks;
 use fs_closing::nodes::Nodes;
 use fs_closing::parts::Beside;
 use fs_closing::tasks::Tasks;
+use fs_drawing::bounds::Heights;
+use fs_drawing::draw::Picture;
 use std::alloc::Global;
 use std::mem;
+
+/// What a call needs beside its nodes and tasks: the numbers of its graphs' roots, what is noted where paths are bounded, and
+/// the picture that is drawn.
+#[derive(Debug, Drop)]
+pub struct Desk {
+    pub offsets: Vec<u32>,
+    pub heights: Heights,
+    pub picture: Picture,
+}
+
+impl Desk {
+    /// An empty one, without memory.
+    pub fn new(alloc: Global) -> Desk {
+        Desk {
+            offsets: Vec::new(alloc),
+            heights: Heights::new(alloc),
+            picture: Picture::new(alloc),
+        }
+    }
+}
 
 /// Room in which nodes are closed and drawn. A call empties it and keeps its memory; no answer depends on what it holds. It
 /// has spare room for a number of nodes, a mark for each.
@@ -23,8 +44,7 @@ pub struct Scratch {
     pub(crate) cells: Cells,
     pub(crate) homes: Vec<u32>,
     pub(crate) tasks: Tasks,
-    pub(crate) offsets: Vec<u32>,
-    pub(crate) picture: Picture,
+    pub(crate) desk: Desk,
     pub(crate) marks: Vec<u32>,
 }
 
@@ -47,8 +67,7 @@ impl Scratch {
             cells: Cells::new(alloc),
             homes: Vec::new(alloc),
             tasks: Tasks::new(alloc),
-            offsets: Vec::new(alloc),
-            picture: Picture::new(alloc),
+            desk: Desk::new(alloc),
             marks: Vec::new(alloc),
         }
     }

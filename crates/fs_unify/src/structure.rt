@@ -13,16 +13,17 @@ ghost use Rattle.fs_closing.specs.Work.{work_of, AreReady};
 ghost use Rattle.fs_closing.specs.Keeps.{AreSound, StepsTo};
 ghost use Rattle.fs_unify.specs.Entering.{IsGraphIn};
 ghost use Rattle.fs_unify.specs.Placing.{IsAnswerIn};
-ghost use Rattle.fs_unify.specs.Given.{facts_source, StandsForSome, Gathers, Pictured, Settles};
+ghost use Rattle.fs_unify.specs.Given.{facts_source, StandsForSome, Decides, Gathers, Settles, SettlesWithout};
 ghost use Rattle.fs_unify.specs.Room.{room_of};
 
-use crate::draw::{Picture, draw, graph_from};
-use crate::scratch::Scratch;
+use crate::scratch::{Desk, Scratch};
 use fs_closing::NoMemory;
 use fs_closing::closing::{apply, close};
 use fs_closing::nodes::{Nodes, add_node};
 use fs_closing::system::TypeSystem;
 use fs_closing::tasks::Tasks;
+use fs_drawing::bounds::{Heights, bounded};
+use fs_drawing::draw::{Off, Picture, draw_left, draw_whole};
 use fs_graph::{Fact, Graph};
 use std::alloc::Global;
 
@@ -72,25 +73,24 @@ pub(crate) fn gather_facts<'a>(
     Ok(applied)
 }
 
-/// Closes nodes with their tasks, and draws them, whatever was drawn before. The answer is true exactly where what they stand
-/// for is consistent.
-pub fn close_within<'a>(
+/// Closes nodes with their tasks, and draws nothing. The answer is true exactly where what they stand for is consistent.
+pub fn close_bounded<'a>(
     nodes: &mut Nodes<'a>,
     tasks: &mut Tasks,
-    picture: &mut Picture,
+    heights: &mut Heights,
     system: &'a TypeSystem,
 ) -> Result<bool, NoMemory>
     requires order { IsOrder (system_of system.now) }
     requires bare { IsBare (system_of system.now) }
     requires sound { AreSound system.now nodes.old tasks.old }
     requires stands { StandsForSome system.now nodes.old tasks.old }
-    ensures { IfOk result (Pictured system.now nodes.old tasks.old nodes.new picture.new) }
+    ensures { IfOk result (Decides system.now nodes.old tasks.old nodes.new) }
 {
     let limit = system.path_limit();
     let closed = close(nodes, tasks, system)?;
     if closed {
-        let drawn = draw(picture, nodes, limit)?;
-        return Ok(drawn);
+        let within = bounded(heights, nodes, limit)?;
+        return Ok(within);
     }
     Ok(false)
 }
@@ -111,10 +111,36 @@ pub fn settle<'a>(
     ensures answer { IfOk result (λ o. Settles system.now nodes.old tasks.old (option_map reader_of o)) }
     ensures inside { IfOk result (λ o. IfSome o (IsGraphIn (count_of system.now.types) (length system.now.introducers))) }
 {
-    let consistent = close_within(nodes, tasks, picture, system)?;
-    if consistent {
-        let graph = graph_from(alloc, nodes, system.path_limit(), picture)?;
-        return Ok(Some(graph));
+    let limit = system.path_limit();
+    let closed = close(nodes, tasks, system)?;
+    if closed {
+        let graph = draw_whole(alloc, picture, nodes, limit)?;
+        return Ok(graph);
+    }
+    Ok(None)
+}
+
+/// The same without features that are cut off.
+pub fn settle_without<'a>(
+    alloc: Global,
+    nodes: &mut Nodes<'a>,
+    tasks: &mut Tasks,
+    desk: &mut Desk,
+    system: &'a TypeSystem,
+    off: Off<'_>,
+) -> Result<Option<Graph>, NoMemory>
+    requires order { IsOrder (system_of system.now) }
+    requires bare { IsBare (system_of system.now) }
+    requires sound { AreSound system.now nodes.old tasks.old }
+    requires stands { StandsForSome system.now nodes.old tasks.old }
+    ensures answer { IfOk result (λ o. SettlesWithout system.now nodes.old tasks.old off.entry (option_map reader_of o)) }
+    ensures inside { IfOk result (λ o. IfSome o (IsGraphIn (count_of system.now.types) (length system.now.introducers))) }
+{
+    let limit = system.path_limit();
+    let bounded = close_bounded(nodes, tasks, &mut desk.heights, system)?;
+    if bounded {
+        let graph = draw_left(alloc, &mut desk.picture, nodes, limit, off)?;
+        return Ok(graph);
     }
     Ok(None)
 }
@@ -174,7 +200,7 @@ pub fn structure_of(
         alloc,
         &mut nodes,
         &mut scratch.tasks,
-        &mut scratch.picture,
+        &mut scratch.desk.picture,
         system,
         facts,
     );

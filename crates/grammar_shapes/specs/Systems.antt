@@ -3,9 +3,10 @@ use Rattle.std.specs.Prelude.{ℕ, ◌≡◌, ◌<◌, ◌≤◌, ◌++◌, ◌-
 use Rattle.chart_model.specs.declared.covers.Tuple.{Tuple}
 use Rattle.chart_model.specs.Tuples.{shapes_of, IsTuple}
 use Rattle.fs_model.specs.Claims.{Path}
-use Rattle.fs_graph.specs.GraphMap.{reader_of}
-use Rattle.fs_closing.specs.Rules.{Grammar}
-use Rattle.fs_trim.specs.Cutting.{cut_of}
+use Rattle.fs_graph.specs.GraphMap.{GraphMap, reader_of}
+use Rattle.fs_closing.specs.Rules.{Grammar, system_of}
+use Rattle.fs_unify.specs.Owing.{IsWellFormedBut}
+use Rattle.fs_trim.specs.Cutting.{cut_of, owed_of}
 use Rattle.tree_model.specs.Structures.{Structure}
 use Rattle.tree_model.specs.Mothers.{RuleSystem, arity_at}
 use Rattle.tree_model.specs.Laws.{rules_applies}
@@ -18,6 +19,10 @@ use Rattle.grammar_shapes.specs.Shaped.{Shape, graph_of, meaning_in, BelongsIn}
 -- the type system
 abbrev pub grammar_of : GrammarShapes → Grammar
 grammar_of s = s.rules.grammar
+
+-- a full structure's graph was well-formed until it lost what these rules' mothers lose
+abbrev pub OwesBy : Grammar → RuleSystem → GraphMap → Type 0
+OwesBy g rules graph = IsWellFormedBut (system_of g) (reader_of graph) (owed_of rules.daughters)
 
 -- the rules as they were given
 abbrev pub list_of : GrammarShapes → List PhraseRule

@@ -1,9 +1,9 @@
 //! Phrase rules over abstract structures.
 
-ghost use Rattle.std.specs.Prelude.{◌≡◌, ◌<◌, ◌^◌, ◌∷◌, [], None, All, IfOk, IfSome, length};
+ghost use Rattle.std.specs.Prelude.{◌≡◌, ◌<◌, ◌^◌, ◌∷◌, [], true, All, IfOk, length};
 ghost use Rattle.fs_model.specs.Claims.{IsBare};
 ghost use Rattle.fs_closing.specs.Rules.{system_of};
-ghost use Rattle.fs_unify.specs.Owing.{ListsOwed, owes_all};
+ghost use Rattle.fs_unify.specs.Owing.{ListsOwed, owes_rules};
 ghost use Rattle.fs_trim.specs.Cutting.{cut_of, owed_of};
 ghost use Rattle.tree_model.specs.Structures.{IsPartialOrder};
 ghost use Rattle.grammar_shapes.specs.Ruled.{IsRuleIn};
@@ -33,8 +33,10 @@ pub struct GrammarShapes<'a> {
     daughters: Cut,
     // what an abstract structure lacks
     restrictors: Cut,
-    // what a mother owes when she has lost that; none where an abstract structure lacks it anyway, so that one cut is enough
-    mother_owes: Option<Owed>,
+    // whether an abstract structure lacks that anyway, so that one cut is enough
+    one_cut: bool,
+    // what a mother owes when she has lost that, as each full structure does
+    daughters_owe: Owed,
     // what an abstract structure owes
     shape_owes: Owed,
     // what spans stay within, which is nothing
@@ -43,34 +45,22 @@ pub struct GrammarShapes<'a> {
     ghost order: { IsPartialOrder (system_of rules.grammar) },
     ghost rules_in: { All (IsRuleIn rules.grammar) rules.rules },
     ghost few: { length rules.rules < 2 ^ 32 },
-    ghost one_cut: { mother_owes ≡ None → CutsNoMore (cut_of daughters) (cut_of restrictors) },
-    ghost mothers_owe: { ∥ IfSome mother_owes (ListsOwed rules.grammar (owed_of (cut_of daughters))) ∥₁ },
+    ghost no_more: { one_cut ≡ true → CutsNoMore (cut_of daughters) (cut_of restrictors) },
+    ghost fulls_owe: { ∥ ListsOwed rules.grammar (owed_of (cut_of daughters)) daughters_owe ∥₁ },
     ghost shapes_owe: { ∥ ListsOwed rules.grammar (owed_of (cut_of restrictors)) shape_owes ∥₁ },
 }
 
-// One graph alone.
-fn alone_of(alloc: Global, graph: &Graph) -> Result<Parts<'_>, fs_unify::NoMemory>
-    ensures { IfOk result (λ ps. ps ≡ record { place = []; graph = graph.now; owes = owes_all } ∷ []) }
+// One graph alone, which owes the facts of these rules.
+fn alone_of<'x>(
+    alloc: Global,
+    graph: &'x Graph,
+    owed: &'x Owed,
+) -> Result<Parts<'x>, fs_unify::NoMemory>
+    ensures { IfOk result (λ ps. ps ≡ record { place = []; graph = graph.now; owes = owes_rules owed.now } ∷ []) }
 {
     let mut alone = Parts::new(alloc);
-    alone.add(Vec::new(alloc), graph)?;
+    alone.add_cut(Vec::new(alloc), graph, owed)?;
     Ok(alone)
-}
-
-// What a mother owes when she has lost what the first cut cuts off; none where the second one cuts that off anyway.
-fn owed_between(
-    alloc: Global,
-    system: &TypeSystem,
-    first: &Cut,
-    second: &Cut,
-) -> Result<Option<Owed>, fs_unify::NoMemory>
-    ensures one { IfOk result (λ o. o ≡ None → CutsNoMore (cut_of first.now) (cut_of second.now)) }
-    ensures owed { IfOk result (λ o. IfSome o (ListsOwed system.now (owed_of (cut_of first.now)))) }
-{
-    if cuts_no_more(first, second) {
-        return Ok(None);
-    }
-    Ok(Some(owed(alloc, system, first)?))
 }
 
 impl<'a> GrammarShapes<'a> {
@@ -92,7 +82,7 @@ impl<'a> GrammarShapes<'a> {
     ghost use Rattle.sieve.specs.Unifying.{NoneUnify};
     ghost use Rattle.grammar_shapes.specs.Ruled.{IsRuleIn, AreClosed, paths_in, system_in};
     ghost use Rattle.grammar_shapes.specs.Shaped.{graph_of};
-    ghost use Rattle.grammar_shapes.specs.Systems.{rules_of, list_of, grammar_of, checks_of, arity_of, meaning_of, meanings_of, Belongs, AreDaughters, AppliesToNone, IsMet, AreSketches};
+    ghost use Rattle.grammar_shapes.specs.Systems.{rules_of, list_of, grammar_of, checks_of, arity_of, meaning_of, meanings_of, Belongs, OwesBy, AreDaughters, AppliesToNone, IsMet, AreSketches};
 
     /// The shapes of these rules. A mother loses what `daughters` cuts off, and an abstract structure lacks what `restrictors`
     /// cuts off; types are compared at `checks`. More rules than a `u32` can number count as want of memory.
@@ -116,7 +106,8 @@ impl<'a> GrammarShapes<'a> {
             return Err(NoMemory);
         }
         system.types().laws();
-        let Ok(mother_owes) = owed_between(alloc, system, &daughters, &restrictors) else {
+        let one_cut = cuts_no_more(&daughters, &restrictors);
+        let Ok(daughters_owe) = owed(alloc, system, &daughters) else {
             return Err(NoMemory);
         };
         let Ok(shape_owes) = owed(alloc, system, &restrictors) else {
@@ -127,7 +118,8 @@ impl<'a> GrammarShapes<'a> {
             rules,
             daughters,
             restrictors,
-            mother_owes,
+            one_cut,
+            daughters_owe,
             shape_owes,
             unit: (),
         })
@@ -160,8 +152,9 @@ impl<'a> GrammarShapes<'a> {
         )?)
     }
 
-    /// The shape of a full structure: the abstraction of the closure of its facts. Its types and features are there, and that
-    /// closure is consistent.
+    /// The shape of a full structure: the abstraction of the closure of its facts. Its types and features are there, that
+    /// closure is consistent, and it was well-formed until it lost its daughters, so that it enters with the facts alone that
+    /// speak of daughters.
     pub fn shape(
         &self,
         alloc: Global,
@@ -170,11 +163,12 @@ impl<'a> GrammarShapes<'a> {
     ) -> Result<Arc<Place>, NoMemory>
         requires in_range { IsGraphIn (count_of (grammar_of self.now).types) (length (grammar_of self.now).introducers) full.now }
         requires consistent { IsConsistent (system_of (grammar_of self.now)) (Told (source_alone (reader_of full.now))) }
+        requires owes { OwesBy (grammar_of self.now) (rules_of self.now) full.now }
         ensures belongs { IfOk result (Belongs self.now) }
         ensures shape { IfOk result (λ s. IsAbstract (rules_of self.now) (Meant (rules_of self.now) (view (paths_in (grammar_of self.now)) (reader_of full.now))) (meaning_of self.now s)) }
     {
         full.laws();
-        let Ok(alone) = alone_of(alloc, full) else {
+        let Ok(alone) = alone_of(alloc, full, &self.daughters_owe) else {
             return Err(NoMemory);
         };
         let system = self.rules.system();
@@ -262,24 +256,20 @@ impl<'a> GrammarShapes<'a> {
         ensures owes { IfOk result (λ o. IfSome o (λ k. IsWellFormedBut (system_of (grammar_of self.now)) (reader_of k) (owed_of (cut_of self.now.restrictors)))) }
     {
         let system = self.rules.system();
-        match &self.mother_owes {
-            None => {
-                let kept = unify_without(alloc, work, system, placed, &self.restrictors)?;
-                Ok(kept)
-            }
-            Some(owed) => {
-                let mother = unify_trimmed_owing(
-                    alloc,
-                    work,
-                    system,
-                    placed,
-                    &self.daughters,
-                    owed,
-                    &self.restrictors,
-                )?;
-                Ok(mother)
-            }
+        if self.one_cut {
+            let kept = unify_without(alloc, work, system, placed, &self.restrictors)?;
+            return Ok(kept);
         }
+        let mother = unify_trimmed_owing(
+            alloc,
+            work,
+            system,
+            placed,
+            &self.daughters,
+            &self.daughters_owe,
+            &self.restrictors,
+        )?;
+        Ok(mother)
     }
 
     /// The mother of a whole tuple, whatever the daughters cover; none exactly where the rule doesn't apply to it.

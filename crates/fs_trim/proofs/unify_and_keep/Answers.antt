@@ -1,21 +1,20 @@
 use Rattle.std.proofs.Common.{subst, length}
 use Rattle.std.specs.Prelude.{IfSome, option_map}
 use Rattle.type_hierarchy.specs.Table.{count_of}
-use Rattle.fs_model.specs.Sources.{IsUnified}
+use Rattle.fs_graph.specs.Facts.{path_of}
 use Rattle.fs_graph.specs.GraphMap.{reader_of}
 use Rattle.fs_closing.specs.Rules.{system_of}
-use Rattle.fs_unify.specs.Placing.{source_of, IsAnswerIn}
+use Rattle.fs_drawing.specs.Cutting.{IsUnifiedWithout}
+use Rattle.fs_unify.specs.Entering.{IsGraphIn}
+use Rattle.fs_unify.specs.Placing.{source_of}
+use Rattle.fs_trim.specs.Cutting.{cut_of}
+use Rattle.fs_trim.proofs.CutLemmas.{keeps_left}
 use Rattle.fs_trim.proofs.unify_and_keep.Goals as goal
 
-pub returns-in_ok-kept-in-Some-clause-keeps : goal.returns-in_ok-kept-in-Some-clause-keeps
-returns-in_ok-kept-in-Some-clause-keeps c =
+pub returns-in-Some-clause-keeps : goal.returns-in-Some-clause-keeps
+returns-in-Some-clause-keeps c =
     let g = c.args.system.now in
-    let known : IsAnswerIn c.args.system.now c.in-Some.whole = subst (λ o. IfSome o (IsAnswerIn c.args.system.now)) c.in-Some.is c.in_ok-whole.ensures.known in
-    record {
-      whole = c.in-Some.whole;
-      unified = subst (λ o. IsUnified (system_of g) (source_of c.args.parts.now) (option_map reader_of o)) c.in-Some.is c.in_ok-whole.ensures.answer;
-      keeps = c.in_ok-kept-in-Some.ensures.kept;
-      graph = c.laws.ensures;
-      graph_in = c.in_ok-kept-in-Some.ensures.inside (count_of g.types) (length g.introducers) known.graph_in;
-      owes = c.in_ok-kept-in-Some.ensures.owes (system_of g) known.well_formed;
-    }
+    let answer = rw (c.deref.ensures.value, c.deref-2.ensures.value) at c.in_ok-kept.ensures.answer in
+    keeps_left g (source_of c.args.parts.now) (cut_of c.args.cut.now) c.in-Some.kept
+    (subst (λ o. IsUnifiedWithout (system_of g) (source_of c.args.parts.now) (path_of c.args.cut.now.at_root.items) (path_of c.args.cut.now.anywhere.items) (option_map reader_of o)) c.in-Some.is answer)
+    c.laws.ensures (subst (λ o. IfSome o (IsGraphIn (count_of g.types) (length g.introducers))) c.in-Some.is c.in_ok-kept.ensures.inside)

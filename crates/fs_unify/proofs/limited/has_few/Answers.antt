@@ -8,5 +8,5 @@ few_paths-requires c = record {
 
 pub returns : goal.returns
 returns c =
-    laid_count c.args.nodes.now c.requires.whole c.requires.filled c.lay_out.new.picture c.deref.result.now c.deref-2.result.now c.deref.ensures.value c.deref-2.ensures.value
-    c.in_ok-lay_out.ensures.0 c.in_ok-lay_out.ensures.1 c.args.limit c.in_ok-few.few c.in_ok-few.ensures
+    laid_count c.args.nodes.now c.requires.whole c.none.result c.none.ensures.at_root c.none.ensures.anywhere c.lay_out.new.picture c.deref.result.now c.deref-2.result.now
+    c.deref.ensures.value c.deref-2.ensures.value c.in_ok-lay_out.ensures.0 c.in_ok-lay_out.ensures.1 c.args.limit c.in_ok-few.few c.in_ok-few.ensures

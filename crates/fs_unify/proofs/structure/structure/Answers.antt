@@ -1,7 +1,7 @@
 use Rattle.std.proofs.Common.{subst}
 use Rattle.fs_unify.specs.Given.{Gathers, facts_source}
 use Rattle.fs_graph.specs.Facts.{claims_of}
-use Rattle.fs_unify.proofs.InsideLemmas.{known_some}
+use Rattle.fs_unify.proofs.GivenLemmas.{known_some}
 use Rattle.fs_unify.proofs.structure.structure.Goals as goal
 
 pub settle-requires-clause-sound : goal.settle-requires-clause-sound

@@ -1,7 +1,7 @@
 use Rattle.std.proofs.Common.{subst}
 use Rattle.fs_unify.specs.Given.{Gathers}
 use Rattle.fs_unify.specs.Placing.{source_in}
-use Rattle.fs_unify.proofs.InsideLemmas.{known_some}
+use Rattle.fs_unify.proofs.GivenLemmas.{known_some}
 use Rattle.fs_unify.proofs.unifier.unified.Goals as goal
 
 pub settle-requires-clause-sound : goal.settle-requires-clause-sound

@@ -8,12 +8,13 @@ use Rattle.fs_closing.specs.Rules.{system_of}
 use Rattle.fs_unify.specs.Owing.{IsWellFormedBut}
 use Rattle.fs_unify.specs.Placing.{source_of, IsPlacedIn}
 use Rattle.fs_trim.specs.Cutting.{cut_of, owed_of, IsShort}
-use Rattle.fs_trim.proofs.TrimLemmas.{alone_in}
+use Rattle.fs_trim.proofs.TrimLemmas.{cut_in}
 use Rattle.tree_model.specs.Mothers.{IsAbstract, Meant}
 use Rattle.tree_model.specs.Views.{view, IsTrimmed, source_alone}
 use Rattle.tree_model.proofs.AllLaws.{leaves_are_made}
 use Rattle.grammar_shapes.specs.Ruled.{paths_in}
 use Rattle.grammar_shapes.specs.Systems.{rules_of}
+use Rattle.grammar_shapes.proofs.OwedLemmas.{lists_from}
 use Rattle.grammar_shapes.proofs.RangeLemmas.{short_where}
 use Rattle.grammar_shapes.proofs.ShapeLemmas.{inside}
 use Rattle.grammar_shapes.proofs.shapes.GrammarShapes.shape.Goals as goal
@@ -23,7 +24,11 @@ unify_without-requires-clause-bare c = subst (λ g. IsBare (system_of g)) (sym c
 
 pub unify_without-requires-clause-parts : goal.unify_without-requires-clause-parts
 unify_without-requires-clause-parts c p h =
-    subst (λ g. IsPlacedIn g p) (sym c.system-system.ensures) (alone_in c.args.self.now.rules.grammar c.args.full.now c.requires.in_range p (subst (Has p) c.in-Ok.ensures h))
+    let g = c.args.self.now.rules.grammar in
+    let cut = cut_of c.args.self.now.daughters in
+    let lists = lists_from g (owed_of cut) c.args.self.now.daughters_owe c.args.self.now.fulls_owe in
+    subst (λ g. IsPlacedIn g p) (sym c.system-system.ensures)
+    (cut_in g c.args.full.now c.args.self.now.daughters_owe cut c.requires.in_range c.requires.owes lists p (subst (Has p) c.in-Ok.ensures h))
 
 pub shape_of-requires-in-Ok-Some-clause-owes : goal.shape_of-requires-in-Ok-Some-clause-owes
 shape_of-requires-in-Ok-Some-clause-owes c =

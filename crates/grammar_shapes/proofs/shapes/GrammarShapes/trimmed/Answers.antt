@@ -21,24 +21,24 @@ pub unify_trimmed_owing-requires-clause-owed : goal.unify_trimmed_owing-requires
 unify_trimmed_owing-requires-clause-owed c =
     let g = c.args.self.now.rules.grammar in
     let facts = owed_of (cut_of c.args.self.now.daughters) in
-    let lists = lists_from g facts c.in-Some.owed (subst (λ o. ∥ IfSome o (ListsOwed g facts) ∥₁) c.in-Some.is c.args.self.now.mothers_owe) in
-    subst (λ g. ListsOwed g facts c.in-Some.owed) (sym c.system-system.ensures) lists
+    let lists = lists_from g facts c.args.self.now.daughters_owe c.args.self.now.fulls_owe in
+    subst (λ g. ListsOwed g facts c.args.self.now.daughters_owe) (sym c.system-system.ensures) lists
 
-pub returns-in_ok-kept-in-None-clause-answer : goal.returns-in_ok-kept-in-None-clause-answer
-returns-in_ok-kept-in-None-clause-answer c =
+pub returns-then-self-clause-answer : goal.returns-then-self-clause-answer
+returns-then-self-clause-answer c =
     let g = c.args.self.now.rules.grammar in
     let d = cut_of c.args.self.now.daughters in
     let l = cut_of c.args.self.now.restrictors in
-    let o = option_map reader_of c.in_ok-kept-in-None.kept in
-    one_cut (system_of g) (source_of c.args.placed.now) d l (c.args.self.now.one_cut c.in-None.is) o
-    (subst (λ g. IsTrimmed (system_of g) (source_of c.args.placed.now) [] l o) c.system-system.ensures c.in_ok-kept-in-None.ensures.answer)
+    let o = option_map reader_of c.in_ok-kept.kept in
+    one_cut (system_of g) (source_of c.args.placed.now) d l (c.args.self.now.no_more c.if-self.true) o
+    (subst (λ g. IsTrimmed (system_of g) (source_of c.args.placed.now) [] l o) c.system-system.ensures c.in_ok-kept.ensures.answer)
 
-pub returns-in_ok-kept-in-None-clause-owes : goal.returns-in_ok-kept-in-None-clause-owes
-returns-in_ok-kept-in-None-clause-owes c =
+pub returns-then-self-clause-owes : goal.returns-then-self-clause-owes
+returns-then-self-clause-owes c =
     let facts = owed_of (cut_of c.args.self.now.restrictors) in
-    subst (λ g. IfSome c.in_ok-kept-in-None.kept (λ k. IsWellFormedBut (system_of g) (reader_of k) facts)) c.system-system.ensures c.in_ok-kept-in-None.ensures.owes
+    subst (λ g. IfSome c.in_ok-kept.kept (λ k. IsWellFormedBut (system_of g) (reader_of k) facts)) c.system-system.ensures c.in_ok-kept.ensures.owes
 
-pub returns-in_ok-mother-in-Some-clause-owes : goal.returns-in_ok-mother-in-Some-clause-owes
-returns-in_ok-mother-in-Some-clause-owes c =
+pub returns-clause-owes : goal.returns-clause-owes
+returns-clause-owes c =
     let facts = owed_of (cut_of c.args.self.now.restrictors) in
-    subst (λ g. IfSome c.in_ok-mother-in-Some.mother (λ k. IsWellFormedBut (system_of g) (reader_of k) facts)) c.system-system.ensures c.in_ok-mother-in-Some.ensures.owes
+    subst (λ g. IfSome c.in_ok-mother.mother (λ k. IsWellFormedBut (system_of g) (reader_of k) facts)) c.system-system.ensures c.in_ok-mother.ensures.owes

@@ -1,0 +1,12 @@
+pub mod DrawLemmas
+pub mod DrawCells
+pub mod DrawOwn
+pub mod DrawRows
+pub mod FilterLemmas
+pub mod MetLemmas
+pub mod PictureLemmas
+pub mod NoteLemmas
+pub mod ClimbArcs
+pub mod ClimbLemmas
+pub mod FewLemmas
+pub mod InsideLemmas
