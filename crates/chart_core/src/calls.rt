@@ -1,9 +1,10 @@
 //! The steps of a chart: outcomes are entered.
 
+use crate::entering::{Known, OpenTask};
 use crate::rows::Candidate;
 use crate::tasks::Standing;
 use crate::tuples::level_over;
-use crate::{Caller, Core, Daughters, Entered, Outcome, RowKind, TaskId, Tested};
+use crate::{Call, Caller, Core, Entered, Outcome, RowKind, TaskId, Tested};
 use chart_model::Shapes;
 use std::alloc::Global;
 
@@ -69,7 +70,11 @@ impl<S: Shapes> Core<S> {
         let tested = Tested {
             verdicts: Vec::new(alloc),
         };
-        self.enter_inner(alloc, shapes, work, task, outcome, by, &tested, true)
+        let known = Known {
+            tested: &tested,
+            bounded: true,
+        };
+        self.enter_inner(alloc, shapes, work, Call { task, by }, outcome, &known)
     }
 
     /// Enters the outcome of a task, as `enter_as` does, where some verdicts on hosts were found before.
@@ -81,21 +86,24 @@ impl<S: Shapes> Core<S> {
         alloc: Global,
         shapes: &S,
         work: &mut S::Work,
-        task: TaskId,
+        call: Call,
         outcome: Outcome<S>,
-        by: Caller,
         tested: &Tested,
     ) -> Entered
         requires core { IsCore (grammar_of S.Shapes S.Cover.Cover.own shapes.now) self.old }
-        requires made { task.0 < tasks_of self.old }
-        requires right { IsRightIn (grammar_of S.Shapes S.Cover.Cover.own shapes.now) self.old task.0 outcome }
+        requires made { call.task.0 < tasks_of self.old }
+        requires right { IsRightIn (grammar_of S.Shapes S.Cover.Cover.own shapes.now) self.old call.task.0 outcome }
         requires belongs { ShapeBelongs (S.belongs shapes.now) outcome }
         requires verdicts { AreRightVerdicts (grammar_of S.Shapes S.Cover.Cover.own shapes.now) self.old outcome tested.now.verdicts.items }
-        ensures answer { IsAnswer (grammar_of S.Shapes S.Cover.Cover.own shapes.now) self.old task.0 outcome by result }
-        ensures change { Changes (grammar_of S.Shapes S.Cover.Cover.own shapes.now) self.old task.0 outcome by result self.new }
+        ensures answer { IsAnswer (grammar_of S.Shapes S.Cover.Cover.own shapes.now) self.old call.task.0 outcome call.by result }
+        ensures change { Changes (grammar_of S.Shapes S.Cover.Cover.own shapes.now) self.old call.task.0 outcome call.by result self.new }
         ensures core { IsCore (grammar_of S.Shapes S.Cover.Cover.own shapes.now) self.new }
     {
-        self.enter_inner(alloc, shapes, work, task, outcome, by, tested, true)
+        let known = Known {
+            tested,
+            bounded: true,
+        };
+        self.enter_inner(alloc, shapes, work, call, outcome, &known)
     }
 
     // Enters the outcome of a task; where room isn't asked for, the answer is never `Full`.
@@ -104,31 +112,34 @@ impl<S: Shapes> Core<S> {
         alloc: Global,
         shapes: &S,
         work: &mut S::Work,
-        task: TaskId,
+        call: Call,
         outcome: Outcome<S>,
-        by: Caller,
-        tested: &Tested,
-        bounded: bool,
+        known: &Known,
     ) -> Entered
         requires core { IsCore (grammar_of S.Shapes S.Cover.Cover.own shapes.now) self.old }
-        requires made { task.0 < tasks_of self.old }
-        requires right { IsRightIn (grammar_of S.Shapes S.Cover.Cover.own shapes.now) self.old task.0 outcome }
+        requires made { call.task.0 < tasks_of self.old }
+        requires right { IsRightIn (grammar_of S.Shapes S.Cover.Cover.own shapes.now) self.old call.task.0 outcome }
         requires belongs { ShapeBelongs (S.belongs shapes.now) outcome }
-        requires verdicts { AreRightVerdicts (grammar_of S.Shapes S.Cover.Cover.own shapes.now) self.old outcome tested.now.verdicts.items }
-        ensures answer { IsAnswerTo (grammar_of S.Shapes S.Cover.Cover.own shapes.now) bounded self.old task.0 (outcome_seen (S.meaning shapes.now) outcome) by result }
-        ensures change { Changes (grammar_of S.Shapes S.Cover.Cover.own shapes.now) self.old task.0 outcome by result self.new }
+        requires verdicts { AreRightVerdicts (grammar_of S.Shapes S.Cover.Cover.own shapes.now) self.old outcome known.now.tested.now.verdicts.items }
+        ensures answer { IsAnswerTo (grammar_of S.Shapes S.Cover.Cover.own shapes.now) known.now.bounded self.old call.task.0 (outcome_seen (S.meaning shapes.now) outcome) call.by result }
+        ensures change { Changes (grammar_of S.Shapes S.Cover.Cover.own shapes.now) self.old call.task.0 outcome call.by result self.new }
         ensures core { IsCore (grammar_of S.Shapes S.Cover.Cover.own shapes.now) self.new }
     {
-        match self.standing(shapes, task) {
+        match self.standing(shapes, call.task) {
             Standing::Done(place) => Entered::Stale { place },
             Standing::Skipped(row) => {
                 let place = self.history.len() as u64;
-                self.mark(task.0 as usize, None, by);
+                self.mark(call.task.0 as usize, None, call.by);
                 Entered::Skipped { place, row }
             }
-            Standing::Open(rule, daughters) => self.enter_open(
-                alloc, shapes, work, task, rule, daughters, outcome, by, tested, bounded,
-            ),
+            Standing::Open(rule, daughters) => {
+                let at = OpenTask {
+                    call,
+                    rule,
+                    daughters,
+                };
+                self.enter_open(alloc, shapes, work, at, outcome, known)
+            }
         }
     }
 
@@ -138,41 +149,35 @@ impl<S: Shapes> Core<S> {
         alloc: Global,
         shapes: &S,
         work: &mut S::Work,
-        task: TaskId,
-        rule: u32,
-        daughters: Daughters,
+        at: OpenTask,
         outcome: Outcome<S>,
-        by: Caller,
-        tested: &Tested,
-        bounded: bool,
+        known: &Known,
     ) -> Entered
         requires core { IsCore (grammar_of S.Shapes S.Cover.Cover.own shapes.now) self.old }
-        requires open { IsReady (grammar_of S.Shapes S.Cover.Cover.own shapes.now) self.old task.0 rule daughters }
-        requires right { IsRightIn (grammar_of S.Shapes S.Cover.Cover.own shapes.now) self.old task.0 outcome }
+        requires open { IsReady (grammar_of S.Shapes S.Cover.Cover.own shapes.now) self.old at.call.task.0 at.rule at.daughters }
+        requires right { IsRightIn (grammar_of S.Shapes S.Cover.Cover.own shapes.now) self.old at.call.task.0 outcome }
         requires belongs { ShapeBelongs (S.belongs shapes.now) outcome }
-        requires verdicts { AreRightVerdicts (grammar_of S.Shapes S.Cover.Cover.own shapes.now) self.old outcome tested.now.verdicts.items }
-        ensures answer { IsAnswerTo (grammar_of S.Shapes S.Cover.Cover.own shapes.now) bounded self.old task.0 (outcome_seen (S.meaning shapes.now) outcome) by result }
-        ensures change { Changes (grammar_of S.Shapes S.Cover.Cover.own shapes.now) self.old task.0 outcome by result self.new }
+        requires verdicts { AreRightVerdicts (grammar_of S.Shapes S.Cover.Cover.own shapes.now) self.old outcome known.now.tested.now.verdicts.items }
+        ensures answer { IsAnswerTo (grammar_of S.Shapes S.Cover.Cover.own shapes.now) known.now.bounded self.old at.call.task.0 (outcome_seen (S.meaning shapes.now) outcome) at.call.by result }
+        ensures change { Changes (grammar_of S.Shapes S.Cover.Cover.own shapes.now) self.old at.call.task.0 outcome at.call.by result self.new }
         ensures core { IsCore (grammar_of S.Shapes S.Cover.Cover.own shapes.now) self.new }
     {
         match outcome {
             Outcome::Fails => {
                 let place = self.history.len() as u64;
-                self.mark(task.0 as usize, None, by);
+                self.mark(at.call.task.0 as usize, None, at.call.by);
                 Entered::Noted { place }
             }
-            Outcome::Fits { cover } => {
-                self.enter_partial(alloc, shapes, task, rule, daughters, cover, by)
-            }
+            Outcome::Fits { cover } => self.enter_partial(alloc, shapes, at, cover),
             Outcome::Whole { cover, shape } => {
                 let new = Candidate {
-                    kind: RowKind::Whole { rule },
-                    daughters,
+                    kind: RowKind::Whole { rule: at.rule },
+                    daughters: at.daughters,
                     cover,
-                    level: level_over(&self.rows, &daughters),
+                    level: level_over(&self.rows, &at.daughters),
                     shape,
                 };
-                self.enter_whole(alloc, shapes, work, task, new, by, tested, bounded)
+                self.enter_whole(alloc, shapes, work, at.call, new, known)
             }
         }
     }

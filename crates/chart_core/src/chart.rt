@@ -3,7 +3,9 @@
 use crate::history::{Entry, TaskRow};
 use crate::places::Places;
 use crate::rows::Candidate;
-use crate::search::{all_under, first_over, freeze, host_pairs, partial_pairs, rule_pairs};
+use crate::search::{
+    NewPartial, Sought, all_under, first_over, freeze, host_pairs, partial_pairs, rule_pairs,
+};
 use crate::{Caller, Daughters, Leaf, Row, RowId, RowKind, Verdict};
 use chart_model::{Cover, NoMemory, Shapes};
 use std::alloc::Global;
@@ -51,9 +53,14 @@ impl<S: Shapes> Core<S> {
         ensures { IfOk result (λ o. o ≡ model.first_peer (S.calculus shapes.now) (model.has_peer (S.calculus shapes.now) (λ h. (S.calculus shapes.now).over h (S.meaning shapes.now shape.now)) cover.now level) 0 (chart_of (S.meaning shapes.now) self.now).rows (chart_of (S.meaning shapes.now) self.now).into) }
     {
         let places = self.cells.at(cover.cell());
-        first_over(
-            &self.rows, places, shapes, work, tested, cover, level, shape,
-        )
+        let by = Sought {
+            shapes,
+            tested,
+            cover,
+            level,
+            shape,
+        };
+        first_over(&self.rows, places, &by, work)
     }
 
     // A new partial row, with its tasks.
@@ -78,9 +85,12 @@ impl<S: Shapes> Core<S> {
         let number = self.rows.len() as u64;
         let key = cover.end();
         let places = self.begins.at(key);
-        let mut found = partial_pairs(
-            alloc, &self.rows, places, shapes, self.unary, rule, &cover, number,
-        )?;
+        let new = NewPartial {
+            rule,
+            cover: &cover,
+            number,
+        };
+        let mut found = partial_pairs(alloc, &self.rows, places, shapes, self.unary, &new)?;
         self.ends.reserve(key)?;
         self.rows.reserve(1)?;
         self.history
@@ -194,9 +204,14 @@ impl<S: Shapes> Core<S> {
         let cell = new.cover.cell();
         let begin = new.cover.begin();
         let places = self.cells.at(cell);
-        let under = all_under(
-            alloc, &self.rows, places, shapes, work, tested, &new.cover, new.level, &new.shape,
-        )?;
+        let by = Sought {
+            shapes,
+            tested,
+            cover: &new.cover,
+            level: new.level,
+            shape: &new.shape,
+        };
+        let under = all_under(alloc, &self.rows, places, &by, work)?;
         let mut found = self.host_tasks(alloc, shapes, &under, &new.cover, new.level, number)?;
         self.room_for_host(cell, begin, &found)?;
         self.tasks.append(&mut found)?;

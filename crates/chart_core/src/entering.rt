@@ -1,9 +1,24 @@
 //! The parts of a step that give a row.
 
 use crate::rows::Candidate;
-use crate::{Caller, Core, Daughters, Entered, RowId, TaskId, Tested, Verdict};
+use crate::{Call, Core, Daughters, Entered, RowId, TaskId, Tested, Verdict};
 use chart_model::{NoMemory, Shapes};
 use std::alloc::Global;
+
+// A task whose daughters are all live, and who enters its outcome.
+#[derive(Drop, Clone, Copy)]
+pub(crate) struct OpenTask {
+    pub(crate) call: Call,
+    pub(crate) rule: u32,
+    pub(crate) daughters: Daughters,
+}
+
+// What an outcome is entered by: what was found of rows before, and whether room is asked for.
+#[derive(Drop)]
+pub(crate) struct Known<'t> {
+    pub(crate) tested: &'t Tested,
+    pub(crate) bounded: bool,
+}
 
 impl<S: Shapes> Core<S> {
     ghost use Rattle.std.specs.Prelude.{◌≡◌, ◌<◌, ◌≤◌, ◌+◌, ◌*◌, nat_le, Bool, OnOk, OnErr, All, None, Some, length, false};
@@ -54,29 +69,26 @@ impl<S: Shapes> Core<S> {
         &mut self,
         alloc: Global,
         shapes: &S,
-        task: TaskId,
-        rule: u32,
-        daughters: Daughters,
+        at: OpenTask,
         cover: S::Cover,
-        by: Caller,
     ) -> Entered
         requires core { IsCore (grammar_of S.Shapes S.Cover.Cover.own shapes.now) self.old }
-        requires open { IsOpenWith (grammar_of S.Shapes S.Cover.Cover.own shapes.now) self.old task.0 rule (list_of daughters) }
-        requires daughters { AreDaughters daughters }
-        requires in_range { All (λ d. d < length self.old.rows.items) (list_of daughters) }
-        requires right { IsRightAt (S.calculus shapes.now) (limits_of self.old) (chart_of (S.meaning shapes.now) self.old) task.0 (model.Fits cover) }
-        ensures answer { (bounded : Bool) → IsAnswerTo (grammar_of S.Shapes S.Cover.Cover.own shapes.now) bounded self.old task.0 (model.Fits cover) by result }
-        ensures change { ChangesBy (grammar_of S.Shapes S.Cover.Cover.own shapes.now) self.old task.0 (model.Fits cover) by result self.new }
+        requires open { IsOpenWith (grammar_of S.Shapes S.Cover.Cover.own shapes.now) self.old at.call.task.0 at.rule (list_of at.daughters) }
+        requires daughters { AreDaughters at.daughters }
+        requires in_range { All (λ d. d < length self.old.rows.items) (list_of at.daughters) }
+        requires right { IsRightAt (S.calculus shapes.now) (limits_of self.old) (chart_of (S.meaning shapes.now) self.old) at.call.task.0 (model.Fits cover) }
+        ensures answer { (bounded : Bool) → IsAnswerTo (grammar_of S.Shapes S.Cover.Cover.own shapes.now) bounded self.old at.call.task.0 (model.Fits cover) at.call.by result }
+        ensures change { ChangesBy (grammar_of S.Shapes S.Cover.Cover.own shapes.now) self.old at.call.task.0 (model.Fits cover) at.call.by result self.new }
         ensures core { IsCore (grammar_of S.Shapes S.Cover.Cover.own shapes.now) self.new }
     {
         let place = self.history.len() as u64;
         let row = RowId(self.rows.len() as u64);
         let first_task = TaskId(self.tasks.len() as u64);
-        match self.push_partial(alloc, shapes, rule, daughters, cover) {
+        match self.push_partial(alloc, shapes, at.rule, at.daughters, cover) {
             Err(NoMemory) => Entered::NoMemory,
             Ok(()) => {
                 let end_task = TaskId(self.tasks.len() as u64);
-                self.mark(task.0 as usize, Some(row), by);
+                self.mark(at.call.task.0 as usize, Some(row), at.call.by);
                 Entered::Placed {
                     place,
                     row,
@@ -100,22 +112,20 @@ impl<S: Shapes> Core<S> {
         alloc: Global,
         shapes: &S,
         work: &mut S::Work,
-        task: TaskId,
+        call: Call,
         new: Candidate<S>,
-        by: Caller,
-        tested: &Tested,
-        bounded: bool,
+        known: &Known,
     ) -> Entered
         requires core { IsCore (grammar_of S.Shapes S.Cover.Cover.own shapes.now) self.old }
-        requires open { IsNewRow (grammar_of S.Shapes S.Cover.Cover.own shapes.now) self.old task.0 new }
+        requires open { IsNewRow (grammar_of S.Shapes S.Cover.Cover.own shapes.now) self.old call.task.0 new }
         requires daughters { AreDaughters new.daughters }
         requires in_range { All (λ d. d < length self.old.rows.items) (list_of new.daughters) }
-        requires right { IsRightAt (S.calculus shapes.now) (limits_of self.old) (chart_of (S.meaning shapes.now) self.old) task.0 (model.Makes new.cover (S.meaning shapes.now new.shape)) }
+        requires right { IsRightAt (S.calculus shapes.now) (limits_of self.old) (chart_of (S.meaning shapes.now) self.old) call.task.0 (model.Makes new.cover (S.meaning shapes.now new.shape)) }
         requires shape { S.belongs shapes.now new.shape }
         requires proper { (S.calculus shapes.now).proper new.cover }
-        requires tested { AreRight (S.calculus shapes.now) (S.meaning shapes.now) (S.meaning shapes.now new.shape) self.old.rows.items tested.now.verdicts.items }
-        ensures answer { IsAnswerTo (grammar_of S.Shapes S.Cover.Cover.own shapes.now) bounded self.old task.0 (model.Makes new.cover (S.meaning shapes.now new.shape)) by result }
-        ensures change { ChangesBy (grammar_of S.Shapes S.Cover.Cover.own shapes.now) self.old task.0 (model.Makes new.cover (S.meaning shapes.now new.shape)) by result self.new }
+        requires tested { AreRight (S.calculus shapes.now) (S.meaning shapes.now) (S.meaning shapes.now new.shape) self.old.rows.items known.now.tested.now.verdicts.items }
+        ensures answer { IsAnswerTo (grammar_of S.Shapes S.Cover.Cover.own shapes.now) known.now.bounded self.old call.task.0 (model.Makes new.cover (S.meaning shapes.now new.shape)) call.by result }
+        ensures change { ChangesBy (grammar_of S.Shapes S.Cover.Cover.own shapes.now) self.old call.task.0 (model.Makes new.cover (S.meaning shapes.now new.shape)) call.by result self.new }
         ensures core { IsCore (grammar_of S.Shapes S.Cover.Cover.own shapes.now) self.new }
     {
         let place = self.history.len() as u64;
@@ -124,7 +134,7 @@ impl<S: Shapes> Core<S> {
         let peer = match self.peer_over(
             shapes,
             work,
-            &tested.verdicts,
+            &known.tested.verdicts,
             &new.cover,
             new.level,
             &new.shape,
@@ -132,14 +142,15 @@ impl<S: Shapes> Core<S> {
             Err(NoMemory) => return Entered::NoMemory,
             Ok(peer) => peer,
         };
+        let bounded = known.bounded;
         if bounded && peer.is_none() && self.is_full() {
             return Entered::Full { made: self.made };
         }
-        match self.push_whole(alloc, shapes, work, &tested.verdicts, new, peer) {
+        match self.push_whole(alloc, shapes, work, &known.tested.verdicts, new, peer) {
             Err(NoMemory) => Entered::NoMemory,
             Ok(()) => {
                 let end_task = TaskId(self.tasks.len() as u64);
-                self.mark(task.0 as usize, Some(row), by);
+                self.mark(call.task.0 as usize, Some(row), call.by);
                 Entered::Placed {
                     place,
                     row,

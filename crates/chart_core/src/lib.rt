@@ -67,6 +67,13 @@ pub struct Caller {
     pub count: u64,
 }
 
+/// Which task's outcome is entered, and by whom.
+#[derive(Drop, Clone, Copy)]
+pub struct Call {
+    pub task: TaskId,
+    pub by: Caller,
+}
+
 /// What a row is.
 #[derive(Drop, Clone, Copy)]
 pub enum RowKind {

@@ -1,10 +1,11 @@
 //! Tasks are looked at, noted, and entered in order.
 
+use crate::entering::{Known, OpenTask};
 use crate::finding::outcome_of;
 use crate::noted::Notes;
 use crate::tasks::Standing;
 use crate::tuples::{level_over, tuple_of};
-use crate::{Caller, Core, Daughters, Entered, Outcome, TaskId, Tested};
+use crate::{Call, Caller, Core, Daughters, Entered, Outcome, TaskId, Tested};
 use chart_model::{Cover, NoMemory, Shapes};
 use std::alloc::Global;
 
@@ -112,7 +113,11 @@ impl<S: Shapes> Core<S> {
             verdicts: Vec::new(alloc),
         };
         let by = Caller { seat: 0, count: 0 };
-        match self.enter_inner(alloc, shapes, work, task, outcome, by, &tested, false) {
+        let known = Known {
+            tested: &tested,
+            bounded: false,
+        };
+        match self.enter_inner(alloc, shapes, work, Call { task, by }, outcome, &known) {
             Entered::NoMemory => Err(NoMemory),
             _ => Ok(()),
         }
@@ -166,9 +171,16 @@ impl<S: Shapes> Core<S> {
             verdicts: Vec::new(alloc),
         };
         let by = Caller { seat: 0, count: 0 };
-        match self.enter_open(
-            alloc, shapes, work, task, rule, daughters, outcome, by, &tested, false,
-        ) {
+        let known = Known {
+            tested: &tested,
+            bounded: false,
+        };
+        let at = OpenTask {
+            call: Call { task, by },
+            rule,
+            daughters,
+        };
+        match self.enter_open(alloc, shapes, work, at, outcome, &known) {
             Entered::NoMemory => Err(NoMemory),
             _ => Ok(()),
         }

@@ -107,29 +107,35 @@ fn is_under<S: Shapes>(
     }
 }
 
+/// By what the peers of a row are looked for: its cover, level and shape, and what was found of other rows before.
+#[derive(Drop)]
+pub struct Sought<'x, S: Shapes> {
+    pub shapes: &'x S,
+    pub tested: &'x [Verdict],
+    pub cover: &'x S::Cover,
+    pub level: u32,
+    pub shape: &'x S::Shape,
+}
+
 /// The first of these rows that is a live host of the cover and level whose shape subsumes this one.
 pub fn first_over<S: Shapes>(
     rows: &[Row<S>],
     places: &[u64],
-    shapes: &S,
+    by: &Sought<S>,
     work: &mut S::Work,
-    tested: &[Verdict],
-    cover: &S::Cover,
-    level: u32,
-    shape: &S::Shape,
 ) -> Result<Option<u64>, NoMemory>
-    requires rows { All (Belongs (S.calculus shapes.now) (S.belongs shapes.now)) rows.now }
-    requires shape { S.belongs shapes.now shape.now }
+    requires rows { All (Belongs (S.calculus by.now.shapes.now) (S.belongs by.now.shapes.now)) rows.now }
+    requires shape { S.belongs by.now.shapes.now by.now.shape.now }
     requires places { All (λ p. p < length rows.now) places.now }
-    requires tested { AreRight (S.calculus shapes.now) (S.meaning shapes.now) (S.meaning shapes.now shape.now) rows.now tested.now }
-    ensures { IfOk result (λ o. o ≡ find (at_place (is_peer (S.calculus shapes.now) (S.meaning shapes.now) (λ h. (S.calculus shapes.now).over h (S.meaning shapes.now shape.now)) cover.now level) rows.now) places.now) }
+    requires tested { AreRight (S.calculus by.now.shapes.now) (S.meaning by.now.shapes.now) (S.meaning by.now.shapes.now by.now.shape.now) rows.now by.now.tested.now }
+    ensures { IfOk result (λ o. o ≡ find (at_place (is_peer (S.calculus by.now.shapes.now) (S.meaning by.now.shapes.now) (λ h. (S.calculus by.now.shapes.now).over h (S.meaning by.now.shapes.now by.now.shape.now)) by.now.cover.now by.now.level) rows.now) places.now) }
 {
     let mut next = 0;
     for place in places {
         let row = &rows[*place as usize];
-        next = first_from(tested, next, *place);
-        let verdict = verdict_at(tested, next, *place);
-        if is_over(row, shapes, work, verdict, cover, level, shape)? {
+        next = first_from(by.tested, next, *place);
+        let verdict = verdict_at(by.tested, next, *place);
+        if is_over(row, by.shapes, work, verdict, by.cover, by.level, by.shape)? {
             return Ok(Some(*place));
         }
     }
@@ -141,26 +147,22 @@ pub fn all_under<S: Shapes>(
     alloc: Global,
     rows: &[Row<S>],
     places: &[u64],
-    shapes: &S,
+    by: &Sought<S>,
     work: &mut S::Work,
-    tested: &[Verdict],
-    cover: &S::Cover,
-    level: u32,
-    shape: &S::Shape,
 ) -> Result<Vec<u64>, NoMemory>
-    requires rows { All (Belongs (S.calculus shapes.now) (S.belongs shapes.now)) rows.now }
-    requires shape { S.belongs shapes.now shape.now }
+    requires rows { All (Belongs (S.calculus by.now.shapes.now) (S.belongs by.now.shapes.now)) rows.now }
+    requires shape { S.belongs by.now.shapes.now by.now.shape.now }
     requires places { All (λ p. p < length rows.now) places.now }
-    requires tested { AreRight (S.calculus shapes.now) (S.meaning shapes.now) (S.meaning shapes.now shape.now) rows.now tested.now }
-    ensures { IfOk result (λ v. v.items ≡ filter (at_place (is_peer (S.calculus shapes.now) (S.meaning shapes.now) ((S.calculus shapes.now).over (S.meaning shapes.now shape.now)) cover.now level) rows.now) places.now) }
+    requires tested { AreRight (S.calculus by.now.shapes.now) (S.meaning by.now.shapes.now) (S.meaning by.now.shapes.now by.now.shape.now) rows.now by.now.tested.now }
+    ensures { IfOk result (λ v. v.items ≡ filter (at_place (is_peer (S.calculus by.now.shapes.now) (S.meaning by.now.shapes.now) ((S.calculus by.now.shapes.now).over (S.meaning by.now.shapes.now by.now.shape.now)) by.now.cover.now by.now.level) rows.now) places.now) }
 {
     let mut found = Vec::new(alloc);
     let mut next = 0;
     for place in places {
         let row = &rows[*place as usize];
-        next = first_from(tested, next, *place);
-        let verdict = verdict_at(tested, next, *place);
-        if is_under(row, shapes, work, verdict, cover, level, shape)? {
+        next = first_from(by.tested, next, *place);
+        let verdict = verdict_at(by.tested, next, *place);
+        if is_under(row, by.shapes, work, verdict, by.cover, by.level, by.shape)? {
             found.push(*place)?;
         }
     }
@@ -177,6 +179,14 @@ fn is_right_partner<S: Shapes>(row: &Row<S>, shapes: &S, unary: u32, cover: &S::
         && cover.joins(&row.cover, shapes.bound())
 }
 
+/// A partial that is to be there: its rule, cover and number.
+#[derive(Drop)]
+pub struct NewPartial<'x, C> {
+    pub rule: u32,
+    pub cover: &'x C,
+    pub number: u64,
+}
+
 /// The tasks of a new partial: one with each of these rows that is a live host whose cover joins its cover on the right.
 pub fn partial_pairs<S: Shapes>(
     alloc: Global,
@@ -184,21 +194,19 @@ pub fn partial_pairs<S: Shapes>(
     places: &[u64],
     shapes: &S,
     unary: u32,
-    rule: u32,
-    cover: &S::Cover,
-    number: u64,
+    new: &NewPartial<S::Cover>,
 ) -> Result<Vec<TaskRow>, NoMemory>
     requires places { All (λ p. p < length rows.now) places.now }
     ensures fresh { IfOk result (λ v. All (λ t. t.done ≡ None) v.items) }
-    ensures pairs { IfOk result (λ v. map task_of v.items ≡ picked (S.calculus shapes.now) (partial_task (S.calculus shapes.now) unary (into_of rows.now) rule cover.now number) (slice_get (rows_of (S.meaning shapes.now) rows.now)) places.now) }
+    ensures pairs { IfOk result (λ v. map task_of v.items ≡ picked (S.calculus shapes.now) (partial_task (S.calculus shapes.now) unary (into_of rows.now) new.now.rule new.now.cover.now new.now.number) (slice_get (rows_of (S.meaning shapes.now) rows.now)) places.now) }
 {
     let mut found = Vec::new(alloc);
     for place in places {
         let row = &rows[*place as usize];
-        if is_right_partner(row, shapes, unary, cover) {
+        if is_right_partner(row, shapes, unary, new.cover) {
             found.push(TaskRow {
-                rule,
-                partial: Some(RowId(number)),
+                rule: new.rule,
+                partial: Some(RowId(new.number)),
                 host: RowId(*place),
                 done: None,
             })?;

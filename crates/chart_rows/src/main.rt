@@ -63,7 +63,7 @@ fn answer<R: Wait + Threads + Sync>(
         "seats" => {
             let shapes = grammar(alloc, a)?;
             let leaves = leaves(alloc, b)?;
-            seats::chart(rt, alloc, &shapes, &mut (), leaves, c, out)
+            seats::chart(rt, alloc, &shapes, leaves, c, out)
         }
         "crew" => workers::crew(rt, alloc, parts(rest), out),
         "refused" => workers::refused(rt, alloc, parts(rest), out),

@@ -11,10 +11,10 @@ ghost use Rattle.chart_rows.specs.Sitting.{Sits};
 use crate::grammars::limits;
 use crate::steps::{front, long_number};
 use crate::told::{push_number, push_rows, push_told, push_unready};
-use crate::turns::{advance, advance_after};
+use crate::turns::{Shared, TwoSeats, advance, advance_after};
 use chart_core::{Core, Leaf, Ready, TaskId};
 use chart_model::{NoMemory, Shapes};
-use shared_chart::{ChartSeat, SharedChart, Unready};
+use shared_chart::{ChartSeat, SharedChart, Tools, Unready};
 use std::alloc::Global;
 use std::sync::Wait;
 
@@ -23,15 +23,17 @@ pub fn chart<R: Wait, S: Shapes>(
     rt: &R,
     alloc: Global,
     shapes: &S,
-    work: &mut S::Work,
     leaves: Vec<Leaf<S>>,
     steps: &str,
     out: &mut String,
 ) -> Result<(), NoMemory>
     requires { All (LeafBelongs (S.calculus shapes.now) (S.belongs shapes.now)) leaves.items }
 {
-    let core = Core::start(alloc, leaves, shapes, work, &limits(5_000))?;
-    let core = shared(rt, alloc, core, shapes, work, steps, out)?;
+    let work = shapes.work(alloc)?;
+    let infos = Vec::new(alloc);
+    let mut tools = Tools { work, infos };
+    let core = Core::start(alloc, leaves, shapes, &mut tools.work, &limits(5_000))?;
+    let core = shared(rt, alloc, core, shapes, &mut tools, steps, out)?;
     end(core, alloc, shapes, out)
 }
 
@@ -41,7 +43,7 @@ fn shared<R: Wait, S: Shapes>(
     alloc: Global,
     core: Core<S>,
     shapes: &S,
-    work: &mut S::Work,
+    tools: &mut Tools<S::Work>,
     steps: &str,
     out: &mut String,
 ) -> Result<Core<S>, NoMemory>
@@ -50,28 +52,23 @@ fn shared<R: Wait, S: Shapes>(
     ensures { IfOk result (IsCore (grammar_of S.Shapes S.Cover.Cover.own shapes.now)) }
 {
     let (chart, mut seats) = SharedChart::open(alloc, core, shapes, 2)?;
-    let Some(mut second) = seats.pop() else {
+    let Some(second) = seats.pop() else {
         unreachable!()
     };
-    let Some(mut first) = seats.pop() else {
+    let Some(first) = seats.pop() else {
         unreachable!()
+    };
+    let mut both = TwoSeats { first, second };
+    let on = Shared {
+        chart: &chart,
+        shapes,
     };
     for step in steps.split(' ') {
-        call(
-            rt,
-            alloc,
-            &chart,
-            &mut first,
-            &mut second,
-            shapes,
-            work,
-            step,
-            out,
-        )?;
+        call(rt, alloc, &on, &mut both, tools, step, out)?;
         out.push_str(", ")?;
     }
-    seats.push(first)?;
-    seats.push(second)?;
+    seats.push(both.first)?;
+    seats.push(both.second)?;
     Ok(chart.close(seats))
 }
 
@@ -81,38 +78,38 @@ fn shared<R: Wait, S: Shapes>(
 fn call<R: Wait, S: Shapes>(
     rt: &R,
     alloc: Global,
-    chart: &SharedChart<S>,
-    first: &mut ChartSeat<S>,
-    second: &mut ChartSeat<S>,
-    shapes: &S,
-    work: &mut S::Work,
+    on: &Shared<S>,
+    seats: &mut TwoSeats<S>,
+    tools: &mut Tools<S::Work>,
     step: &str,
     out: &mut String,
 ) -> Result<(), NoMemory>
-    requires first { Sits chart.now shapes.now 0 first.old }
-    requires second { Sits chart.now shapes.now 1 second.old }
-    ensures first { SameSeat first.old first.new }
-    ensures second { SameSeat second.old second.new }
+    requires first { Sits on.now.chart.now on.now.shapes.now 0 seats.old.first }
+    requires second { Sits on.now.chart.now on.now.shapes.now 1 seats.old.second }
+    ensures first { SameSeat seats.old.first seats.new.first }
+    ensures second { SameSeat seats.old.second seats.new.second }
 {
     let (word, rest) = front(step, ':');
     let (other, last) = front(rest, ':');
     let task = TaskId(long_number(other));
     let last = TaskId(long_number(last));
+    let chart = on.chart;
+    let shapes = on.shapes;
     match word {
         "first" => {
-            let told = advance(rt, alloc, chart, first, shapes, work, task);
+            let told = advance(rt, alloc, chart, &mut seats.first, shapes, tools, task);
             push_told(alloc, out, told)
         }
         "second" => {
-            let told = advance(rt, alloc, chart, second, shapes, work, task);
+            let told = advance(rt, alloc, chart, &mut seats.second, shapes, tools, task);
             push_told(alloc, out, told)
         }
         "after" => {
-            let told = advance_after(rt, alloc, chart, first, second, shapes, work, task, last);
+            let told = advance_after(rt, alloc, on, seats, tools, task, last);
             push_told(alloc, out, told)
         }
-        "rest" => saturate(rt, alloc, chart, first, shapes, work),
-        _ => ready(rt, alloc, chart, first, shapes, task, out),
+        "rest" => saturate(rt, alloc, chart, &mut seats.first, shapes, tools),
+        _ => ready(rt, alloc, chart, &mut seats.first, shapes, task, out),
     }
 }
 
@@ -123,7 +120,7 @@ fn saturate<R: Wait, S: Shapes>(
     chart: &SharedChart<S>,
     seat: &mut ChartSeat<S>,
     shapes: &S,
-    work: &mut S::Work,
+    tools: &mut Tools<S::Work>,
 ) -> Result<(), NoMemory>
     requires seat { seat_id seat.old ≡ chart_id chart.now }
     requires shapes { shapes.now ≡ shapes_of seat.old }
@@ -136,7 +133,7 @@ fn saturate<R: Wait, S: Shapes>(
             chart,
             seat,
             shapes,
-            work,
+            tools,
             TaskId(number),
         ) {
             return Err(NoMemory);

@@ -7,7 +7,7 @@ ghost use Rattle.chart_core.specs.Calls.{IsRightIn};
 ghost use Rattle.chart_core.specs.Outcomes.{ShapeBelongs};
 ghost use Rattle.chart_core.specs.Later.{IsLater};
 
-use chart_core::{Caller, Core, Entered, Outcome, Ready, TaskId, outcome_of};
+use chart_core::{Call, Caller, Core, Entered, Outcome, Ready, TaskId, outcome_of};
 use chart_model::{NoMemory, Shapes};
 use std::alloc::Global;
 
@@ -69,7 +69,8 @@ pub fn advance_after<S: Shapes>(
     let outcome = work_out(core, alloc, shapes, work, task)?;
     let tested = peers.test(alloc, shapes, work, &outcome)?;
     let by = Caller { seat: 0, count: 0 };
-    Ok(core.enter_tested(alloc, shapes, work, task, outcome, by, &tested))
+    let call = Call { task, by };
+    Ok(core.enter_tested(alloc, shapes, work, call, outcome, &tested))
 }
 
 /// Works out and enters the tasks below a bound, in order, as they are made.

@@ -10,7 +10,7 @@ use crate::told::{push_fault, push_number};
 use crate::watched::{Watch, Watched};
 use chart_core::{ChartFault, Leaf};
 use chart_model::NoMemory;
-use chart_workers::{BySize, Crew, saturate};
+use chart_workers::{BySize, Crew, Terms, saturate};
 use std::alloc::Global;
 use std::sync::Wait;
 use std::thread::Threads;
@@ -41,17 +41,13 @@ fn saturated<'a, R: Wait + Threads + Sync>(
 {
     let mut crew = Crew::new(alloc, workers);
     let limits = limits(edges);
-    let finished = saturate(
-        rt,
-        alloc,
-        leaves,
-        shapes,
-        &mut (),
-        &mut crew,
-        &BySize,
-        &limits,
-        shapes.watch,
-    )?;
+    let priority = BySize;
+    let terms = Terms {
+        limits: &limits,
+        priority: &priority,
+    };
+    let watch = shapes.watch;
+    let finished = saturate(rt, alloc, leaves, shapes, &mut crew, &terms, watch)?;
     finished.decide(&limits)
 }
 

@@ -5,22 +5,22 @@ ghost use Rattle.chart_workers.specs.Posts.{post_seat};
 use crate::{Ended, PoolSeat};
 use chart_core::TaskId;
 use chart_model::{NoMemory, Shapes};
-use shared_chart::ChartSeat;
+use shared_chart::{ChartSeat, Tools};
 use std::alloc::Global;
 
-/// What one worker has for itself: its number, its seats, its scratch, the tasks that it keeps, and how it ended.
+/// What one worker has for itself: its number, its seats, what it works with, the tasks that it keeps, and how it ended.
 #[derive(Drop)]
-pub(crate) struct Post<S: Shapes> {
-    pub(crate) number: u32,
-    pub(crate) seat: ChartSeat<S>,
-    pub(crate) pool: PoolSeat,
-    pub(crate) work: S::Work,
-    pub(crate) kept: Vec<TaskId>,
-    pub(crate) ended: Ended,
+pub struct Post<S: Shapes> {
+    pub number: u32,
+    pub seat: ChartSeat<S>,
+    pub pool: PoolSeat,
+    pub tools: Tools<S::Work>,
+    pub kept: Vec<TaskId>,
+    pub ended: Ended,
 }
 
 // A scratch of an earlier chart, or a new one.
-fn scratch<S: Shapes>(
+pub(crate) fn scratch<S: Shapes>(
     alloc: Global,
     shapes: &S,
     works: &mut Vec<S::Work>,
@@ -54,7 +54,10 @@ pub(crate) fn posts<S: Shapes>(
             number: seat.number,
             seat,
             pool,
-            work,
+            tools: Tools {
+                work,
+                infos: Vec::new(alloc),
+            },
             kept: Vec::new(alloc),
             ended: Ended::AllDone,
         });
@@ -73,8 +76,10 @@ pub(crate) fn seats_of<S: Shapes>(
     let mut found = Vec::with_capacity(alloc, posts.len())?;
     posts.reverse();
     while let Some(post) = posts.pop() {
-        works.push(post.work)?;
-        found.push_reserved(post.seat);
+        let seat = post.seat;
+        let tools = post.tools;
+        works.push(tools.work)?;
+        found.push_reserved(seat);
     }
     Ok(found)
 }

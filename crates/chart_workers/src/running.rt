@@ -12,8 +12,8 @@ use chart_model::Shapes;
 use shared_chart::SharedChart;
 use std::alloc::Global;
 use std::sync::Wait;
+use std::thread;
 use std::thread::Threads;
-use std::{mem, thread};
 use worker_gate::Gate;
 
 // One worker at its post.
@@ -31,20 +31,7 @@ fn attend<R: Wait, S: Shapes, P: Rank>(
     requires core { IsCore (grammar_of S.Shapes S.Cover.Cover.own shapes.now) (state_of post.old.seat) }
     ensures { EndsAs (grammar_of S.Shapes S.Cover.Cover.own shapes.now) post.old.seat post.new.ended post.new.seat }
 {
-    let kept = mem::replace(&mut post.kept, Vec::new(alloc));
-    post.ended = work(
-        rt,
-        alloc,
-        post.number,
-        chart,
-        &mut post.seat,
-        &mut post.pool,
-        kept,
-        shapes,
-        &mut post.work,
-        priority,
-        gate,
-    );
+    post.ended = work(rt, alloc, chart, post, shapes, priority, gate);
 }
 
 // All workers, each in a thread of its own; the caller's thread is one of these, so that one worker starts none.

@@ -10,9 +10,9 @@ ghost use Rattle.shared_chart.specs.Told.{AreRightSince};
 ghost use Rattle.chart_workers.specs.Turns.{GoesOn};
 ghost use Rattle.chart_workers.specs.Endings.{EntersOn};
 
-use chart_core::{Outcome, Ready, TaskId, TaskInfo, Tested, outcome_of};
+use chart_core::{Outcome, Ready, TaskId, Tested, outcome_of};
 use chart_model::{NoMemory, Shapes};
-use shared_chart::{Cell, ChartSeat, Informed, SharedChart, Unready};
+use shared_chart::{Cell, ChartSeat, Finding, Informed, SharedChart, Tools, Unready};
 use std::alloc::Global;
 use std::sync::Wait;
 
@@ -64,16 +64,15 @@ fn verdicts<S: Shapes>(
 }
 
 /// One task, from what the chart tells of it to what is entered, in two turns. Its structures are unified and compared outside
-/// the lock. What there is to know of the tasks that it makes is written into the list.
+/// the lock. What there is to know of the tasks that it makes is written into the tools' list.
 pub(crate) fn turn<R: Wait, S: Shapes>(
     rt: &R,
     alloc: Global,
     chart: &SharedChart<S>,
     seat: &mut ChartSeat<S>,
     shapes: &S,
-    work: &mut S::Work,
+    tools: &mut Tools<S::Work>,
     task: TaskId,
-    infos: &mut Vec<TaskInfo>,
 ) -> Result<Informed, Unready>
     requires seat { seat_id seat.old ≡ chart_id chart.now }
     requires shapes { shapes.now ≡ shapes_of seat.old }
@@ -81,7 +80,12 @@ pub(crate) fn turn<R: Wait, S: Shapes>(
     ensures full { IfOk result (λ informed. EntersOn (grammar_of S.Shapes S.Cover.Cover.own shapes.now) seat.new informed.entered) }
 {
     let look = chart.look(rt, alloc, seat, shapes, task)?;
-    let outcome = find(alloc, shapes, work, &look.ready)?;
-    let tested = verdicts(alloc, shapes, work, &look.cell, &outcome)?;
-    Ok(chart.enter_informing(rt, alloc, seat, shapes, work, task, outcome, &tested, infos))
+    let outcome = find(alloc, shapes, &mut tools.work, &look.ready)?;
+    let tested = verdicts(alloc, shapes, &mut tools.work, &look.cell, &outcome)?;
+    let found = Finding {
+        task,
+        outcome,
+        tested,
+    };
+    Ok(chart.enter(rt, alloc, seat, shapes, tools, found))
 }

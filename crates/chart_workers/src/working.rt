@@ -7,13 +7,14 @@ ghost use Rattle.chart_workers.specs.Turns.{GoesOn};
 ghost use Rattle.chart_workers.specs.Endings.{is_over, EntersOn, TurnsTo, GivesUp, EndsAs};
 
 use crate::over::{ChartOver, look};
+use crate::posts::Post;
 use crate::priority::Rank;
 use crate::pushing::{push_all, ranked};
 use crate::turns::turn;
 use crate::{Ended, PoolSeat};
 use chart_core::{Entered, TaskId, TaskInfo};
 use chart_model::{NoMemory, Shapes};
-use shared_chart::{ChartSeat, Informed, SharedChart, Unready};
+use shared_chart::{ChartSeat, Informed, SharedChart, Tools, Unready};
 use std::alloc::Global;
 use std::sync::Wait;
 use worker_gate::Gate;
@@ -83,9 +84,8 @@ fn enter_one<R: Wait, S: Shapes>(
     chart: &SharedChart<S>,
     seat: &mut ChartSeat<S>,
     shapes: &S,
-    work: &mut S::Work,
+    tools: &mut Tools<S::Work>,
     task: TaskId,
-    infos: &mut Vec<TaskInfo>,
 ) -> Result<Informed, Turned>
     requires seat { seat_id seat.old ≡ chart_id chart.now }
     requires shapes { shapes.now ≡ shapes_of seat.old }
@@ -95,7 +95,7 @@ fn enter_one<R: Wait, S: Shapes>(
     ensures turned { IfErr result (TurnsTo (grammar_of S.Shapes S.Cover.Cover.own shapes.now) seat.new) }
 {
     for _ in rt.forever() {
-        match turn(rt, alloc, chart, seat, shapes, work, task, infos) {
+        match turn(rt, alloc, chart, seat, shapes, tools, task) {
             Ok(informed) => return Ok(informed),
             Err(Unready::NoMemory) => return Err(Turned::NoMemory),
             Err(Unready::Unmade { tasks: _ }) => {
@@ -129,22 +129,26 @@ fn one_task<R: Wait, S: Shapes, P: Rank>(
     rt: &R,
     alloc: Global,
     chart: &SharedChart<S>,
-    seat: &mut ChartSeat<S>,
-    pool: &mut PoolSeat,
-    kept: &mut Vec<TaskId>,
-    infos: &mut Vec<TaskInfo>,
+    post: &mut Post<S>,
     shapes: &S,
-    work: &mut S::Work,
     priority: &P,
     task: TaskId,
 ) -> Turned
-    requires seat { seat_id seat.old ≡ chart_id chart.now }
-    requires shapes { shapes.now ≡ shapes_of seat.old }
-    requires core { IsCore (grammar_of S.Shapes S.Cover.Cover.own shapes.now) (state_of seat.old) }
-    ensures seat { GoesOn (grammar_of S.Shapes S.Cover.Cover.own shapes.now) seat.old seat.new }
-    ensures turned { TurnsTo (grammar_of S.Shapes S.Cover.Cover.own shapes.now) seat.new result }
+    requires seat { seat_id post.old.seat ≡ chart_id chart.now }
+    requires shapes { shapes.now ≡ shapes_of post.old.seat }
+    requires core { IsCore (grammar_of S.Shapes S.Cover.Cover.own shapes.now) (state_of post.old.seat) }
+    ensures seat { GoesOn (grammar_of S.Shapes S.Cover.Cover.own shapes.now) post.old.seat post.new.seat }
+    ensures turned { TurnsTo (grammar_of S.Shapes S.Cover.Cover.own shapes.now) post.new.seat result }
 {
-    match enter_one(rt, alloc, chart, seat, shapes, work, task, infos) {
+    match enter_one(
+        rt,
+        alloc,
+        chart,
+        &mut post.seat,
+        shapes,
+        &mut post.tools,
+        task,
+    ) {
         Err(turned) => turned,
         Ok(informed) => match informed.entered {
             Entered::Full { made } => Turned::Full { made },
@@ -153,7 +157,14 @@ fn one_task<R: Wait, S: Shapes, P: Rank>(
                 if informed.told.is_err() {
                     return Turned::NoMemory;
                 }
-                match push_new(alloc, pool, kept, priority, infos, first_task) {
+                match push_new(
+                    alloc,
+                    &mut post.pool,
+                    &mut post.kept,
+                    priority,
+                    &post.tools.infos,
+                    first_task,
+                ) {
                     Ok(()) => Turned::Goes,
                     Err(_) => Turned::NoMemory,
                 }
@@ -163,43 +174,37 @@ fn one_task<R: Wait, S: Shapes, P: Rank>(
     }
 }
 
-/// A worker of this number: it takes tasks and enters their outcomes until the work is over, room is wanting, or memory is.
+/// A worker at its post: it takes tasks and enters their outcomes until the work is over, room is wanting, or memory is.
 ///
-/// It takes what is in `kept` first, and then asks its seat of the pool. It tells the gate of each task, asks how the task
+/// It takes what it has kept first, and then asks its seat of the pool. It tells the gate of each task, asks how the task
 /// stands, finds its outcome without the lock, enters it, and pushes the new tasks in the order of their ranks. A task that
 /// isn't made yet is asked for again. It calls `stop` where it ends with `Full` or `NoMemory`, and nowhere else.
 pub fn work<R: Wait, S: Shapes, P: Rank>(
     rt: &R,
     alloc: Global,
-    number: u32,
     chart: &SharedChart<S>,
-    seat: &mut ChartSeat<S>,
-    pool: &mut PoolSeat,
-    kept: Vec<TaskId>,
+    post: &mut Post<S>,
     shapes: &S,
-    work: &mut S::Work,
     priority: &P,
     gate: &dyn Gate,
 ) -> Ended
-    requires seat { seat_id seat.old ≡ chart_id chart.now }
-    requires shapes { shapes.now ≡ shapes_of seat.old }
-    requires core { IsCore (grammar_of S.Shapes S.Cover.Cover.own shapes.now) (state_of seat.old) }
-    ensures { EndsAs (grammar_of S.Shapes S.Cover.Cover.own shapes.now) seat.old result seat.new }
+    requires seat { seat_id post.old.seat ≡ chart_id chart.now }
+    requires shapes { shapes.now ≡ shapes_of post.old.seat }
+    requires core { IsCore (grammar_of S.Shapes S.Cover.Cover.own shapes.now) (state_of post.old.seat) }
+    ensures { EndsAs (grammar_of S.Shapes S.Cover.Cover.own shapes.now) post.old.seat result post.new.seat }
 {
-    let mut kept = kept;
-    let mut infos = Vec::new(alloc);
     for _ in rt.forever() {
-        let Some(task) = take(rt, chart, seat, pool, &mut kept) else {
-            return last(rt, chart, seat);
+        let Some(task) = take(rt, chart, &mut post.seat, &mut post.pool, &mut post.kept) else {
+            return last(rt, chart, &mut post.seat);
         };
-        gate.at(number, task.0);
-        match one_task(
-            rt, alloc, chart, seat, pool, &mut kept, &mut infos, shapes, work, priority, task,
-        ) {
+        gate.at(post.number, task.0);
+        match one_task(rt, alloc, chart, post, shapes, priority, task) {
             Turned::Goes => {}
-            Turned::Over => return last(rt, chart, seat),
-            Turned::Full { made } => return give_up(rt, chart, seat, Ended::Full { made }),
-            Turned::NoMemory => return give_up(rt, chart, seat, Ended::NoMemory),
+            Turned::Over => return last(rt, chart, &mut post.seat),
+            Turned::Full { made } => {
+                return give_up(rt, chart, &mut post.seat, Ended::Full { made });
+            }
+            Turned::NoMemory => return give_up(rt, chart, &mut post.seat, Ended::NoMemory),
         }
     }
     unreachable!()

@@ -7,7 +7,7 @@ use Rattle.type_hierarchy.specs.Table.{TypeTable}
 use Rattle.constraint_expand.specs.declared.books.Book.{Book}
 use Rattle.book_signs.specs.Trees.{SignTree}
 use Rattle.grammar_load.specs.Loaded.{GrammarTree}
-use Rattle.grammar_names.specs.Fitting.{mrs_paths_of, IsWellNamed}
+use Rattle.mrs_lines.specs.Fitting.{mrs_paths_of, IsWellNamed}
 use Rattle.mrs_places.specs.Paths.{Paths}
 use Rattle.mrs_places.specs.Settled.{paths_said}
 use Rattle.mrs_extract.specs.Asked.{ArePaths}

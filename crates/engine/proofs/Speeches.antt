@@ -29,7 +29,7 @@ use Rattle.command_files.specs.Grammars.{HasGrammar}
 use Rattle.endings.specs.Meanings.{Files}
 use Rattle.mrs_places.specs.Settled.{paths_said}
 use Rattle.mrs_lines.specs.Lines.{Semantics}
-use Rattle.grammar_names.specs.Fitting.{mrs_paths_of}
+use Rattle.mrs_lines.specs.Fitting.{mrs_paths_of}
 use Rattle.engine.specs.Speeches.{Speech, IsSpeechOf}
 use Rattle.engine.proofs.SameBooks.{signs_on}
 

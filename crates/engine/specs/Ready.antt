@@ -2,7 +2,7 @@
 use Rattle.std.specs.Prelude.{◌≡◌}
 use Rattle.grammar_load.specs.Conditions.{IsLoaded}
 use Rattle.grammar_load.specs.Views.{grammar_of}
-use Rattle.grammar_names.specs.Fitting.{mrs_paths_of, IsWellNamed}
+use Rattle.mrs_lines.specs.Fitting.{mrs_paths_of, IsWellNamed}
 use Rattle.grammar_rules.specs.Lines.{AreShapesOf, AreFeedsOf}
 use Rattle.grammar_rules.specs.Remembered.{IsMemoryOf}
 use Rattle.mrs_places.specs.Paths.{paths_of}

@@ -11,7 +11,7 @@ use Rattle.book_signs.specs.Trees.{entries_of, lexical_rules_of}
 use Rattle.lexical_items.specs.Said.{words_said}
 use Rattle.endings.specs.Meanings.{Files}
 use Rattle.command_files.specs.Grammars.{HasGrammar}
-use Rattle.grammar_names.specs.Fitting.{mrs_paths_of}
+use Rattle.mrs_lines.specs.Fitting.{mrs_paths_of}
 
 -- its signs, what is said of words, the names of its instances, and where MRSs stand
 pub record Speech : Type 0 where

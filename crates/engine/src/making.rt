@@ -6,7 +6,7 @@ ghost use Rattle.book_signs.specs.Conditions.{IsWhole};
 ghost use Rattle.grammar_load.specs.Conditions.{IsLoaded};
 ghost use Rattle.grammar_load.specs.Loaded.{GrammarTree};
 ghost use Rattle.grammar_load.specs.Views.{grammar_of};
-ghost use Rattle.grammar_names.specs.Fitting.{mrs_paths_of, IsWellNamed};
+ghost use Rattle.mrs_lines.specs.Fitting.{mrs_paths_of, IsWellNamed};
 ghost use Rattle.grammar_rules.specs.Lines.{AreShapesOf, AreFeedsOf};
 ghost use Rattle.mrs_places.specs.Paths.{paths_of};
 ghost use Rattle.engine.specs.Ready.{IsReady};

@@ -10,8 +10,10 @@ ghost use Rattle.generate_commands.specs.Contributing.{AreContributorsOf};
 use crate::NoMemory;
 use engine::Engine;
 use fs_unify::Scratch;
+use lexical_items::LexicalGrammar;
 use mrs_generate::{Contributors, contributors_of};
 use mrs_places::{MrsFeat, c_cont_path};
+use rule_trees::SignFulls;
 use std::alloc::Global;
 
 /// Where the relations stand that a rule contributes itself, and what lexical trees and rules contribute.
@@ -37,17 +39,16 @@ pub fn contributions_of(
         return Err(NoMemory);
     };
     let mut work = Scratch::new(alloc);
-    let contributors = contributors_of(
-        alloc,
-        &mut work,
-        engine.signs,
-        engine.paths,
-        &c_cont,
-        &grammar.lexicon,
-        &grammar.spelling,
-        engine.feeds,
-        lexical,
-    )?;
+    let fulls = SignFulls {
+        signs: engine.signs,
+    };
+    let words = LexicalGrammar {
+        fulls: &fulls,
+        lexicon: &grammar.lexicon,
+        spelling: &grammar.spelling,
+        feeds: engine.feeds,
+    };
+    let contributors = contributors_of(alloc, &mut work, &words, engine.paths, &c_cont, lexical)?;
     Ok(Contributions {
         c_cont,
         contributors,

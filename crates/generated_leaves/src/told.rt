@@ -22,12 +22,9 @@ use crate::tree::ToldTree;
 use book_signs::SignBook;
 use fs_unify::Scratch;
 use generate_model::predicates;
-use lexical_items::{InflectedTree, inflected_trees};
-use lexicon::Lexicon;
-use morph_analysis::Feeds;
+use lexical_items::{InflectedTree, LexicalGrammar, inflected_trees};
 use mrs_places::MrsPaths;
 use rule_trees::{FullStructure, SignFulls};
-use spelling_rules::Spelling;
 use std::alloc::Global;
 use tree_structures::{closed_of, structure_laws};
 
@@ -105,27 +102,24 @@ fn told_each(
 /// contribute (Carroll, Copestake, Flickinger and Poznanski 1999); they are made once for a grammar. Leaves of at most so many rules are
 /// found among those of at most one rule more.
 ///
-/// Lexicon, spelling and feeds are as for `lexical_items`, and `paths` says where MRSs stand in structures of the grammar. It costs what
-/// the trees cost, and one closure and one walk along RELS for each. Whatever the scratch holds, the answer is the same.
-pub fn told_trees<'a>(
+/// `paths` says where MRSs stand in structures of the grammar. It costs what the trees cost, and one closure and one walk along RELS for
+/// each. Whatever the scratch holds, the answer is the same.
+pub fn told_trees(
     alloc: Global,
     work: &mut Scratch,
-    signs: &'a SignBook<'a>,
+    grammar: &LexicalGrammar<'_, SignFulls<'_>>,
     paths: &MrsPaths,
-    lexicon: &Lexicon,
-    spelling: &Spelling,
-    feeds: &Feeds,
     most: u32,
 ) -> Result<Vec<ToldTree>, NoMemory>
-    requires paths { ArePaths signs.now.book.system.types (paths_of paths.now) }
-    requires numbered { AreNumbered (entries_of (signs_of signs.now)) (lexical_rules_of (signs_of signs.now)) lexicon.now spelling.now }
-    requires bound { AreBound spelling.now.rules }
-    requires feeds { ForbidsNone (signs_of signs.now) (entries_of (signs_of signs.now)) (lexical_rules_of (signs_of signs.now)) feeds.now }
-    ensures { IfOk result (λ v. AreTold (signs_of signs.now) (words_said (entries_of (signs_of signs.now)) (lexical_rules_of (signs_of signs.now)) lexicon.now spelling.now)
-        signs.now.book.system.types (paths_of paths.now) most (map (told_seen signs.now) v.items)) }
+    requires paths { ArePaths grammar.now.fulls.now.signs.now.book.system.types (paths_of paths.now) }
+    requires numbered { let g = signs_of grammar.now.fulls.now.signs.now in AreNumbered (entries_of g) (lexical_rules_of g) grammar.now.lexicon.now grammar.now.spelling.now }
+    requires bound { AreBound grammar.now.spelling.now.rules }
+    requires feeds { let g = signs_of grammar.now.fulls.now.signs.now in ForbidsNone g (entries_of g) (lexical_rules_of g) grammar.now.feeds.now }
+    ensures { let g = signs_of grammar.now.fulls.now.signs.now in
+        IfOk result (λ v. AreTold g (words_said (entries_of g) (lexical_rules_of g) grammar.now.lexicon.now grammar.now.spelling.now)
+        grammar.now.fulls.now.signs.now.book.system.types (paths_of paths.now) most (map (told_seen grammar.now.fulls.now.signs.now) v.items)) }
 {
-    let fulls = SignFulls { signs };
-    let trees = inflected_trees(alloc, &fulls, work, lexicon, spelling, feeds, most)?;
-    let told = told_each(alloc, work, signs, paths, trees)?;
+    let trees = inflected_trees(alloc, grammar, work, most)?;
+    let told = told_each(alloc, work, grammar.fulls.signs, paths, trees)?;
     Ok(told)
 }

@@ -14,7 +14,7 @@ use Rattle.fs_graph.specs.GraphMap.{GraphMap, IsGraph, reader_of}
 use Rattle.fs_unify.specs.Rules.{Grammar, system_of, IsGrammar, IsClaimIn}
 use Rattle.fs_unify.specs.Given.{facts_source}
 use Rattle.fs_unify.specs.Placing.{IsAnswerIn}
-use Rattle.fs_unify.proofs.DrawLemmas.{well_formed}
+use Rattle.fs_unify.proofs.GivenLemmas.{well_formed}
 use Rattle.grammar_files.specs.Placings.{PlacedTree}
 use Rattle.grammar_files.specs.Statements.{instances_in, defines_instance, no_statement}
 use Rattle.body_facts.specs.Claimed.{WordTable}

@@ -30,12 +30,14 @@ use Rattle.morph_analysis.proofs.Lists.{map_take_next, all_taken}
 use Rattle.book_signs.specs.Trees.{SignTree, signs_of}
 use Rattle.grammar_shapes.specs.declared.shapes.GrammarShapes.{GrammarShapes}
 use Rattle.grammar_shapes.specs.Shaped.{Shape}
-use Rattle.grammar_shapes.specs.Systems.{grammar_of, rules_of, meaning_of, Belongs}
+use Rattle.grammar_shapes.specs.Systems.{grammar_of, rules_of, meaning_of, Belongs, OwesBy}
 use Rattle.grammar_shapes.specs.Ruled.{paths_in}
 use Rattle.grammar_shapes.specs.Spanned.{span_calculus}
 use Rattle.rule_trees.specs.Wholes.{wholes_of, IsLexicalAt, IsRuled}
-use Rattle.rule_trees.specs.Mothers.{graph_view, IsShortIn}
+use Rattle.rule_trees.specs.declared.bounded.BoundedGraph.{BoundedGraph}
+use Rattle.rule_trees.specs.Mothers.{graph_view, view_in, IsShortIn, IsMade}
 use Rattle.rule_trees.proofs.MakingLemmas.{inside}
+use Rattle.rule_trees.proofs.OweLemmas.{full_owes}
 use Rattle.lexical_items.specs.Fulls.{IsLexicalFull}
 use Rattle.lexical_items.specs.Listed.{Lexeme, IsLexeme, AreLexemes, Trees, IsLexicalAnswer}
 use Rattle.grammar_rules.specs.Leafed.{IsShapeOf}
@@ -46,6 +48,12 @@ use Rattle.grammar_rules.proofs.Lined.{lined_more, line_fit, line_answer}
 
 pub shape_sound : (t : SignTree) (s : GrammarShapes) (graph : GraphMap) → AreShapesOf t s → IsShortIn t graph → AreConsistent (signs_of t).system (Meant (rule_system (signs_of t)) (graph_view t graph)) → IsConsistent (system_of (grammar_of s)) (Told (source_alone (reader_of graph)))
 shape_sound t s graph are short h = subst (λ (g : Grammar). IsConsistent (system_of g) (Told (source_alone (reader_of graph)))) (sym are.grammar) (alone_sound (signs_of t) (reader_of graph) (inside t graph short) h)
+
+pub shape_owes : (t : SignTree) (s : GrammarShapes) (full : BoundedGraph) → AreShapesOf t s → IsMade (signs_of t) (view_in t full) →
+    OwesBy (grammar_of s) (rules_of s) full.plain
+shape_owes t s full are made =
+    subst (λ (k : RuleSystem). OwesBy (grammar_of s) k full.plain) (sym are.rules)
+    (subst (λ (g : Grammar). OwesBy g (rule_system (signs_of t)) full.plain) (sym are.grammar) (full_owes t full made))
 
 pub shape_is : (t : SignTree) (s : GrammarShapes) (graph : GraphMap) (m : Structure) → AreShapesOf t s → IsAbstract (rules_of s) (Meant (rules_of s) (view (paths_in (grammar_of s)) (reader_of graph))) m → IsAbstract (rule_system (signs_of t)) (Meant (rule_system (signs_of t)) (graph_view t graph)) m
 shape_is t s graph m are h =

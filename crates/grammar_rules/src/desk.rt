@@ -1,6 +1,5 @@
 //! What lines are worked out with. It is kept from one line to the next, and none of what it holds enters into an answer.
 
-use chart_workers::Crew;
 use fs_unify::Scratch;
 use packed_items::Work;
 
@@ -8,8 +7,4 @@ use packed_items::Work;
 pub type LineWork = Work<Scratch, Scratch>;
 
 /// What one line is worked out with, and the workers that share its chart.
-#[derive(Drop)]
-pub struct Desk {
-    pub work: LineWork,
-    pub crew: Crew<Scratch>,
-}
+pub type Desk = packed_items::Desk<Scratch, Scratch>;

@@ -28,7 +28,7 @@ use chart_core::Leaf;
 use chart_model::Span;
 use fs_unify::Scratch;
 use grammar_shapes::{GrammarShapes, Place};
-use lexical_items::{LexTree, LexTrees, lexical_trees};
+use lexical_items::{LexTree, LexTrees, LexicalGrammar, lexical_trees};
 use morph_analysis::Lattice;
 use rule_trees::{FullStructure, SignBook};
 use std::alloc::Global;
@@ -168,16 +168,13 @@ fn lexical_of(
     ensures { IfOk result (λ trees. IsLexicalAnswer (signs_of grammar.now.signs.now) (words_by grammar.now) (lattice_seen (lattice_of lattice.now)) most (lexical_seen (λ full. view_in grammar.now.signs.now full.graph) trees)) }
 {
     let fulls = grammar.shared.fulls();
-    let trees = lexical_trees(
-        alloc,
+    let lexical = LexicalGrammar {
         fulls,
-        work,
-        grammar.lexicon,
-        grammar.spelling,
-        grammar.feeds,
-        lattice,
-        most,
-    )?;
+        lexicon: grammar.lexicon,
+        spelling: grammar.spelling,
+        feeds: grammar.feeds,
+    };
+    let trees = lexical_trees(alloc, &lexical, work, lattice, most)?;
     Ok(trees)
 }
 

@@ -4,3 +4,4 @@ pub mod Feeding
 pub mod Making
 pub mod Keyed
 pub mod Routes
+pub mod Grown

@@ -2,6 +2,7 @@ pub mod Fulls
 pub mod Places
 pub mod Said
 pub mod Seen
+pub mod Grammars
 pub mod Listed
 pub mod Views
 pub mod Inner

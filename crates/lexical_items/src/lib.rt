@@ -7,8 +7,8 @@
 ghost use Rattle.std.specs.Prelude.{◌≡◌, ◌<◌, ◌^◌, ◌+◌, IfOk};
 ghost use Rattle.morph_analysis.specs.Lattices.{IsValid};
 ghost use Rattle.morph_analysis.specs.LatticeViews.{lattice_of};
-ghost use Rattle.lexical_items.specs.Said.{AreNumbered, words_said};
-ghost use Rattle.lexical_items.specs.Seen.{lattice_seen, ForbidsNone};
+ghost use Rattle.lexical_items.specs.Grammars.{IsLexicalGrammar, grammar_seen, grammar_words};
+ghost use Rattle.lexical_items.specs.Seen.{lattice_seen};
 ghost use Rattle.lexical_items.specs.Listed.{IsLexicalAnswer};
 ghost use Rattle.lexical_items.specs.Views.{lexical_seen};
 
@@ -17,6 +17,7 @@ mod entry_words;
 mod feeding;
 mod forms;
 mod fulls;
+mod grammar;
 mod grown;
 mod inflected;
 mod lexeme;
@@ -31,14 +32,13 @@ mod trees;
 pub use feeding::feeds_of;
 pub use forms::forms_of;
 pub use fulls::LexicalFulls;
+pub use grammar::LexicalGrammar;
 pub use inflected::inflected_trees;
 pub use lexeme::LexTree;
-use lexicon::Lexicon;
 use making::FullChains;
 pub use marked::MarkedFulls;
-use morph_analysis::{Feeds, Halt, Lattice, made_chains};
+use morph_analysis::{Halt, Lattice, made_chains};
 pub use remembered::RememberedFulls;
-use spelling_rules::Spelling;
 pub use std::alloc::AllocError as NoMemory;
 use std::alloc::Global;
 pub use tree::InflectedTree;
@@ -55,29 +55,38 @@ pub enum LexTrees<T> {
 
 /// The lexical trees of at most `most` rules that lie in a lattice, each once; or that one of exactly `most + 1` rules does.
 ///
-/// The lexicon and the spelling are those of the grammar, with its entries and lexical rules by number. `feeds` forbids no
-/// lexical tree; it only spares work. The search goes outwards from each entry and ends where a rule makes nothing, so that it
-/// costs a unification for each beginning of a chain with a full structure, and one for each rule that fails there. The first tree
-/// that is too deep ends it, and the longest chains come first.
+/// The search goes outwards from each entry and ends where a rule makes nothing, so that it costs a unification for each beginning of a
+/// chain with a full structure, and one for each rule that fails there. The first tree that is too deep ends it, and the longest chains
+/// come first.
 pub fn lexical_trees<F: LexicalFulls>(
     alloc: Global,
-    fulls: &F,
+    grammar: &LexicalGrammar<'_, F>,
     work: &mut F::Work,
-    lexicon: &Lexicon,
-    spelling: &Spelling,
-    feeds: &Feeds,
     lattice: &Lattice,
     most: u32,
 ) -> Result<LexTrees<F::Full>, NoMemory>
-    requires numbered { AreNumbered (F.entries_of fulls.now) (F.rules_of fulls.now) lexicon.now spelling.now }
+    requires grammar { IsLexicalGrammar (grammar_seen F.signs F.entries_of F.rules_of grammar.now) }
     requires valid { IsValid (lattice_of lattice.now) }
-    requires feeds { ForbidsNone (F.signs fulls.now) (F.entries_of fulls.now) (F.rules_of fulls.now) feeds.now }
     requires most { most + 1 < 2 ^ 32 }
-    ensures { IfOk result (λ trees. IsLexicalAnswer (F.signs fulls.now) (words_said (F.entries_of fulls.now) (F.rules_of fulls.now) lexicon.now spelling.now) (lattice_seen (lattice_of lattice.now)) most (lexical_seen (F.value fulls.now) trees)) }
+    ensures { let g = grammar_seen F.signs F.entries_of F.rules_of grammar.now in
+        IfOk result (λ trees. IsLexicalAnswer g.signs (grammar_words g) (lattice_seen (lattice_of lattice.now)) most (lexical_seen (F.value grammar.now.fulls.now) trees)) }
 {
+    let fulls = grammar.fulls;
     fulls.laws();
-    let maker = FullChains { fulls, feeds, most };
-    match made_chains(alloc, &maker, work, lexicon, spelling, lattice, most + 1) {
+    let maker = FullChains {
+        fulls,
+        feeds: grammar.feeds,
+        most,
+    };
+    match made_chains(
+        alloc,
+        &maker,
+        work,
+        grammar.lexicon,
+        grammar.spelling,
+        lattice,
+        most + 1,
+    ) {
         Ok(chains) => {
             let trees = trees_of(alloc, fulls, chains, most)?;
             Ok(trees)

@@ -1,19 +1,16 @@
 //! All entries under lexical rules that have a full structure and a word.
 
-ghost use Rattle.std.specs.Prelude.{◌≡◌, ◌<◌, ◌+◌, ◌++◌, ◌∷◌, [], length, map, IfOk, OnOk, MatchOption};
+ghost use Rattle.std.specs.Prelude.{◌≡◌, ◌<◌, ◌+◌, ◌++◌, [], ℕ, length, IfOk, OnOk};
 ghost use Rattle.spelling_rules.specs.Trees.{AreBound};
-ghost use Rattle.lexical_items.specs.Said.{AreNumbered};
-ghost use Rattle.lexical_items.specs.Seen.{ForbidsNone};
-ghost use Rattle.lexical_items.specs.Inner.Keyed.{Adds};
-ghost use Rattle.lexical_items.specs.Inner.Routes.{IsChain, IsRoute, IsFirst, IsAbove, IsOver, IsDeep, IsBelow, AreRoutes, key_of, above, listed, route_seen};
+ghost use Rattle.lexical_items.specs.Grammars.{IsLexicalGrammar, grammar_seen};
+ghost use Rattle.lexical_items.specs.Inner.Grown.{IsOwn, IsRouteOrNone, AreDeep, AreBelow, AddsAbove};
+ghost use Rattle.lexical_items.specs.Inner.Routes.{above, listed, route_seen};
 
 use crate::entry_words::{last_word, place_of};
 use crate::forms::forms_of;
+use crate::grammar::LexicalGrammar;
 use crate::route::Route;
 use crate::{LexicalFulls, NoMemory};
-use lexicon::Lexicon;
-use morph_analysis::Feeds;
-use spelling_rules::Spelling;
 use std::alloc::Global;
 use std::sync::Arc;
 
@@ -33,21 +30,18 @@ fn add<T: Drop>(out: &mut Vec<Route<T>>, next: Option<Route<T>>) -> Result<(), N
 // An entry by itself; none where it has no full structure.
 fn begun<F: LexicalFulls>(
     alloc: Global,
-    fulls: &F,
+    grammar: &LexicalGrammar<'_, F>,
     work: &mut F::Work,
-    lexicon: &Lexicon,
-    _spelling: &Spelling,
     entry: u32,
 ) -> Result<Option<Route<F::Full>>, NoMemory>
-    requires entry { entry < length (F.entries_of fulls.now) }
-    requires numbered { AreNumbered (F.entries_of fulls.now) (F.rules_of fulls.now) lexicon.now _spelling.now }
-    ensures { IfOk result (λ o. MatchOption o
-        (IsChain lexicon.now _spelling.now (F.signs fulls.now) (F.entries_of fulls.now) (F.rules_of fulls.now) (record { entry = entry; rules = [] }) → ⊥)
-        (λ r. IsRoute lexicon.now _spelling.now (F.signs fulls.now) (F.entries_of fulls.now) (F.rules_of fulls.now) (record { entry = entry; rules = [] }) (route_seen (F.value fulls.now) r))) }
+    requires entry { entry < length (F.entries_of grammar.now.fulls.now) }
+    requires grammar { IsLexicalGrammar (grammar_seen F.signs F.entries_of F.rules_of grammar.now) }
+    ensures { IfOk result (IsRouteOrNone (grammar_seen F.signs F.entries_of F.rules_of grammar.now) (F.value grammar.now.fulls.now) (record { entry = entry; rules = [] })) }
 {
+    let fulls = grammar.fulls;
     fulls.laws();
     let place = place_of(fulls.entries(), entry);
-    let stem = last_word(lexicon, entry).clone()?;
+    let stem = last_word(grammar.lexicon, entry).clone()?;
     match fulls.entry(alloc, work, place)? {
         None => Ok(None),
         Some(full) => {
@@ -68,20 +62,17 @@ fn begun<F: LexicalFulls>(
 // All entries by themselves.
 fn first_routes<F: LexicalFulls>(
     alloc: Global,
-    fulls: &F,
+    grammar: &LexicalGrammar<'_, F>,
     work: &mut F::Work,
-    lexicon: &Lexicon,
-    spelling: &Spelling,
     count: u32,
 ) -> Result<Vec<Route<F::Full>>, NoMemory>
-    requires count { count ≡ length (F.entries_of fulls.now) }
-    requires numbered { AreNumbered (F.entries_of fulls.now) (F.rules_of fulls.now) lexicon.now spelling.now }
-    ensures { IfOk result (λ v. AreRoutes lexicon.now spelling.now (F.signs fulls.now) (F.entries_of fulls.now) (F.rules_of fulls.now)
-        (IsDeep lexicon.now spelling.now (F.signs fulls.now) (F.entries_of fulls.now) (F.rules_of fulls.now) 0) (map (route_seen (F.value fulls.now)) v.items)) }
+    requires count { count ≡ length (F.entries_of grammar.now.fulls.now) }
+    requires grammar { IsLexicalGrammar (grammar_seen F.signs F.entries_of F.rules_of grammar.now) }
+    ensures { IfOk result (λ v. AreDeep (grammar_seen F.signs F.entries_of F.rules_of grammar.now) (F.value grammar.now.fulls.now) 0 v.items) }
 {
     let mut routes = Vec::new(alloc);
     for entry in 0..count {
-        let route = begun(alloc, fulls, work, lexicon, spelling, entry)?;
+        let route = begun(alloc, grammar, work, entry)?;
         add(&mut routes, route)?;
     }
     Ok(routes)
@@ -90,28 +81,23 @@ fn first_routes<F: LexicalFulls>(
 // A route with one rule more; none where nothing is made, or the rule has no form for any of its words.
 fn longer<F: LexicalFulls>(
     alloc: Global,
-    fulls: &F,
+    grammar: &LexicalGrammar<'_, F>,
     work: &mut F::Work,
-    _lexicon: &Lexicon,
-    spelling: &Spelling,
-    feeds: &Feeds,
     route: &Route<F::Full>,
     rule: u32,
 ) -> Result<Option<Route<F::Full>>, NoMemory>
-    requires numbered { AreNumbered (F.entries_of fulls.now) (F.rules_of fulls.now) _lexicon.now spelling.now }
-    requires bound { AreBound spelling.now.rules }
-    requires feeds { ForbidsNone (F.signs fulls.now) (F.entries_of fulls.now) (F.rules_of fulls.now) feeds.now }
-    requires route { IsRoute _lexicon.now spelling.now (F.signs fulls.now) (F.entries_of fulls.now) (F.rules_of fulls.now) (key_of (route_seen (F.value fulls.now) route.now)) (route_seen (F.value fulls.now) route.now) }
-    requires rule { rule < length (F.rules_of fulls.now) }
-    ensures { IfOk result (λ o. MatchOption o
-        (IsChain _lexicon.now spelling.now (F.signs fulls.now) (F.entries_of fulls.now) (F.rules_of fulls.now) (above (route_seen (F.value fulls.now) route.now) rule) → ⊥)
-        (λ r. IsRoute _lexicon.now spelling.now (F.signs fulls.now) (F.entries_of fulls.now) (F.rules_of fulls.now) (above (route_seen (F.value fulls.now) route.now) rule) (route_seen (F.value fulls.now) r))) }
+    requires grammar { IsLexicalGrammar (grammar_seen F.signs F.entries_of F.rules_of grammar.now) }
+    requires bound { AreBound grammar.now.spelling.now.rules }
+    requires route { IsOwn (grammar_seen F.signs F.entries_of F.rules_of grammar.now) (route_seen (F.value grammar.now.fulls.now) route.now) }
+    requires rule { rule < length (F.rules_of grammar.now.fulls.now) }
+    ensures { IfOk result (IsRouteOrNone (grammar_seen F.signs F.entries_of F.rules_of grammar.now) (F.value grammar.now.fulls.now) (above (route_seen (F.value grammar.now.fulls.now) route.now) rule)) }
 {
+    let fulls = grammar.fulls;
     fulls.laws();
-    if !feeds.allows_after(route.entry, &route.rules, rule) {
+    if !grammar.feeds.allows_after(route.entry, &route.rules, rule) {
         return Ok(None);
     }
-    let ends = forms_of(alloc, spelling, rule, &route.ends)?;
+    let ends = forms_of(alloc, grammar.spelling, rule, &route.ends)?;
     if ends.is_empty() {
         return Ok(None);
     }
@@ -135,58 +121,43 @@ fn longer<F: LexicalFulls>(
 // Adds a route with each rule more.
 fn add_longer<F: LexicalFulls>(
     alloc: Global,
-    fulls: &F,
+    grammar: &LexicalGrammar<'_, F>,
     work: &mut F::Work,
-    lexicon: &Lexicon,
-    spelling: &Spelling,
-    feeds: &Feeds,
     route: &Route<F::Full>,
     count: u32,
     out: &mut Vec<Route<F::Full>>,
 ) -> Result<(), NoMemory>
-    requires numbered { AreNumbered (F.entries_of fulls.now) (F.rules_of fulls.now) lexicon.now spelling.now }
-    requires bound { AreBound spelling.now.rules }
-    requires feeds { ForbidsNone (F.signs fulls.now) (F.entries_of fulls.now) (F.rules_of fulls.now) feeds.now }
-    requires route { IsRoute lexicon.now spelling.now (F.signs fulls.now) (F.entries_of fulls.now) (F.rules_of fulls.now) (key_of (route_seen (F.value fulls.now) route.now)) (route_seen (F.value fulls.now) route.now) }
-    requires count { count ≡ length (F.rules_of fulls.now) }
-    ensures { OnOk result (Adds (IsRoute lexicon.now spelling.now (F.signs fulls.now) (F.entries_of fulls.now) (F.rules_of fulls.now))
-        (IsAbove lexicon.now spelling.now (F.signs fulls.now) (F.entries_of fulls.now) (F.rules_of fulls.now) (route_seen (F.value fulls.now) route.now) count)
-        (map (route_seen (F.value fulls.now)) out.old.items) (map (route_seen (F.value fulls.now)) out.new.items)) }
+    requires grammar { IsLexicalGrammar (grammar_seen F.signs F.entries_of F.rules_of grammar.now) }
+    requires bound { AreBound grammar.now.spelling.now.rules }
+    requires route { IsOwn (grammar_seen F.signs F.entries_of F.rules_of grammar.now) (route_seen (F.value grammar.now.fulls.now) route.now) }
+    requires count { count ≡ length (F.rules_of grammar.now.fulls.now) }
+    ensures { OnOk result (AddsAbove (grammar_seen F.signs F.entries_of F.rules_of grammar.now) (F.value grammar.now.fulls.now) (route_seen (F.value grammar.now.fulls.now) route.now) count out.old.items out.new.items) }
 {
     for rule in 0..count {
-        let next = longer(alloc, fulls, work, lexicon, spelling, feeds, route, rule)?;
+        let next = longer(alloc, grammar, work, route, rule)?;
         add(out, next)?;
     }
     Ok(())
 }
 
-// The routes with one rule more than these.
+// The routes with one rule more than these, which are all those under some number of rules.
 fn next_routes<F: LexicalFulls>(
     alloc: Global,
-    fulls: &F,
+    grammar: &LexicalGrammar<'_, F>,
     work: &mut F::Work,
-    lexicon: &Lexicon,
-    spelling: &Spelling,
-    feeds: &Feeds,
     level: &[Route<F::Full>],
     count: u32,
-    _depth: u32,
 ) -> Result<Vec<Route<F::Full>>, NoMemory>
-    requires numbered { AreNumbered (F.entries_of fulls.now) (F.rules_of fulls.now) lexicon.now spelling.now }
-    requires bound { AreBound spelling.now.rules }
-    requires feeds { ForbidsNone (F.signs fulls.now) (F.entries_of fulls.now) (F.rules_of fulls.now) feeds.now }
-    requires level { AreRoutes lexicon.now spelling.now (F.signs fulls.now) (F.entries_of fulls.now) (F.rules_of fulls.now)
-        (IsDeep lexicon.now spelling.now (F.signs fulls.now) (F.entries_of fulls.now) (F.rules_of fulls.now) _depth) (map (route_seen (F.value fulls.now)) level.now) }
-    requires count { count ≡ length (F.rules_of fulls.now) }
-    ensures { IfOk result (λ v. AreRoutes lexicon.now spelling.now (F.signs fulls.now) (F.entries_of fulls.now) (F.rules_of fulls.now)
-        (IsDeep lexicon.now spelling.now (F.signs fulls.now) (F.entries_of fulls.now) (F.rules_of fulls.now) (_depth + 1)) (map (route_seen (F.value fulls.now)) v.items)) }
+    requires grammar { IsLexicalGrammar (grammar_seen F.signs F.entries_of F.rules_of grammar.now) }
+    requires bound { AreBound grammar.now.spelling.now.rules }
+    requires level { (depth : ℕ) × AreDeep (grammar_seen F.signs F.entries_of F.rules_of grammar.now) (F.value grammar.now.fulls.now) depth level.now }
+    requires count { count ≡ length (F.rules_of grammar.now.fulls.now) }
+    ensures { IfOk result (λ v. (depth : ℕ) → AreDeep (grammar_seen F.signs F.entries_of F.rules_of grammar.now) (F.value grammar.now.fulls.now) depth level.now → AreDeep (grammar_seen F.signs F.entries_of F.rules_of grammar.now) (F.value grammar.now.fulls.now) (depth + 1) v.items) }
 {
-    fulls.laws();
+    grammar.fulls.laws();
     let mut out = Vec::new(alloc);
     for route in level {
-        add_longer(
-            alloc, fulls, work, lexicon, spelling, feeds, route, count, &mut out,
-        )?;
+        add_longer(alloc, grammar, work, route, count, &mut out)?;
     }
     Ok(out)
 }
@@ -205,19 +176,15 @@ fn joined<T: Drop>(routes: Vec<Route<T>>, level: Vec<Route<T>>) -> Result<Vec<Ro
 /// level, so that what stands under more rules is made of what stands under fewer, and an empty level is the last.
 pub(crate) fn all_routes<F: LexicalFulls>(
     alloc: Global,
-    fulls: &F,
+    grammar: &LexicalGrammar<'_, F>,
     work: &mut F::Work,
-    lexicon: &Lexicon,
-    spelling: &Spelling,
-    feeds: &Feeds,
     most: u32,
 ) -> Result<Vec<Route<F::Full>>, NoMemory>
-    requires numbered { AreNumbered (F.entries_of fulls.now) (F.rules_of fulls.now) lexicon.now spelling.now }
-    requires bound { AreBound spelling.now.rules }
-    requires feeds { ForbidsNone (F.signs fulls.now) (F.entries_of fulls.now) (F.rules_of fulls.now) feeds.now }
-    ensures { IfOk result (λ v. AreRoutes lexicon.now spelling.now (F.signs fulls.now) (F.entries_of fulls.now) (F.rules_of fulls.now)
-        (IsBelow lexicon.now spelling.now (F.signs fulls.now) (F.entries_of fulls.now) (F.rules_of fulls.now) (most + 1)) (map (route_seen (F.value fulls.now)) v.items)) }
+    requires grammar { IsLexicalGrammar (grammar_seen F.signs F.entries_of F.rules_of grammar.now) }
+    requires bound { AreBound grammar.now.spelling.now.rules }
+    ensures { IfOk result (λ v. AreBelow (grammar_seen F.signs F.entries_of F.rules_of grammar.now) (F.value grammar.now.fulls.now) (most + 1) v.items) }
 {
+    let fulls = grammar.fulls;
     fulls.laws();
     let Ok(entries) = u32::try_from(fulls.entries().len()) else {
         return Err(NoMemory);
@@ -225,15 +192,13 @@ pub(crate) fn all_routes<F: LexicalFulls>(
     let Ok(count) = u32::try_from(fulls.rules().len()) else {
         return Err(NoMemory);
     };
-    let mut level = first_routes(alloc, fulls, work, lexicon, spelling, entries)?;
+    let mut level = first_routes(alloc, grammar, work, entries)?;
     let mut routes = Vec::new(alloc);
-    for depth in 0..most {
+    for _depth in 0..most {
         if level.is_empty() {
             return Ok(routes);
         }
-        let next = next_routes(
-            alloc, fulls, work, lexicon, spelling, feeds, &level, count, depth,
-        )?;
+        let next = next_routes(alloc, grammar, work, &level, count)?;
         routes.append(&mut level)?;
         level = next;
     }

@@ -1,3 +1,4 @@
+pub mod Grammars
 pub mod Inner
 pub mod Keys
 pub mod Unknown

@@ -4,6 +4,7 @@
 #![tactic(auto)]
 
 mod forest;
+mod grammar;
 mod hosts;
 mod keyed;
 mod keys;
@@ -19,6 +20,7 @@ mod unknown;
 ghost use Rattle.line_charts.specs.Laws.{ChartAnswersAreOne, ChartsMatchParses, UnknownAreOne};
 
 use derivation::Tree;
+pub use grammar::ChartGrammar;
 pub use line::{line_chart, unknown_words};
 use morph_analysis::Step;
 pub use std::alloc::AllocError as NoMemory;

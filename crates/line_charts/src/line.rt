@@ -10,20 +10,20 @@ ghost use Rattle.book_signs.specs.Trees.{SignTree, signs_of};
 ghost use Rattle.grammar_shapes.specs.declared.shapes.GrammarShapes.{GrammarShapes};
 ghost use Rattle.packed_items.specs.Answers.{limits_in};
 ghost use Rattle.lexical_items.specs.Seen.{lattice_seen, step_seen};
-ghost use Rattle.grammar_rules.specs.Lines.{AreShapesOf};
 ghost use Rattle.grammar_rules.specs.LineLeaves.{AreLineLeaves};
 ghost use Rattle.line_charts.specs.Unknown.{AreUnknown};
 ghost use Rattle.line_charts.specs.Answers.{IsChartAnswer};
 ghost use Rattle.line_charts.specs.Charted.{answer_by};
+ghost use Rattle.line_charts.specs.Grammars.{IsChartGrammar};
 ghost use Rattle.line_charts.specs.Views.{chart_answer, IsChartNamed};
 
 use crate::forest::{Charted, chart_over};
+use crate::grammar::ChartGrammar;
 use crate::unknown::unknown_of;
 use crate::{ChartAnswer, NoMemory};
-use book_signs::SignBook;
 use chart_core::Limits;
 use fs_unify::Scratch;
-use grammar_rules::{LineLeaves, LineShapes, line_laws};
+use grammar_rules::{LineLeaves, line_laws};
 use morph_analysis::{Lattice, Step};
 use std::alloc::Global;
 
@@ -41,33 +41,29 @@ fn answered(unknown: Vec<Step>, found: Charted) -> ChartAnswer
 /// The answer to a lattice of words, by the leaves of its chart: the limit that it breaks, or its unknown words and its packed classes. Nothing
 /// is unpacked, so that a line with more readings than can be listed is answered too.
 ///
-/// `shapes` are those of the signs; what they remember enters into no answer. `feats` has the names of features by number, in which structures
-/// are written to be put in order. `NoMemory` may come in place of any answer.
+/// `NoMemory` may come in place of any answer.
 pub fn line_chart<'s>(
     alloc: Global,
     work: &mut Scratch,
-    signs: &SignBook<'_>,
-    shapes: &LineShapes<'_, 's>,
-    feats: &[String],
+    grammar: &ChartGrammar<'_, 's>,
     lattice: &Lattice,
     leaves: LineLeaves<'s>,
     limits: &Limits,
 ) -> Result<ChartAnswer, NoMemory>
-    requires shapes { AreShapesOf signs.now shapes.now }
-    requires feats { length feats.now ≡ length signs.now.book.system.introducers }
+    requires grammar { IsChartGrammar grammar.now }
     requires valid { IsValid (lattice_of lattice.now) }
     requires limits { InRange limits.now }
-    requires leaves { (words : Words) × AreLineLeaves signs.now shapes.now words (lattice_of lattice.now) limits.now.lexical leaves }
-    ensures answer { (words : Words) → AreLineLeaves signs.now shapes.now words (lattice_of lattice.now) limits.now.lexical leaves.entry
-        → IfOk result (λ a. IsChartAnswer (signs_of signs.now) signs.now.book.system.types (map string_bytes feats.now) words (lattice_seen (lattice_of lattice.now)) limits.now.lexical (limits_in limits.now) (chart_answer a)) }
-    ensures named { IfOk result (λ a. IsChartNamed signs.now.book.system.types (length (signs_of signs.now).instances) (chart_answer a)) }
+    requires leaves { (words : Words) × AreLineLeaves grammar.now.signs.now grammar.now.shapes.now words (lattice_of lattice.now) limits.now.lexical leaves }
+    ensures answer { (words : Words) → AreLineLeaves grammar.now.signs.now grammar.now.shapes.now words (lattice_of lattice.now) limits.now.lexical leaves.entry
+        → IfOk result (λ a. IsChartAnswer (signs_of grammar.now.signs.now) grammar.now.signs.now.book.system.types (map string_bytes grammar.now.feats.now) words (lattice_seen (lattice_of lattice.now)) limits.now.lexical (limits_in limits.now) (chart_answer a)) }
+    ensures named { IfOk result (λ a. IsChartNamed grammar.now.signs.now.book.system.types (length (signs_of grammar.now.signs.now).instances) (chart_answer a)) }
 {
     let LineLeaves::Leaves { trees, leaves } = leaves else {
         return Ok(ChartAnswer::LexicalDepth);
     };
     line_laws();
     let unknown = unknown_of(alloc, lattice, &trees)?;
-    let found = chart_over(alloc, work, signs, shapes, feats, &trees, leaves, limits)?;
+    let found = chart_over(alloc, work, grammar, &trees, leaves, limits)?;
     Ok(answered(unknown, found))
 }
 

@@ -12,7 +12,7 @@ use Rattle.grammar_load.specs.Loads.{Makes, makes, loads}
 use Rattle.grammar_load.specs.Conditions.{IsLoaded}
 use Rattle.grammar_load.proofs.LoadedLemmas.{loaded}
 use Rattle.grammar_load.proofs.ReadBound.{rules_bound}
-use Rattle.grammar_names.specs.Fitting.{IsWellNamed}
+use Rattle.mrs_lines.specs.Fitting.{IsWellNamed}
 use Rattle.tree_reading.specs.Grammars.{IsNamedWell, IsNamedApart}
 use Rattle.tree_faults.specs.Laws.{ExplainedAreOne}
 use Rattle.tree_names.specs.TreeGrammars.{tree_grammar}

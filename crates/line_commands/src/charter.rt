@@ -9,7 +9,7 @@ use endings::lines::{Answer, Answers, Share};
 use endings::pieces::Report;
 use engine::Engine;
 use engine::desks::{Desk, Desks};
-use line_charts::{ChartAnswer, is_refused, line_chart, lines_of_chart};
+use line_charts::{ChartAnswer, ChartGrammar, is_refused, line_chart, lines_of_chart};
 use morph_analysis::Lattice;
 use std::alloc::Global;
 use std::sync::Wait;
@@ -57,16 +57,13 @@ impl Charter<'_, '_, '_> {
         let leaves = self
             .engine
             .leaves(alloc, desk, lattice, self.limits.lexical)?;
-        match line_chart(
-            alloc,
-            &mut desk.work.chart,
-            self.engine.signs,
-            self.engine.shapes,
-            &self.engine.grammar.book.feats,
-            lattice,
-            leaves,
-            &self.limits,
-        ) {
+        let charts = ChartGrammar {
+            signs: self.engine.signs,
+            shapes: self.engine.shapes,
+            feats: &self.engine.grammar.book.feats,
+        };
+        let work = &mut desk.work.chart;
+        match line_chart(alloc, work, &charts, lattice, leaves, &self.limits) {
             Ok(answer) => Ok(answer),
             Err(_) => Err(NoMemory),
         }

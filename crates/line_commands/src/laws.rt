@@ -10,10 +10,9 @@ ghost use Rattle.line_commands.specs.Explaining.{explain_meaning};
 
 use book_signs::laws::one_signs;
 use command_files::grammar_laws::grammar_laws;
-use grammar_names::loaded_names;
 use line_charts::chart_laws;
 use morph_analysis::laws::one_line;
-use mrs_lines::mrs_line_laws;
+use mrs_lines::{loaded_names, mrs_line_laws};
 use tree_faults::explained_laws;
 use tree_model::{parse_laws, said_laws};
 use tree_reading::tree_laws;

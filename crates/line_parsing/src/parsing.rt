@@ -9,10 +9,10 @@ ghost use Rattle.grammar_rules.specs.Views.{item_answer};
 
 use crate::{NoMemory, RememberedLine};
 use chart_core::Limits;
-use chart_workers::Rank;
+use chart_workers::{Rank, Terms};
 use grammar_rules::{Desk, ItemAnswer, LineGrammar, LineLeaves, LineWork, Search, line_leaves};
 use morph_analysis::Lattice;
-use packed_items::{answer_remembered, answer_remembered_alone};
+use packed_items::{ItemLeaves, Sieving, answer_remembered, answer_remembered_alone};
 use rule_trees::LineFulls;
 use sieve::{Filter, Sieve};
 use std::alloc::Global;
@@ -73,20 +73,19 @@ pub fn parse_words<R: Wait + Threads + Sync, F: Filter + Send + Sync, P: Rank + 
         },
         mothers: grammar.shared.mothers(),
     };
-    let found = answer_remembered(
-        rt,
-        alloc,
-        grammar.shapes,
-        search.sieves,
-        &mut desk.work.chart,
-        &mut desk.work.trees,
-        &mut desk.crew,
-        search.priority,
+    let sieving = Sieving {
+        shapes: grammar.shapes,
+        sieves: search.sieves,
+    };
+    let terms = Terms {
+        limits: search.limits,
+        priority: search.priority,
+    };
+    let item = ItemLeaves {
         leaves,
-        &fulls,
-        search.limits,
-        gate,
-    );
+        fulls: &fulls,
+    };
+    let found = answer_remembered(rt, alloc, &sieving, desk, item, &terms, gate);
     let_go(fulls);
     match found {
         Ok(found) => Ok(ItemAnswer::of_found(found)),

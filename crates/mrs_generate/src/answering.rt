@@ -16,12 +16,12 @@ use crate::putting::put_together;
 use crate::{GenAnswer, NoMemory};
 use chart_core::Limits;
 use chart_model::{Counts, Cover};
-use chart_workers::Rank;
+use chart_workers::{Rank, Terms};
 use generated_leaves::{CountedShapes, GenLeaf, rule_laws};
 use grammar_rules::{Desk, LineWork, Search};
 use lexical_items::LexicalFulls;
 use mrs_model::Mrs;
-use packed_items::{answer_sieved, answer_sieved_alone};
+use packed_items::{ItemLeaves, Sieving, answer_sieved, answer_sieved_alone};
 use realized_trees::{PrunedFulls, RealizedFulls, pruned_laws, realized_laws, sieve_of};
 use rule_trees::SignFulls;
 use sieve::{Filter, Sieve};
@@ -94,20 +94,19 @@ pub(crate) fn answer_over<'a, R: Wait + Threads + Sync, F: Filter + Send + Sync,
         fulls: &realized,
         sieve: &sieve,
     };
-    let found = answer_sieved(
-        rt,
-        alloc,
-        &counted,
-        search.sieves,
-        &mut desk.work.chart,
-        &mut desk.work.trees,
-        &mut desk.crew,
-        search.priority,
-        into,
-        &fulls,
-        search.limits,
-        gate,
-    );
+    let sieving = Sieving {
+        shapes: &counted,
+        sieves: search.sieves,
+    };
+    let terms = Terms {
+        limits: search.limits,
+        priority: search.priority,
+    };
+    let item = ItemLeaves {
+        leaves: into,
+        fulls: &fulls,
+    };
+    let found = answer_sieved(rt, alloc, &sieving, desk, item, &terms, gate);
     match found {
         Ok(found) => put_together(alloc, found),
         Err(_) => Err(NoMemory),

@@ -8,15 +8,13 @@ ghost use Rattle.grammar_rules.specs.Lines.{AreFeedsOf, HaveAll};
 ghost use Rattle.mrs_generate.specs.Contributors.{AreContributors};
 
 use crate::NoMemory;
-use book_signs::SignBook;
 use fs_unify::Scratch;
 use generated_leaves::{RulePredicates, ToldTree, told_trees};
-use lexicon::Lexicon;
-use morph_analysis::Feeds;
+use lexical_items::LexicalGrammar;
 use mrs_places::{MrsFeat, MrsPaths};
 use realized_trees::threaded_list;
 use relation_fit::RelationList;
-use spelling_rules::Spelling;
+use rule_trees::SignFulls;
 use std::alloc::Global;
 
 /// The lexical trees of a grammar with the predicates that they contribute, those that phrase rules contribute themselves, and the list by
@@ -42,29 +40,25 @@ fn one_more(number: u32) -> Result<u32, NoMemory>
 }
 
 /// What a grammar contributes, made once for the grammar and the limit on lexical rules, `lexical`; it takes lexical trees of up to one rule
-/// more. `paths` says where MRSs stand, and `c_cont` where the relations stand that a rule contributes itself.
-///
-/// Lexicon and spelling have the grammar's entries and lexical rules by number, and `feeds` says what lexical rule may apply to what. Whatever
-/// the scratch holds, the answer is the same.
-pub fn contributors_of<'a>(
+/// more. `paths` says where MRSs stand, and `c_cont` where the relations stand that a rule contributes itself. Whatever the scratch holds, the
+/// answer is the same.
+pub fn contributors_of(
     alloc: Global,
     work: &mut Scratch,
-    signs: &'a SignBook<'a>,
+    grammar: &LexicalGrammar<'_, SignFulls<'_>>,
     paths: &MrsPaths,
     c_cont: &[MrsFeat],
-    lexicon: &Lexicon,
-    spelling: &Spelling,
-    feeds: &Feeds,
     lexical: u32,
 ) -> Result<Contributors, NoMemory>
-    requires paths { ArePaths signs.now.book.system.types (paths_of paths.now) }
-    requires have { HaveAll signs.now lexicon.now spelling.now }
-    requires bound { AreBound spelling.now.rules }
-    requires feeds { AreFeedsOf signs.now feeds.now }
-    ensures { IfOk result (AreContributors signs.now lexicon.now spelling.now (paths_of paths.now) (map feature_of c_cont.now) lexical) }
+    requires paths { ArePaths grammar.now.fulls.now.signs.now.book.system.types (paths_of paths.now) }
+    requires have { HaveAll grammar.now.fulls.now.signs.now grammar.now.lexicon.now grammar.now.spelling.now }
+    requires bound { AreBound grammar.now.spelling.now.rules }
+    requires feeds { AreFeedsOf grammar.now.fulls.now.signs.now grammar.now.feeds.now }
+    ensures { IfOk result (AreContributors grammar.now.fulls.now.signs.now grammar.now.lexicon.now grammar.now.spelling.now (paths_of paths.now) (map feature_of c_cont.now) lexical) }
 {
+    let signs = grammar.fulls.signs;
     let most = one_more(lexical)?;
-    let told = told_trees(alloc, work, signs, paths, lexicon, spelling, feeds, most)?;
+    let told = told_trees(alloc, work, grammar, paths, most)?;
     let rules = RulePredicates::make(alloc, signs, paths, c_cont)?;
     let list = threaded_list(alloc, signs, paths)?;
     Ok(Contributors { told, rules, list })

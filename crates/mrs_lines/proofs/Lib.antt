@@ -2,3 +2,13 @@ pub mod Unique
 pub mod Growing
 pub mod Telling
 pub mod Whole
+pub mod Names
+pub mod Plain
+pub mod Settled
+pub mod Tokens
+pub mod Statements
+pub mod Walked
+pub mod Features
+pub mod Types
+pub mod Paths
+pub mod Instances

@@ -1,3 +1,4 @@
 pub mod Lines
 pub mod Laws
 pub mod Remembered
+pub mod Fitting

@@ -3,10 +3,12 @@
 
 ghost use Rattle.mrs_lines.specs.Laws.{MrsLinesAreOne, LinesAreOne};
 
+mod grammar_names;
 mod line;
 mod memory;
 mod trees;
 
+pub use grammar_names::loaded_names;
 pub use line::{line_of_mrs, line_of_no_mrs, line_of_tree};
 pub use memory::MrsMemory;
 use mrs_extract::mrs_is_one;

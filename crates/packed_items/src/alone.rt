@@ -6,21 +6,12 @@ ghost use Rattle.chart_core.specs.Leaves.{LeafBelongs, leaf_seen};
 ghost use Rattle.packed_items.specs.Packed.{Fit, IsFound};
 
 use crate::sieving::leaves_over;
-use crate::{Found, NoMemory, answer_in_order};
+use crate::{Found, NoMemory, Work, answer_in_order};
 use chart_core::{Leaf, Limits};
 use forest_unpack::Fulls;
 use shape_memo::{RememberedShapes, SievedShapes, Sketched};
 use sieve::{Filter, Sieve};
 use std::alloc::Global;
-
-/// What an item is worked out with, kept from one item to the next. None of what it holds enters into an answer.
-#[derive(Drop)]
-pub struct Work<C, T> {
-    /// the scratch of shapes and chart
-    pub chart: C,
-    /// the scratch of full structures
-    pub trees: T,
-}
 
 // What is found over leaves of shapes that ask sieves. It does nothing else, since what is known of such shapes is long.
 fn asking_alone<'a, 'm, 'f, S: Sketched, G: Fulls<Cover = S::Cover>, F: Filter>(

@@ -4,6 +4,7 @@
 #![tactic(auto)]
 
 mod alone;
+mod desk;
 mod sieving;
 
 ghost use Rattle.std.specs.Prelude.{◌≡◌, All, IfOk, map};
@@ -15,13 +16,14 @@ ghost use Rattle.chart_core.specs.Leaves.{LeafBelongs, leaf_seen};
 ghost use Rattle.chart_core.specs.Passed.{IsPassed};
 ghost use Rattle.packed_items.specs.Packed.{Fit, IsFound};
 
-pub use alone::{Work, answer_remembered_alone, answer_sieved_alone};
+pub use alone::{answer_remembered_alone, answer_sieved_alone};
 use chart_core::{ChartFault, Finished, Leaf, Limits, ordered_pass};
 use chart_model::Shapes;
-use chart_workers::{Crew, Rank, saturate};
+use chart_workers::{Rank, Terms, saturate};
 use derivation::Tree;
+pub use desk::{Desk, ItemLeaves, Work};
 use forest_unpack::{Fulls, UnpackFault, unpack};
-pub use sieving::{answer_remembered, answer_sieved, leaves_over};
+pub use sieving::{Sieving, answer_remembered, answer_sieved, leaves_over};
 pub use std::alloc::AllocError as NoMemory;
 use std::alloc::Global;
 use std::sync::Wait;
@@ -65,13 +67,12 @@ pub(crate) fn answer_in_order<S: Shapes, F: Fulls<Cover = S::Cover>>(
     }
 }
 
-/// Finishes the chart over these leaves, by the workers of `crew`, and unpacks it.
+/// Finishes the chart over an item's leaves, by the workers of `desk`, and unpacks it.
 ///
-/// `shapes` is the grammar that the leaves' shapes belong to, and `fulls` the full structures over the leaves, by their names.
+/// `shapes` is the grammar that the leaves' shapes belong to.
 /// The answer is that of the limits on unary chains and packed classes, where one of them is broken; within them it is the
-/// trees that `fulls` asks for, or that there are more than `limits.readings` of them. Workers, the order of their tasks and
-/// the gate change no answer. `work` is the scratch of shapes and chart, and `trees` that of full structures. `NoMemory` may come
-/// in place of any answer.
+/// trees that the item's full structures ask for, or that there are more than `readings` of them by the limits. Of `terms` the limits alone
+/// enter into an answer: workers, the order of their tasks and the gate change none. `NoMemory` may come in place of any answer.
 ///
 /// Where smaller hosts are to come first, the caller's thread finishes the chart, however many workers there are: a turn at a shared
 /// chart costs more than most of its tasks.
@@ -84,31 +85,44 @@ pub fn answer_leaves<
     rt: &R,
     alloc: Global,
     shapes: &S,
-    work: &mut S::Work,
-    trees: &mut F::Work,
-    crew: &mut Crew<S::Work>,
-    priority: &P,
-    leaves: Vec<Leaf<S>>,
-    fulls: &F,
-    limits: &Limits,
+    desk: &mut Desk<S::Work, F::Work>,
+    item: ItemLeaves<'_, S, F>,
+    terms: &Terms<'_, P>,
     gate: &dyn Gate,
 ) -> Result<Found, NoMemory>
 where
     S::Shape: Send + Sync,
     S::Cover: Send + Sync,
     S::Work: Send + Sync,
-    requires limits { InRange limits.now }
-    requires leaves { All (LeafBelongs (S.calculus shapes.now) (S.belongs shapes.now)) leaves.items }
-    requires fit { Fit (S.calculus shapes.now) (S.full shapes.now) (S.agrees shapes.now) (F.wholes fulls.now) (F.named fulls.now) (F.ruled fulls.now) (map (leaf_seen (S.meaning shapes.now)) leaves.items) }
-    ensures { IfOk result (IsFound (S.calculus shapes.now) (S.full shapes.now) (S.agrees shapes.now) (F.wholes fulls.now) limits.now (map (leaf_seen (S.meaning shapes.now)) leaves.items)) }
+    requires limits { InRange terms.now.limits.now }
+    requires leaves { All (LeafBelongs (S.calculus shapes.now) (S.belongs shapes.now)) item.leaves.items }
+    requires fit { Fit (S.calculus shapes.now) (S.full shapes.now) (S.agrees shapes.now) (F.wholes item.fulls.now) (F.named item.fulls.now) (F.ruled item.fulls.now) (map (leaf_seen (S.meaning shapes.now)) item.leaves.items) }
+    ensures { IfOk result (IsFound (S.calculus shapes.now) (S.full shapes.now) (S.agrees shapes.now) (F.wholes item.entry.fulls.now) terms.now.limits.now (map (leaf_seen (S.meaning shapes.now)) item.entry.leaves.items)) }
 {
-    if priority.is_by_size() {
-        return answer_in_order(alloc, shapes, work, trees, leaves, fulls, limits);
+    let fulls = item.fulls;
+    let limits = terms.limits;
+    if terms.priority.is_by_size() {
+        return answer_in_order(
+            alloc,
+            shapes,
+            &mut desk.work.chart,
+            &mut desk.work.trees,
+            item.leaves,
+            fulls,
+            limits,
+        );
     }
-    match saturate(
-        rt, alloc, leaves, shapes, work, crew, priority, limits, gate,
-    ) {
-        Ok(finished) => answer_chart(alloc, shapes, trees, &finished, fulls, limits),
+    match saturate(rt, alloc, item.leaves, shapes, &mut desk.crew, terms, gate) {
+        Ok(finished) => {
+            answer_chart(
+                alloc,
+                shapes,
+                &mut desk.work.trees,
+                &finished,
+                fulls,
+                limits,
+            )
+        }
         Err(ChartFault::UnaryChain { .. }) => Ok(Found::UnaryChain),
         Err(ChartFault::Edges { .. }) => Ok(Found::Edges),
         Err(ChartFault::NoMemory) => Err(NoMemory),

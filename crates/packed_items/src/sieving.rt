@@ -5,10 +5,10 @@ ghost use Rattle.chart_core.specs.Kept.{InRange};
 ghost use Rattle.chart_core.specs.Leaves.{LeafBelongs, leaf_seen};
 ghost use Rattle.packed_items.specs.Packed.{Fit, IsFound};
 
-use crate::{Found, NoMemory, answer_leaves};
-use chart_core::{Leaf, Limits};
+use crate::{Desk, Found, ItemLeaves, NoMemory, answer_leaves};
+use chart_core::Leaf;
 use chart_model::Shapes;
-use chart_workers::{Crew, Rank};
+use chart_workers::{Rank, Terms};
 use forest_unpack::Fulls;
 use shape_memo::{RememberedShapes, SievedShapes, Sketched};
 use sieve::{Filter, Sieve};
@@ -16,6 +16,13 @@ use std::alloc::Global;
 use std::sync::Wait;
 use std::thread::Threads;
 use worker_gate::Gate;
+
+/// Shapes with the sieves that are asked before anything is unified. With no sieve the shapes' own quick test is asked.
+#[derive(Drop)]
+pub struct Sieving<'x, T, F: Filter> {
+    pub shapes: &'x T,
+    pub sieves: &'x [Sieve<F>],
+}
 
 /// The same leaves, over other shapes of the same kind. `NoMemory` comes for want of memory alone.
 pub fn leaves_over<S: Shapes, T: Shapes<Shape = S::Shape, Cover = S::Cover>>(
@@ -55,27 +62,21 @@ fn answer_asking<
     rt: &R,
     alloc: Global,
     shapes: &SievedShapes<'a, 'm, 'f, S, F>,
-    work: &mut S::Work,
-    trees: &mut G::Work,
-    crew: &mut Crew<S::Work>,
-    priority: &P,
-    leaves: Vec<Leaf<SievedShapes<'a, 'm, 'f, S, F>>>,
-    fulls: &G,
-    limits: &Limits,
+    desk: &mut Desk<S::Work, G::Work>,
+    item: ItemLeaves<'_, SievedShapes<'a, 'm, 'f, S, F>, G>,
+    terms: &Terms<'_, P>,
     gate: &dyn Gate,
 ) -> Result<Found, NoMemory>
 where
     S::Shape: Send + Sync,
     S::Cover: Send + Sync,
     S::Work: Send + Sync,
-    requires limits { InRange limits.now }
-    requires leaves { All (LeafBelongs (S.calculus shapes.now) (S.belongs shapes.now)) leaves.items }
-    requires fit { Fit (S.calculus shapes.now) (S.full shapes.now) (S.agrees shapes.now) (G.wholes fulls.now) (G.named fulls.now) (G.ruled fulls.now) (map (leaf_seen (S.meaning shapes.now)) leaves.items) }
-    ensures { IfOk result (IsFound (S.calculus shapes.now) (S.full shapes.now) (S.agrees shapes.now) (G.wholes fulls.now) limits.now (map (leaf_seen (S.meaning shapes.now)) leaves.entry.items)) }
+    requires limits { InRange terms.now.limits.now }
+    requires leaves { All (LeafBelongs (S.calculus shapes.now) (S.belongs shapes.now)) item.leaves.items }
+    requires fit { Fit (S.calculus shapes.now) (S.full shapes.now) (S.agrees shapes.now) (G.wholes item.fulls.now) (G.named item.fulls.now) (G.ruled item.fulls.now) (map (leaf_seen (S.meaning shapes.now)) item.leaves.items) }
+    ensures { IfOk result (IsFound (S.calculus shapes.now) (S.full shapes.now) (S.agrees shapes.now) (G.wholes item.entry.fulls.now) terms.now.limits.now (map (leaf_seen (S.meaning shapes.now)) item.entry.leaves.items)) }
 {
-    answer_leaves(
-        rt, alloc, shapes, work, trees, crew, priority, leaves, fulls, limits, gate,
-    )
+    answer_leaves(rt, alloc, shapes, desk, item, terms, gate)
 }
 
 // What is found over leaves of shapes that remember, by those that ask sieves before.
@@ -88,36 +89,31 @@ fn answer_over<
 >(
     rt: &R,
     alloc: Global,
-    shapes: &RememberedShapes<'_, S>,
-    sieves: &[Sieve<F>],
-    work: &mut S::Work,
-    trees: &mut G::Work,
-    crew: &mut Crew<S::Work>,
-    priority: &P,
-    leaves: Vec<Leaf<S>>,
-    fulls: &G,
-    limits: &Limits,
+    sieving: &Sieving<'_, RememberedShapes<'_, S>, F>,
+    desk: &mut Desk<S::Work, G::Work>,
+    item: ItemLeaves<'_, S, G>,
+    terms: &Terms<'_, P>,
     gate: &dyn Gate,
 ) -> Result<Found, NoMemory>
 where
     S::Shape: Send + Sync,
     S::Cover: Send + Sync,
     S::Work: Send + Sync,
-    requires limits { InRange limits.now }
-    requires leaves { All (LeafBelongs (S.calculus shapes.now) (S.belongs shapes.now)) leaves.items }
-    requires fit { Fit (S.calculus shapes.now) (S.full shapes.now) (S.agrees shapes.now) (G.wholes fulls.now) (G.named fulls.now) (G.ruled fulls.now) (map (leaf_seen (S.meaning shapes.now)) leaves.items) }
-    ensures { IfOk result (IsFound (S.calculus shapes.now) (S.full shapes.now) (S.agrees shapes.now) (G.wholes fulls.now) limits.now (map (leaf_seen (S.meaning shapes.now)) leaves.items)) }
+    requires limits { InRange terms.now.limits.now }
+    requires leaves { All (LeafBelongs (S.calculus sieving.now.shapes.now) (S.belongs sieving.now.shapes.now)) item.leaves.items }
+    requires fit { Fit (S.calculus sieving.now.shapes.now) (S.full sieving.now.shapes.now) (S.agrees sieving.now.shapes.now) (G.wholes item.fulls.now) (G.named item.fulls.now) (G.ruled item.fulls.now) (map (leaf_seen (S.meaning sieving.now.shapes.now)) item.leaves.items) }
+    ensures { IfOk result (IsFound (S.calculus sieving.now.shapes.now) (S.full sieving.now.shapes.now) (S.agrees sieving.now.shapes.now) (G.wholes item.entry.fulls.now) terms.now.limits.now (map (leaf_seen (S.meaning sieving.now.shapes.now)) item.entry.leaves.items)) }
 {
-    let sieved = SievedShapes::new(shapes, sieves);
-    let leaves = leaves_over(alloc, leaves)?;
-    answer_asking(
-        rt, alloc, &sieved, work, trees, crew, priority, leaves, fulls, limits, gate,
-    )
+    let sieved = SievedShapes::new(sieving.shapes, sieving.sieves);
+    let fulls = item.fulls;
+    let leaves = leaves_over(alloc, item.leaves)?;
+    let over = ItemLeaves { leaves, fulls };
+    answer_asking(rt, alloc, &sieved, desk, over, terms, gate)
 }
 
 /// What `answer_leaves` finds, over shapes that remember what rules made of equal daughters and ask sieves before anything is
-/// unified; with no sieve their own quick test is asked. What is remembered is this item's alone. The workers of `crew` take tasks in
-/// the order of `priority`. No sieve and no priority occurs in what is found.
+/// unified; with no sieve their own quick test is asked. What is remembered is this item's alone. The workers of the desk take tasks
+/// in the order of the terms' priority. No sieve and no priority occurs in what is found.
 pub fn answer_sieved<
     R: Wait + Threads + Sync,
     S: Sketched + Send + Sync,
@@ -127,43 +123,29 @@ pub fn answer_sieved<
 >(
     rt: &R,
     alloc: Global,
-    shapes: &S,
-    sieves: &[Sieve<F>],
-    work: &mut S::Work,
-    trees: &mut G::Work,
-    crew: &mut Crew<S::Work>,
-    priority: &P,
-    leaves: Vec<Leaf<S>>,
-    fulls: &G,
-    limits: &Limits,
+    sieving: &Sieving<'_, S, F>,
+    desk: &mut Desk<S::Work, G::Work>,
+    item: ItemLeaves<'_, S, G>,
+    terms: &Terms<'_, P>,
     gate: &dyn Gate,
 ) -> Result<Found, NoMemory>
 where
     S::Shape: Send + Sync,
     S::Cover: Send + Sync,
     S::Work: Send + Sync,
-    requires limits { InRange limits.now }
-    requires leaves { All (LeafBelongs (S.calculus shapes.now) (S.belongs shapes.now)) leaves.items }
-    requires fit { Fit (S.calculus shapes.now) (S.full shapes.now) (S.agrees shapes.now) (G.wholes fulls.now) (G.named fulls.now) (G.ruled fulls.now) (map (leaf_seen (S.meaning shapes.now)) leaves.items) }
-    ensures { IfOk result (IsFound (S.calculus shapes.now) (S.full shapes.now) (S.agrees shapes.now) (G.wholes fulls.now) limits.now (map (leaf_seen (S.meaning shapes.now)) leaves.items)) }
+    requires limits { InRange terms.now.limits.now }
+    requires leaves { All (LeafBelongs (S.calculus sieving.now.shapes.now) (S.belongs sieving.now.shapes.now)) item.leaves.items }
+    requires fit { Fit (S.calculus sieving.now.shapes.now) (S.full sieving.now.shapes.now) (S.agrees sieving.now.shapes.now) (G.wholes item.fulls.now) (G.named item.fulls.now) (G.ruled item.fulls.now) (map (leaf_seen (S.meaning sieving.now.shapes.now)) item.leaves.items) }
+    ensures { IfOk result (IsFound (S.calculus sieving.now.shapes.now) (S.full sieving.now.shapes.now) (S.agrees sieving.now.shapes.now) (G.wholes item.entry.fulls.now) terms.now.limits.now (map (leaf_seen (S.meaning sieving.now.shapes.now)) item.entry.leaves.items)) }
 {
-    let Ok(remembered) = RememberedShapes::new(alloc, shapes) else {
+    let Ok(remembered) = RememberedShapes::new(alloc, sieving.shapes) else {
         return Err(NoMemory);
     };
-    answer_over(
-        rt,
-        alloc,
-        &remembered,
-        sieves,
-        work,
-        trees,
-        crew,
-        priority,
-        leaves,
-        fulls,
-        limits,
-        gate,
-    )
+    let over = Sieving {
+        shapes: &remembered,
+        sieves: sieving.sieves,
+    };
+    answer_over(rt, alloc, &over, desk, item, terms, gate)
 }
 
 /// What `answer_sieved` finds, where items share what is remembered: `shapes` may remember from earlier items, and later ones find
@@ -178,33 +160,28 @@ pub fn answer_remembered<
 >(
     rt: &R,
     alloc: Global,
-    shapes: &RememberedShapes<'_, S>,
-    sieves: &[Sieve<F>],
-    work: &mut S::Work,
-    trees: &mut G::Work,
-    crew: &mut Crew<S::Work>,
-    priority: &P,
-    leaves: Vec<Leaf<S>>,
-    fulls: &G,
-    limits: &Limits,
+    sieving: &Sieving<'_, RememberedShapes<'_, S>, F>,
+    desk: &mut Desk<S::Work, G::Work>,
+    item: ItemLeaves<'_, S, G>,
+    terms: &Terms<'_, P>,
     gate: &dyn Gate,
 ) -> Result<Found, NoMemory>
 where
     S::Shape: Send + Sync,
     S::Cover: Send + Sync,
     S::Work: Send + Sync,
-    requires limits { InRange limits.now }
-    requires leaves { All (LeafBelongs (S.calculus shapes.now) (S.belongs shapes.now)) leaves.items }
-    requires fit { Fit (S.calculus shapes.now) (S.full shapes.now) (S.agrees shapes.now) (G.wholes fulls.now) (G.named fulls.now) (G.ruled fulls.now) (map (leaf_seen (S.meaning shapes.now)) leaves.items) }
-    ensures { IfOk result (IsFound (S.calculus shapes.now) (S.full shapes.now) (S.agrees shapes.now) (G.wholes fulls.now) limits.now (map (leaf_seen (S.meaning shapes.now)) leaves.items)) }
+    requires limits { InRange terms.now.limits.now }
+    requires leaves { All (LeafBelongs (S.calculus sieving.now.shapes.now) (S.belongs sieving.now.shapes.now)) item.leaves.items }
+    requires fit { Fit (S.calculus sieving.now.shapes.now) (S.full sieving.now.shapes.now) (S.agrees sieving.now.shapes.now) (G.wholes item.fulls.now) (G.named item.fulls.now) (G.ruled item.fulls.now) (map (leaf_seen (S.meaning sieving.now.shapes.now)) item.leaves.items) }
+    ensures { IfOk result (IsFound (S.calculus sieving.now.shapes.now) (S.full sieving.now.shapes.now) (S.agrees sieving.now.shapes.now) (G.wholes item.entry.fulls.now) terms.now.limits.now (map (leaf_seen (S.meaning sieving.now.shapes.now)) item.entry.leaves.items)) }
 {
-    if shapes.is_full() {
-        let plain = shapes.shapes();
-        return answer_sieved(
-            rt, alloc, plain, sieves, work, trees, crew, priority, leaves, fulls, limits, gate,
-        );
+    if sieving.shapes.is_full() {
+        let plain = sieving.shapes.shapes();
+        let apart = Sieving {
+            shapes: plain,
+            sieves: sieving.sieves,
+        };
+        return answer_sieved(rt, alloc, &apart, desk, item, terms, gate);
     }
-    answer_over(
-        rt, alloc, shapes, sieves, work, trees, crew, priority, leaves, fulls, limits, gate,
-    )
+    answer_over(rt, alloc, sieving, desk, item, terms, gate)
 }

@@ -9,7 +9,7 @@ ghost use Rattle.book_signs.specs.Conditions.{IsWhole};
 ghost use Rattle.grammar_files.specs.Walks.{IsText};
 ghost use Rattle.grammar_load.specs.Conditions.{IsLoaded};
 ghost use Rattle.grammar_load.specs.Views.{grammar_of};
-ghost use Rattle.grammar_names.specs.Fitting.{IsWellNamed};
+ghost use Rattle.mrs_lines.specs.Fitting.{IsWellNamed};
 ghost use Rattle.endings.specs.Meanings.{Files, shelves};
 ghost use Rattle.endings.specs.Endings.{MadeOfItems};
 ghost use Rattle.engine.specs.Speeches.{Speech, IsSpeechOf};
@@ -33,8 +33,8 @@ use endings::{Fault, Stop};
 use engine::desks::Desks;
 use engine::{Engine, Use, with_engine};
 use grammar_load::Grammar;
-use grammar_names::loaded_names;
 use lkb_io::Shelf;
+use mrs_lines::loaded_names;
 use profile_reports::{
     ItemResult, NoMemory, ProfileItem, ProfileReport, profile, report_on, some_lacking,
 };

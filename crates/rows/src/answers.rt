@@ -110,15 +110,16 @@ impl Ready<'_, '_, '_> {
         &self,
         rt: &R,
         alloc: Global,
-        desk: &mut Desk,
         lattice: &Lattice,
         means: Means<'_>,
         gate: &dyn Gate,
         into: &mut Vec<u8>,
     ) -> Result<(), AllocError>
+        requires workers { IsCrewSize means.workers }
         requires ready { IsReady self.now }
         requires valid { IsValid (lattice_of lattice.now) }
     {
+        let mut desk = desk(alloc, means.workers);
         let grammar = self.engine.lines();
         let order = Priority::new(means.order);
         let search = Search {
@@ -126,7 +127,7 @@ impl Ready<'_, '_, '_> {
             sieves: means.sieves,
             priority: &order,
         };
-        let Ok(answer) = parse_words(rt, alloc, desk, &grammar, lattice, &search, gate) else {
+        let Ok(answer) = parse_words(rt, alloc, &mut desk, &grammar, lattice, &search, gate) else {
             return Err(AllocError);
         };
         add_trees(alloc, &answer, &self.engine.grammar.names, into)
@@ -137,15 +138,16 @@ impl Ready<'_, '_, '_> {
         &self,
         rt: &R,
         alloc: Global,
-        desk: &mut Desk,
         mrs: &Mrs,
         means: Means<'_>,
         gate: &dyn Gate,
         into: &mut Vec<u8>,
     ) -> Result<(), AllocError>
+        requires workers { IsCrewSize means.workers }
         requires ready { IsReady self.now }
         requires valid { IsValidMrs (meaning_of mrs.now) }
     {
+        let mut desk = desk(alloc, means.workers);
         let grammar = GenGrammar {
             signs: self.engine.signs,
             shapes: self.engine.shapes.shapes(),
@@ -161,7 +163,7 @@ impl Ready<'_, '_, '_> {
             sieves: means.sieves,
             priority: &order,
         };
-        let Ok(answer) = generate(rt, alloc, desk, &grammar, mrs, &search, gate) else {
+        let Ok(answer) = generate(rt, alloc, &mut desk, &grammar, mrs, &search, gate) else {
             return Err(AllocError);
         };
         add_sentences(alloc, &answer, into)
@@ -181,10 +183,9 @@ impl Ready<'_, '_, '_> {
         requires ready { IsReady self.now }
         requires fit { IsFit asked }
     {
-        let mut desk = desk(alloc, means.workers);
         match asked {
-            Asked::Line(lattice) => self.parsed(rt, alloc, &mut desk, lattice, means, gate, into),
-            Asked::Mrs(mrs) => self.generated(rt, alloc, &mut desk, mrs, means, gate, into),
+            Asked::Line(lattice) => self.parsed(rt, alloc, lattice, means, gate, into),
+            Asked::Mrs(mrs) => self.generated(rt, alloc, mrs, means, gate, into),
         }
     }
 }

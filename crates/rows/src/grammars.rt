@@ -5,7 +5,7 @@ ghost use Rattle.chart_core.specs.Kept.{InRange};
 ghost use Rattle.book_signs.specs.Conditions.{IsWhole};
 ghost use Rattle.grammar_load.specs.Conditions.{IsLoaded};
 ghost use Rattle.grammar_load.specs.Views.{grammar_of};
-ghost use Rattle.grammar_names.specs.Fitting.{IsWellNamed};
+ghost use Rattle.mrs_lines.specs.Fitting.{IsWellNamed};
 ghost use Rattle.mrs_places.specs.Paths.{feature_of, paths_of};
 ghost use Rattle.mrs_generate.specs.Contributors.{AreContributors};
 ghost use Rattle.engine.specs.Ready.{IsReady};
@@ -17,10 +17,12 @@ use command_files::load_grammar;
 use engine::{Engine, Use, with_engine};
 use fs_unify::Scratch;
 use grammar_load::Grammar;
-use grammar_names::loaded_names;
+use lexical_items::LexicalGrammar;
 use lkb_io::Shelf;
 use mrs_generate::{Contributors, contributors_of};
+use mrs_lines::loaded_names;
 use mrs_places::{MrsFeat, c_cont_path};
+use rule_trees::SignFulls;
 use std::alloc::{AllocError, Global};
 use std::sync::Wait;
 use std::thread::Threads;
@@ -99,17 +101,17 @@ fn contributors_in(
 {
     engine.laws();
     let mut work = Scratch::new(alloc);
-    let Ok(contributors) = contributors_of(
-        alloc,
-        &mut work,
-        engine.signs,
-        engine.paths,
-        c_cont,
-        &engine.grammar.lexicon,
-        &engine.grammar.spelling,
-        engine.feeds,
-        lexical,
-    ) else {
+    let fulls = SignFulls {
+        signs: engine.signs,
+    };
+    let words = LexicalGrammar {
+        fulls: &fulls,
+        lexicon: &engine.grammar.lexicon,
+        spelling: &engine.grammar.spelling,
+        feeds: engine.feeds,
+    };
+    let Ok(contributors) = contributors_of(alloc, &mut work, &words, engine.paths, c_cont, lexical)
+    else {
         return Err(AllocError);
     };
     Ok(contributors)

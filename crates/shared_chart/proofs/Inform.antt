@@ -9,9 +9,7 @@ use Rattle.chart_core.specs.declared.Entered.{Entered}
 use Rattle.chart_core.specs.declared.Entered.TheVariants as entered
 use Rattle.chart_core.specs.declared.Outcome.{Outcome}
 use Rattle.chart_core.specs.Grammar.{Grammar}
-use Rattle.chart_core.specs.Kept.{tasks_of}
 use Rattle.chart_core.specs.View.{task_of}
-use Rattle.chart_core.specs.CoreView.{chart_of}
 use Rattle.chart_core.specs.Calls.{IsAnswer, Changes}
 use Rattle.shared_chart.specs.Infos.{AreInfos, AreMade}
 

@@ -2,7 +2,7 @@
 use chart_core::Entered;
 use chart_model::NoMemory;
 
-/// What entering an outcome did, and whether the list that was lent for it tells of all the tasks that it made.
+/// What entering an outcome did, and whether the list of the tools tells of all the tasks that it made.
 #[derive(Drop)]
 pub struct Informed {
     pub entered: Entered,

@@ -2,6 +2,7 @@
 #![tactic(auto)]
 
 pub use chart::{Call, Chart};
+pub use found::{Finding, Tools};
 pub use held::LockSeat;
 pub use informed::Informed;
 pub use key::Key;
@@ -17,6 +18,7 @@ mod calls;
 mod chart;
 mod ends;
 mod entering;
+mod found;
 mod held;
 mod informed;
 mod informing;

@@ -13,8 +13,8 @@ use Rattle.book_signs.specs.Signed.{kind_of, IsSignOf, IsSignsOf}
 use Rattle.book_signs.proofs.SignLemmas.{zip_lengths}
 use Rattle.grammar_load.specs.Conditions.{IsLoaded}
 use Rattle.grammar_load.specs.Loaded.{GrammarTree}
-use Rattle.grammar_names.specs.Fitting.{AreNamedApart, IsWellNamed}
-use Rattle.grammar_names.proofs.Instances.{placed_at}
+use Rattle.mrs_lines.specs.Fitting.{AreNamedApart, IsWellNamed}
+use Rattle.mrs_lines.proofs.Instances.{placed_at}
 use Rattle.tree_reading.specs.declared.Part.{Part}
 use Rattle.tree_reading.specs.Grammars.{IsSameKind, IsNamedWell, IsNamedApart}
 use Rattle.tree_names.specs.TreeGrammars.{part_by, part_of, tree_grammar}

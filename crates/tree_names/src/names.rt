@@ -5,7 +5,7 @@ ghost use Rattle.book_signs.specs.Signed.{kind_of};
 ghost use Rattle.book_signs.specs.Trees.{signs_of};
 ghost use Rattle.grammar_load.specs.Conditions.{IsLoaded};
 ghost use Rattle.grammar_load.specs.Views.{grammar_of};
-ghost use Rattle.grammar_names.specs.Fitting.{IsWellNamed};
+ghost use Rattle.mrs_lines.specs.Fitting.{IsWellNamed};
 ghost use Rattle.tree_names.specs.TreeGrammars.{part_by, part_of, tree_grammar};
 
 use crate::NoMemory;

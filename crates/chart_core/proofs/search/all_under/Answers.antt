@@ -9,16 +9,16 @@ use Rattle.chart_core.proofs.search.all_under.Goals.{then-branch+in_ok-push, els
 
 pub loop-place-preserved : goal.loop-place-preserved
 loop-place-preserved g c =
-    let k = g.S.Shapes.calculus c.args.shapes.now in
-    let m = g.S.Shapes.meaning c.args.shapes.now in
+    let k = g.S.Shapes.calculus c.args.by.now.shapes.now in
+    let m = g.S.Shapes.meaning c.args.by.now.shapes.now in
     let rows = c.args.rows.now in
     let places = c.args.places.now in
     let i = c.loop-place.place-index in
     let row = c.index-rows-place.result in
     let l : i < length places = omega arith in
     let below : get_or places i 0 < length rows = c.requires.places i 0 l in
-    let at = place_is (is_peer k m (k.over (m c.args.shape.now)) c.args.cover.now c.args.level) rows (get_or places i 0) row below c.index-rows-place.is in
-    let test = at_place (is_peer k m (k.over (m c.args.shape.now)) c.args.cover.now c.args.level) rows in
+    let at = place_is (is_peer k m (k.over (m c.args.by.now.shape.now)) c.args.by.now.cover.now c.args.by.now.level) rows (get_or places i 0) row below c.index-rows-place.is in
+    let test = at_place (is_peer k m (k.over (m c.args.by.now.shape.now)) c.args.by.now.cover.now c.args.by.now.level) rows in
     let all = filter test places in
     elim c.if-branch.branch [
       | then-branch+in_ok-push w ↦
@@ -34,4 +34,4 @@ is_under-requires-clause-verdict g c =
     let rows = c.args.rows.now in
     let p = get_or c.args.places.now c.loop-place.place-index 0 in
     let below : p < length rows = c.requires.places c.loop-place.place-index 0 c.loop-place-test.true in
-    verdict_right (g.S.Shapes.calculus c.args.shapes.now) (g.S.Shapes.meaning c.args.shapes.now) (g.S.Shapes.meaning c.args.shapes.now c.args.shape.now) rows c.args.tested.now _ p c.index-rows-place.result c.verdict_at-verdict.result c.requires.tested (get_here rows p c.index-rows-place.result below c.index-rows-place.is) c.verdict_at-verdict.ensures
+    verdict_right (g.S.Shapes.calculus c.args.by.now.shapes.now) (g.S.Shapes.meaning c.args.by.now.shapes.now) (g.S.Shapes.meaning c.args.by.now.shapes.now c.args.by.now.shape.now) rows c.args.by.now.tested.now _ p c.index-rows-place.result c.verdict_at-verdict.result c.requires.tested (get_here rows p c.index-rows-place.result below c.index-rows-place.is) c.verdict_at-verdict.ensures

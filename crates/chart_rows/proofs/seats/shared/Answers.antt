@@ -20,23 +20,23 @@ loop-step-preserved g c =
     let i = c.loop-step.invariant in (
       search rules,
       search rules,
-      still_sits c.in_ok-chart.chart c.args.shapes.now 0 c.loop-step.first c.call.new.first c.call.ensures.first i.2,
-      still_sits c.in_ok-chart.chart c.args.shapes.now 1 c.loop-step.second c.call.new.second c.call.ensures.second i.3,
+      still_sits c.in_ok-chart.chart c.args.shapes.now 0 c.loop-step.both.first c.call.new.seats.first c.call.ensures.first i.2,
+      still_sits c.in_ok-chart.chart c.args.shapes.now 1 c.loop-step.both.second c.call.new.seats.second c.call.ensures.second i.3,
     )
 
 pub close-requires-clause-count : goal.close-requires-clause-count
 close-requires-clause-count g c =
     let o = c.in_ok-chart.ensures in
     let p = popped c.in_ok-chart.seats.items c.pop.new.self.items c.pop-2.new.self.items c.in-Some-pop.first c.in-Some.second c.in-Some.ensures.items c.in-Some-pop.ensures.items o.count.0 in
-    let is = c.in_ok-push-2.ensures.items ∙ ap (λ k. k ++ c.loop-step.second ∷ []) (c.in_ok-push.ensures.items ∙ ap (λ k. k ++ c.loop-step.first ∷ []) p.1) in
+    let is = c.in_ok-push-2.ensures.items ∙ ap (λ k. k ++ c.loop-step.both.second ∷ []) (c.in_ok-push.ensures.items ∙ ap (λ k. k ++ c.loop-step.both.first ∷ []) p.1) in
     let n : length c.push-2.new.self.items ≡ 2 = ap (λ k. length k) is in (n ∙ sym o.count.1, omega arith)
 
 pub close-requires-clause-each : goal.close-requires-clause-each
 close-requires-clause-each g c =
     let o = c.in_ok-chart.ensures in let i = c.loop-step.invariant in
     let p = popped c.in_ok-chart.seats.items c.pop.new.self.items c.pop-2.new.self.items c.in-Some-pop.first c.in-Some.second c.in-Some.ensures.items c.in-Some-pop.ensures.items o.count.0 in
-    let is = c.in_ok-push-2.ensures.items ∙ ap (λ k. k ++ c.loop-step.second ∷ []) (c.in_ok-push.ensures.items ∙ ap (λ k. k ++ c.loop-step.first ∷ []) p.1) in
-    two_seats c.in_ok-chart.chart c.args.shapes.now c.loop-step.first c.loop-step.second c.push-2.new.self.items is i.2 i.3
+    let is = c.in_ok-push-2.ensures.items ∙ ap (λ k. k ++ c.loop-step.both.second ∷ []) (c.in_ok-push.ensures.items ∙ ap (λ k. k ++ c.loop-step.both.first ∷ []) p.1) in
+    two_seats c.in_ok-chart.chart c.args.shapes.now c.loop-step.both.first c.loop-step.both.second c.push-2.new.self.items is i.2 i.3
 
 pub returns : goal.returns
 returns g c = subst (λ s. IsCore (grammar_of g.S.Shapes g.S.Cover.Cover s) c.close.result) c.in_ok-chart.ensures.count.2 c.close.ensures.core

@@ -9,8 +9,8 @@ use Rattle.chart_core.specs.Passed.{IsPassed, IsPassFault}
 use Rattle.chart_workers.proofs.Faults.{fault_is}
 use Rattle.chart_workers.proofs.concluding.decided.Goals as goal
 
-pub ordered_pass-requires-clause-leaves : goal.ordered_pass-requires-clause-leaves
-ordered_pass-requires-clause-leaves g c =
+pub pass_over-requires-clause-leaves : goal.pass_over-requires-clause-leaves
+pass_over-requires-clause-leaves g c =
     let same = c.in-Err.ensures.ended.0 in
     c.leaves.ensures.belongs c.args.shapes.now (subst (λ x. IsCore (grammar_of g.S.Shapes g.S.Cover.Cover c.args.shapes.now) x) (sym same) c.requires.core)
 
@@ -42,5 +42,5 @@ returns-in-Err-decide g c =
 pub returns-in-Err : goal.returns-in-Err
 returns-in-Err g c =
     let s = c.args.shapes.now in
-    subst (λ ls. MatchResult c.ordered_pass.result (IsPassed (grammar_of g.S.Shapes g.S.Cover.Cover s) (g.S.Shapes.full s) (g.S.Shapes.agrees s) (limits_seen c.args.limits.now) ls) (IsPassFault (g.S.Shapes.calculus s) (limits_seen c.args.limits.now) ls))
-    (c.leaves.ensures.leaves s ∙ ap (leaves_of (g.S.Shapes.meaning s)) c.in-Err.ensures.ended.0) c.ordered_pass.ensures
+    subst (λ ls. MatchResult c.pass_over.result (IsPassed (grammar_of g.S.Shapes g.S.Cover.Cover s) (g.S.Shapes.full s) (g.S.Shapes.agrees s) (limits_seen c.args.limits.now) ls) (IsPassFault (g.S.Shapes.calculus s) (limits_seen c.args.limits.now) ls))
+    (c.leaves.ensures.leaves s ∙ ap (leaves_of (g.S.Shapes.meaning s)) c.in-Err.ensures.ended.0) c.pass_over.ensures

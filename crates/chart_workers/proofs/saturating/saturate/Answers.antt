@@ -45,5 +45,5 @@ returns g c =
     let f = length-map c.as_mut_slice.result.now post_seat in let n = o.count.0 in let p = c.args.crew.now.size.0 in
     let first = first_there c.in_ok-seats.seats.items (omega arith) in
     let r = ran (grammar_of g.S.Shapes g.S.Cover.Cover s) c.in_ok-chart.chart c.in_ok-core.core c.in_ok-chart.seats.items c.as_mut_slice.result.now c.run.new.posts same o.each c.run.ensures.count c.run.ensures.each 0 first.0 (ap (λ l. get_elem? l 0) (sym (c.in_ok-seats.ensures ∙ ap (λ l. map post_seat l) (written c.run.new.posts _ c.in_ok-posts.posts.len (let n = c.run.ensures.count in let m = c.as_mut_slice.ensures.len in let o = c.in_ok-posts.posts.ok in omega arith)))) ∙ first.1) in
-    subst (λ ls. MatchResult c.conclude.result (IsPassed (grammar_of g.S.Shapes g.S.Cover.Cover s) (g.S.Shapes.full s) (g.S.Shapes.agrees s) (limits_seen c.args.limits.now) ls) (IsPassFault (g.S.Shapes.calculus s) (limits_seen c.args.limits.now) ls))
+    subst (λ ls. MatchResult c.conclude.result (IsPassed (grammar_of g.S.Shapes g.S.Cover.Cover s) (g.S.Shapes.full s) (g.S.Shapes.agrees s) (limits_seen c.args.terms.now.limits.now) ls) (IsPassFault (g.S.Shapes.calculus s) (limits_seen c.args.terms.now.limits.now) ls))
     (r.1.leaves_same ∙ c.in_ok-core.ensures.leaves) (c.conclude.ensures first.0 first.1)

@@ -10,13 +10,13 @@ use Rattle.grammar_rules.specs.Lines.{AreFeedsOf, HaveAll}
 use Rattle.grammar_rules.specs.Remembered.{MemoryTree}
 use Rattle.grammar_rules.proofs.leaves.lexical_of.Goals as goal
 
-pub lexical_trees-requires-clause-numbered : goal.lexical_trees-requires-clause-numbered
-lexical_trees-requires-clause-numbered c =
-    subst (λ t. HaveAll t c.args.grammar.now.lexicon.now c.args.grammar.now.spelling.now) (sym (c.fulls-fulls.ensures ∙ ap (λ (m : MemoryTree). m.signs) c.requires.grammar.shared)) c.requires.grammar.have
-
-pub lexical_trees-requires-clause-feeds : goal.lexical_trees-requires-clause-feeds
-lexical_trees-requires-clause-feeds c =
-    subst (λ t. AreFeedsOf t c.args.grammar.now.feeds.now) (sym (c.fulls-fulls.ensures ∙ ap (λ (m : MemoryTree). m.signs) c.requires.grammar.shared)) c.requires.grammar.feeds
+pub lexical_trees-requires-clause-grammar : goal.lexical_trees-requires-clause-grammar
+lexical_trees-requires-clause-grammar c =
+    let same = sym (c.fulls-fulls.ensures ∙ ap (λ (m : MemoryTree). m.signs) c.requires.grammar.shared) in
+    record {
+      numbered = subst (λ t. HaveAll t c.args.grammar.now.lexicon.now c.args.grammar.now.spelling.now) same c.requires.grammar.have;
+      feeds = subst (λ t. AreFeedsOf t c.args.grammar.now.feeds.now) same c.requires.grammar.feeds;
+    }
 
 pub returns : goal.returns
 returns c =

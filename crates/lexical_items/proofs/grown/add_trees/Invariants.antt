@@ -6,6 +6,6 @@ use Rattle.lexical_items.proofs.grown.add_trees.Given as goal
 
 abbrev pub invariant-loop-end : goal.invariant-loop-end
 invariant-loop-end g l =
-    Adds (IsTree l.lexicon l.spelling (g.F.LexicalFulls.signs l.fulls) (g.F.LexicalFulls.entries_of l.fulls) (g.F.LexicalFulls.rules_of l.fulls))
-    (IsOfRoute l.lexicon l.spelling (g.F.LexicalFulls.signs l.fulls) (g.F.LexicalFulls.entries_of l.fulls) (g.F.LexicalFulls.rules_of l.fulls) (route_seen (g.F.LexicalFulls.value l.fulls) l.route) (map string_bytes (take l.end-index l.end-items)))
-    (map (tree_seen (g.F.LexicalFulls.value l.fulls)) l.initial.out.items) (map (tree_seen (g.F.LexicalFulls.value l.fulls)) l.out.items)
+    Adds (IsTree l.grammar.lexicon.now l.grammar.spelling.now (g.F.LexicalFulls.signs l.grammar.fulls.now) (g.F.LexicalFulls.entries_of l.grammar.fulls.now) (g.F.LexicalFulls.rules_of l.grammar.fulls.now))
+    (IsOfRoute l.grammar.lexicon.now l.grammar.spelling.now (g.F.LexicalFulls.signs l.grammar.fulls.now) (g.F.LexicalFulls.entries_of l.grammar.fulls.now) (g.F.LexicalFulls.rules_of l.grammar.fulls.now) (route_seen (g.F.LexicalFulls.value l.grammar.fulls.now) l.route) (map string_bytes (take l.end-index l.end-items)))
+    (map (tree_seen (g.F.LexicalFulls.value l.grammar.fulls.now)) l.initial.out.items) (map (tree_seen (g.F.LexicalFulls.value l.grammar.fulls.now)) l.out.items)

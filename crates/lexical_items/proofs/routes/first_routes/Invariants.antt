@@ -4,5 +4,5 @@ use Rattle.lexical_items.proofs.routes.first_routes.Given as goal
 
 abbrev pub invariant-loop-entry : goal.invariant-loop-entry
 invariant-loop-entry g l =
-    AreRoutes l.lexicon l.spelling (g.F.LexicalFulls.signs l.fulls) (g.F.LexicalFulls.entries_of l.fulls) (g.F.LexicalFulls.rules_of l.fulls)
-    (IsFirst l.lexicon l.spelling (g.F.LexicalFulls.signs l.fulls) (g.F.LexicalFulls.entries_of l.fulls) (g.F.LexicalFulls.rules_of l.fulls) l.entry) (map (route_seen (g.F.LexicalFulls.value l.fulls)) l.routes.items)
+    AreRoutes l.grammar.lexicon.now l.grammar.spelling.now (g.F.LexicalFulls.signs l.grammar.fulls.now) (g.F.LexicalFulls.entries_of l.grammar.fulls.now) (g.F.LexicalFulls.rules_of l.grammar.fulls.now)
+    (IsFirst l.grammar.lexicon.now l.grammar.spelling.now (g.F.LexicalFulls.signs l.grammar.fulls.now) (g.F.LexicalFulls.entries_of l.grammar.fulls.now) (g.F.LexicalFulls.rules_of l.grammar.fulls.now) l.entry) (map (route_seen (g.F.LexicalFulls.value l.grammar.fulls.now)) l.routes.items)

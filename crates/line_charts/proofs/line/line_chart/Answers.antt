@@ -22,24 +22,24 @@ use Rattle.line_charts.proofs.line.line_chart.Goals as goal
 
 pub chart_over-requires-clause-apart : goal.chart_over-requires-clause-apart
 chart_over-requires-clause-apart c =
-    let known = subst (AreLineLeaves c.args.signs.now c.args.shapes.now c.requires.leaves.0 (lattice_of c.args.lattice.now) c.args.limits.now.lexical) c.in-Leaves.is c.requires.leaves.1 in
+    let known = subst (AreLineLeaves c.args.grammar.now.signs.now c.args.grammar.now.shapes.now c.requires.leaves.0 (lattice_of c.args.lattice.now) c.args.limits.now.lexical) c.in-Leaves.is c.requires.leaves.1 in
     subst (λ ts. AreApart (λ (d : Derivation). d) (trees_in ts)) (sym c.deref-2.ensures.value)
-    (known_apart c.args.signs.now c.args.shapes.now c.requires.leaves.0 (lattice_of c.args.lattice.now) c.args.limits.now.lexical c.in-Leaves.trees.items c.in-Leaves.leaves.items known)
+    (known_apart c.args.grammar.now.signs.now c.args.grammar.now.shapes.now c.requires.leaves.0 (lattice_of c.args.lattice.now) c.args.limits.now.lexical c.in-Leaves.trees.items c.in-Leaves.leaves.items known)
 
 pub chart_over-requires-clause-lined : goal.chart_over-requires-clause-lined
 chart_over-requires-clause-lined c =
-    let known = subst (AreLineLeaves c.args.signs.now c.args.shapes.now c.requires.leaves.0 (lattice_of c.args.lattice.now) c.args.limits.now.lexical) c.in-Leaves.is c.requires.leaves.1 in
-    subst (λ ts. AreLined (signs_of c.args.signs.now) (meaning_of c.args.shapes.now) (lexemes_of c.args.signs.now ts) c.in-Leaves.leaves.items) (sym c.deref-2.ensures.value) known.1
+    let known = subst (AreLineLeaves c.args.grammar.now.signs.now c.args.grammar.now.shapes.now c.requires.leaves.0 (lattice_of c.args.lattice.now) c.args.limits.now.lexical) c.in-Leaves.is c.requires.leaves.1 in
+    subst (λ ts. AreLined (signs_of c.args.grammar.now.signs.now) (meaning_of c.args.grammar.now.shapes.now) (lexemes_of c.args.grammar.now.signs.now ts) c.in-Leaves.leaves.items) (sym c.deref-2.ensures.value) known.1
 
 pub chart_over-requires-clause-belong : goal.chart_over-requires-clause-belong
 chart_over-requires-clause-belong c =
-    let known = subst (AreLineLeaves c.args.signs.now c.args.shapes.now c.requires.leaves.0 (lattice_of c.args.lattice.now) c.args.limits.now.lexical) c.in-Leaves.is c.requires.leaves.1 in
+    let known = subst (AreLineLeaves c.args.grammar.now.signs.now c.args.grammar.now.shapes.now c.requires.leaves.0 (lattice_of c.args.lattice.now) c.args.limits.now.lexical) c.in-Leaves.is c.requires.leaves.1 in
     known.2
 
 pub returns-clause-answer : goal.returns-clause-answer
 returns-clause-answer c = λ words are.
-    let t = c.args.signs.now in
-    let s = c.args.shapes.now in
+    let t = c.args.grammar.now.signs.now in
+    let s = c.args.grammar.now.shapes.now in
     let g = signs_of t in
     let lattice = lattice_of c.args.lattice.now in
     let most = c.args.limits.now.lexical in
@@ -47,7 +47,7 @@ returns-clause-answer c = λ words are.
     let trees = c.in-Leaves.trees.items in
     let leaves = c.in-Leaves.leaves.items in
     let types = t.book.system.types in
-    let feats = map string_bytes c.args.feats.now in
+    let feats = map string_bytes c.args.grammar.now.feats.now in
     let us = map (λ x. step_seen (step_of x)) c.in_ok-unknown.unknown.items in
     let known = subst (AreLineLeaves t s words lattice most) c.in-Leaves.is are in
     let unknown = c.in_ok-unknown.ensures g words most (λ full. view_in t full.graph) (subst (λ ts. AreLexemes g words (lattice_seen lattice) most (lexemes_of t ts)) (sym c.deref.ensures.value) known.0.1) in
@@ -59,8 +59,8 @@ returns-clause-answer c = λ words are.
 pub returns-clause-named : goal.returns-clause-named
 returns-clause-named c =
     let words = c.requires.leaves.0 in
-    let t = c.args.signs.now in
-    let s = c.args.shapes.now in
+    let t = c.args.grammar.now.signs.now in
+    let s = c.args.grammar.now.shapes.now in
     let g = signs_of t in
     let lattice = lattice_of c.args.lattice.now in
     let most = c.args.limits.now.lexical in
@@ -68,7 +68,7 @@ returns-clause-named c =
     let trees = c.in-Leaves.trees.items in
     let leaves = c.in-Leaves.leaves.items in
     let types = t.book.system.types in
-    let feats = map string_bytes c.args.feats.now in
+    let feats = map string_bytes c.args.grammar.now.feats.now in
     let us = map (λ x. step_seen (step_of x)) c.in_ok-unknown.unknown.items in
     let known = subst (AreLineLeaves t s words lattice most) c.in-Leaves.is c.requires.leaves.1 in
     let unknown = c.in_ok-unknown.ensures g words most (λ full. view_in t full.graph) (subst (λ ts. AreLexemes g words (lattice_seen lattice) most (lexemes_of t ts)) (sym c.deref.ensures.value) known.0.1) in

@@ -14,9 +14,9 @@ make-requires-clause-null c = c.requires.paths.null_in
 
 pub returns : goal.returns
 returns c =
-    let t = c.args.signs.now in
+    let t = c.args.grammar.now.fulls.now.signs.now in
     record {
-      told = subst (λ n. AreTold (signs_of t) (words_by t c.args.lexicon.now c.args.spelling.now) t.book.system.types (paths_of c.args.paths.now) n (map (told_seen t) c.in_ok-told.told.items)) c.in_ok-most.ensures c.in_ok-told.ensures;
+      told = subst (λ n. AreTold (signs_of t) (words_by t c.args.grammar.now.lexicon.now c.args.grammar.now.spelling.now) t.book.system.types (paths_of c.args.paths.now) n (map (told_seen t) c.in_ok-told.told.items)) c.in_ok-most.ensures c.in_ok-told.ensures;
       given = c.in_ok-rules.ensures;
       list = c.in_ok-list.ensures;
     }

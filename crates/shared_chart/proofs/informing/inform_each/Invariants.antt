@@ -1,4 +1,4 @@
-use Rattle.std.proofs.Common.{◌≡◌, ◌≤◌, ◌+◌, ◌-◌}
+use Rattle.std.proofs.Common.{◌≤◌, ◌+◌, ◌-◌}
 use Rattle.shared_chart.specs.Infos.{AreInfos}
 use Rattle.shared_chart.proofs.informing.inform_each.Given as goal
 

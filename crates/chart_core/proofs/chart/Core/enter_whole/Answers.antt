@@ -24,30 +24,30 @@ mark-requires-clause-made g c =
     let k = g.S.Shapes.calculus c.args.shapes.now in
     let m = g.S.Shapes.meaning c.args.shapes.now in
     let core = c.args.self.now in
-    (mark_ready c.push_whole.new.self.tasks.items c.args.task.0
-    (ap (λ (ch : model.Chart _ _). slice_get ch.done c.args.task.0) c.in-Ok-push_whole.ensures.ok ∙ still_pending k (limits_of core) (chart_of m core) (candidate_of m c.args.new) (m c.args.new.shape) c.args.task.0 c.requires.open.live.pending)).0
+    (mark_ready c.push_whole.new.self.tasks.items c.args.call.task.0
+    (ap (λ (ch : model.Chart _ _). slice_get ch.done c.args.call.task.0) c.in-Ok-push_whole.ensures.ok ∙ still_pending k (limits_of core) (chart_of m core) (candidate_of m c.args.new) (m c.args.new.shape) c.args.call.task.0 c.requires.open.live.pending)).0
 
 pub mark-requires-clause-pending : goal.mark-requires-clause-pending
 mark-requires-clause-pending g c =
     let k = g.S.Shapes.calculus c.args.shapes.now in
     let m = g.S.Shapes.meaning c.args.shapes.now in
     let core = c.args.self.now in
-    (mark_ready c.push_whole.new.self.tasks.items c.args.task.0
-    (ap (λ (ch : model.Chart _ _). slice_get ch.done c.args.task.0) c.in-Ok-push_whole.ensures.ok ∙ still_pending k (limits_of core) (chart_of m core) (candidate_of m c.args.new) (m c.args.new.shape) c.args.task.0 c.requires.open.live.pending)).1
+    (mark_ready c.push_whole.new.self.tasks.items c.args.call.task.0
+    (ap (λ (ch : model.Chart _ _). slice_get ch.done c.args.call.task.0) c.in-Ok-push_whole.ensures.ok ∙ still_pending k (limits_of core) (chart_of m core) (candidate_of m c.args.new) (m c.args.new.shape) c.args.call.task.0 c.requires.open.live.pending)).1
 
-placed : (g : _) (c : goal.After-mark g) → Placed (grammar_of g.S.Shapes g.S.Cover.Cover c.args.shapes.now) c.args.self.now c.mark.new.self c.args.task.0 c.args.by (model.whole_row (g.S.Shapes.calculus c.args.shapes.now) (limits_of c.args.self.now) (chart_of (g.S.Shapes.meaning c.args.shapes.now) c.args.self.now) c.requires.open.live.task c.args.new.cover (g.S.Shapes.meaning c.args.shapes.now c.args.new.shape)) (model.with_outcome (g.S.Shapes.calculus c.args.shapes.now) (limits_of c.args.self.now) (chart_of (g.S.Shapes.meaning c.args.shapes.now) c.args.self.now) c.requires.open.live.task (model.Makes c.args.new.cover (g.S.Shapes.meaning c.args.shapes.now c.args.new.shape)))
+placed : (g : _) (c : goal.After-mark g) → Placed (grammar_of g.S.Shapes g.S.Cover.Cover c.args.shapes.now) c.args.self.now c.mark.new.self c.args.call.task.0 c.args.call.by (model.whole_row (g.S.Shapes.calculus c.args.shapes.now) (limits_of c.args.self.now) (chart_of (g.S.Shapes.meaning c.args.shapes.now) c.args.self.now) c.requires.open.live.task c.args.new.cover (g.S.Shapes.meaning c.args.shapes.now c.args.new.shape)) (model.with_outcome (g.S.Shapes.calculus c.args.shapes.now) (limits_of c.args.self.now) (chart_of (g.S.Shapes.meaning c.args.shapes.now) c.args.self.now) c.requires.open.live.task (model.Makes c.args.new.cover (g.S.Shapes.meaning c.args.shapes.now c.args.new.shape)))
 placed g c =
     let k = g.S.Shapes.calculus c.args.shapes.now in
     let m = g.S.Shapes.meaning c.args.shapes.now in
     let core = c.args.self.now in
     let mid = c.push_whole.new.self in
-    let t = c.args.task.0 in
+    let t = c.args.call.task.0 in
     let n : c.len.result ≡ length core.rows.items = omega arith in
     let w = model.whole_row k (limits_of core) (chart_of m core) c.requires.open.live.task c.args.new.cover (m c.args.new.shape) in
     record {
       chart = c.mark.ensures.chart c.args.shapes.now ∙ ap (λ ch. model.with_done ch t) (c.in-Ok-push_whole.ensures.ok ∙ ap (λ r. model.with_whole k (limits_of core) (chart_of m core) r (m c.args.new.shape)) c.requires.open.row_is);
       rows = whole_rows k (limits_of core) (chart_of m core) w (m c.args.new.shape);
-      history = c.mark.ensures.history ∙ ap (λ h. h ++ record { task = t; row = Some (record { 0 = c.len.result }); by = c.args.by } ∷ []) c.push_whole.ensures.history ∙ ap (λ n. core.history.items ++ record { task = t; row = Some (record { 0 = n }); by = c.args.by } ∷ []) n;
+      history = c.mark.ensures.history ∙ ap (λ h. h ++ record { task = t; row = Some (record { 0 = c.len.result }); by = c.args.call.by } ∷ []) c.push_whole.ensures.history ∙ ap (λ n. core.history.items ++ record { task = t; row = Some (record { 0 = n }); by = c.args.call.by } ∷ []) n;
       frame = frame_both (grammar_of g.S.Shapes g.S.Cover.Cover c.args.shapes.now) core mid c.mark.new.self c.push_whole.ensures.frame c.mark.ensures.frame;
       belongs = subst (All (Belongs k (g.S.Shapes.belongs c.args.shapes.now))) (sym c.mark.ensures.rows) c.push_whole.ensures.belongs;
       sound = c.mark.ensures.sound;
@@ -61,7 +61,7 @@ returns-in-Ok-push_whole-clause-answer g c =
     let mid = c.push_whole.new.self in
     let live = c.requires.open.live in
     let o = model.Makes c.args.new.cover (m c.args.new.shape) in
-    let step = step_open k (limits_of core) (chart_of m core) c.args.task.0 o (caller_of c.args.by) live in
+    let step = step_open k (limits_of core) (chart_of m core) c.args.call.task.0 o (caller_of c.args.call.by) live in
     let grown = c.in-Ok-push_whole.ensures.ok ∙ ap (λ r. model.with_whole k (limits_of core) (chart_of m core) r (m c.args.new.shape)) c.requires.open.row_is in
     let row = ap (λ r. model.peer_over k (limits_of core) (chart_of m core) r (m c.args.new.shape)) c.requires.open.row_is in
     let a = ap (λ (ch : model.Chart _ _). length ch.tasks) step in
@@ -75,7 +75,7 @@ returns-in-Ok-push_whole-clause-answer g c =
       room = λ asked full. elim c.else-bounded.branch [
         | else-bounded-via-then-bounded+then-is_none+else-is_full w ↦ absurd (never w.is_full.result (w.is_full.ensures ∙ le-leb (4 * core.edges + 64) core.made full.1) w.if-is_full.false)
         | else-bounded-via-then-bounded+else-is_none w ↦ absurd (some_by c.in-Ok.peer w.is_none.result w.is_none.ensures w.if-is_none.false (c.in-Ok.ensures ∙ row ∙ full.0))
-        | else-bounded-via-else-bounded w ↦ absurd (never c.args.bounded asked w.if-bounded.false)
+        | else-bounded-via-else-bounded w ↦ absurd (never c.args.known.now.bounded asked w.if-bounded.false)
       ];
       place_is = omega arith;
       row_is = omega (arith, f);
@@ -87,10 +87,10 @@ pub returns-in-Ok-push_whole-clause-change : goal.returns-in-Ok-push_whole-claus
 returns-in-Ok-push_whole-clause-change g c =
     let m = g.S.Shapes.meaning c.args.shapes.now in
     let core = c.args.self.now in
-    placed_change (grammar_of g.S.Shapes g.S.Cover.Cover c.args.shapes.now) core c.mark.new.self c.args.task.0 c.args.by _ _ (model.Makes c.args.new.cover (m c.args.new.shape)) c.len-place.result (record { 0 = c.len.result }) (record { 0 = c.len-2.result }) (record { 0 = c.len-in-Ok-push_whole.result }) c.requires.core (placed g c) refl refl c.requires.open.live refl
+    placed_change (grammar_of g.S.Shapes g.S.Cover.Cover c.args.shapes.now) core c.mark.new.self c.args.call.task.0 c.args.call.by _ _ (model.Makes c.args.new.cover (m c.args.new.shape)) c.len-place.result (record { 0 = c.len.result }) (record { 0 = c.len-2.result }) (record { 0 = c.len-in-Ok-push_whole.result }) c.requires.core (placed g c) refl refl c.requires.open.live refl
 
 pub returns-in-Ok-push_whole-clause-core : goal.returns-in-Ok-push_whole-clause-core
 returns-in-Ok-push_whole-clause-core g c =
     let m = g.S.Shapes.meaning c.args.shapes.now in
     let core = c.args.self.now in
-    placed_core (grammar_of g.S.Shapes g.S.Cover.Cover c.args.shapes.now) core c.mark.new.self c.args.task.0 c.args.by _ _ (model.Makes c.args.new.cover (m c.args.new.shape)) c.requires.core (placed g c) refl refl c.requires.open.live refl c.requires.right
+    placed_core (grammar_of g.S.Shapes g.S.Cover.Cover c.args.shapes.now) core c.mark.new.self c.args.call.task.0 c.args.call.by _ _ (model.Makes c.args.new.cover (m c.args.new.shape)) c.requires.core (placed g c) refl refl c.requires.open.live refl c.requires.right

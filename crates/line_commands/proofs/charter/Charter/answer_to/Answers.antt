@@ -12,8 +12,11 @@ use Rattle.engine.specs.Views.{speech_of}
 use Rattle.line_commands.proofs.Forests.{forest-here, named-here}
 use Rattle.line_commands.proofs.charter.Charter.answer_to.Goals as goal
 
-pub line_chart-requires-clause-feats : goal.line_chart-requires-clause-feats
-line_chart-requires-clause-feats c = ap (λ (fs : List (String Global)). length fs) c.deref.ensures.value ∙ c.laws.ensures.feats
+pub line_chart-requires-clause-grammar : goal.line_chart-requires-clause-grammar
+line_chart-requires-clause-grammar c = record {
+  shapes = c.requires.ready.shapes;
+  feats = ap (λ (fs : List (String Global)). length fs) c.deref.ensures.value ∙ c.laws.ensures.feats;
+}
 
 pub line_chart-requires-clause-leaves : goal.line_chart-requires-clause-leaves
 line_chart-requires-clause-leaves c = ((speech_of c.args.self.now.engine).words, c.in_ok-leaves.ensures)

@@ -16,7 +16,7 @@ use Rattle.tdl_lexer.specs.Pieces.{Mark, defined, below, added, and, avm_opens, 
 use Rattle.tdl_lexer.specs.Readings.{Reads, ends, passes, token, stuck, Tokens, spelled as lexed, not_utf8, unmarked, mark_width}
 use Rattle.tdl_lexer.specs.Spelling.{value_of}
 use Rattle.tdl_reader.specs.Toks.{Tok, value, tok_of, toks_of, IsKind}
-use Rattle.grammar_names.proofs.Names.{IsTdlName}
+use Rattle.mrs_lines.proofs.Names.{IsTdlName}
 
 -- one or more name characters
 pub record IsSpelled (cs : List ℕ) : Type 0 where

@@ -17,7 +17,7 @@ use Rattle.shared_chart.proofs.Seen.{stands_there, later_there, back_there}
 use Rattle.shared_chart.specs.Infos.{AreNewInfos}
 use Rattle.shared_chart.proofs.Grown.{calls_grow, entered_later}
 use Rattle.shared_chart.proofs.Inform.{made_there}
-use Rattle.shared_chart.proofs.shared.SharedChart.enter_informing.Goals as goal
+use Rattle.shared_chart.proofs.shared.SharedChart.enter.Goals as goal
 
 pub enter_tested-entered-requires-clause-core : goal.enter_tested-entered-requires-clause-core
 enter_tested-entered-requires-clause-core g c = subst (λ s. IsCore (grammar_of g.S.Shapes g.S.Cover.Cover s) c.enter-chart.result.1.core) (sym c.requires.shapes) (stands_there c.enter-chart.ensures.seat.4 (knows_of c.args.seat.now))
@@ -55,13 +55,13 @@ leave-requires-clause-back g c =
     let by = caller_by c.args.seat.now.number c.args.seat.now.count in
     let isc = subst (λ s. IsCore (grammar_of g.S.Shapes g.S.Cover.Cover s) c.enter-chart.result.1.core) (sym c.requires.shapes) (stands_there e.4 k) in
     let new = c.enter_tested-entered.new.self in
-    let l = entered_later gr c.enter-chart.result.1.core new c.args.task.0 c.args.outcome by c.enter_tested-entered.result a.change in (
+    let l = entered_later gr c.enter-chart.result.1.core new c.args.found.task.0 c.args.found.outcome by c.enter_tested-entered.result a.change in (
       _,
       _,
       back_there k (ap (λ m. m.0.base) e.2) (ap (λ m. m.0.seen) e.2)
           (subst (λ s. IsCore (grammar_of g.S.Shapes g.S.Cover.Cover s) new) c.requires.shapes a.core)
           (subst (λ s. ComesAfter (grammar_of g.S.Shapes g.S.Cover.Cover s) c.enter-chart.result.1.core new) c.requires.shapes (isc, l)),
-      calls_grow gr c.enter-chart.result.1.core new c.args.task.0 c.args.outcome by c.enter_tested-entered.result a.change ∙ nothing_added c.args.task.0 by c.enter_tested-entered.result (calls_of c.enter-chart.result.1.core) _ (c.adds.ensures c.args.task.0 by) c.if-adds.false,
+      calls_grow gr c.enter-chart.result.1.core new c.args.found.task.0 c.args.found.outcome by c.enter_tested-entered.result a.change ∙ nothing_added c.args.found.task.0 by c.enter_tested-entered.result (calls_of c.enter-chart.result.1.core) _ (c.adds.ensures c.args.found.task.0 by) c.if-adds.false,
     )
 
 pub leave_raised-requires-clause-entry : goal.leave_raised-requires-clause-entry
@@ -71,9 +71,9 @@ leave_raised-requires-clause-entry g c =
     let by = caller_by h.number h.count in
     let chart = c.enter-chart.result.1 in let new = c.enter_tested-entered.new.self in
     let isc = subst (λ s. IsCore (grammar_of g.S.Shapes g.S.Cover.Cover s) chart.core) (sym c.requires.shapes) (stands_there e.4 (knows_of h)) in
-    let call_is = call c.args.task.0 by in
-    let more = calls_grow gr chart.core new c.args.task.0 c.args.outcome by c.enter_tested-entered.result a.change ∙ ap (λ l. calls_of chart.core ++ l) (one_added c.args.task.0 by c.enter_tested-entered.result _ (c.adds.ensures c.args.task.0 by) c.if-adds.true) in
-    let l = entered_later gr chart.core new c.args.task.0 c.args.outcome by c.enter_tested-entered.result a.change in
+    let call_is = call c.args.found.task.0 by in
+    let more = calls_grow gr chart.core new c.args.found.task.0 c.args.found.outcome by c.enter_tested-entered.result a.change ∙ ap (λ l. calls_of chart.core ++ l) (one_added c.args.found.task.0 by c.enter_tested-entered.result _ (c.adds.ensures c.args.found.task.0 by) c.if-adds.true) in
+    let l = entered_later gr chart.core new c.args.found.task.0 c.args.found.outcome by c.enter_tested-entered.result a.change in
     let cs = ap (λ m. m.0.claims) e.2 in (
       _,
       _,
@@ -92,8 +92,8 @@ invariant_of-seat g c =
     let by = caller_by h.number h.count in
     let chart = c.enter-chart.result.1 in let new = c.enter_tested-entered.new.self in
     let isc = subst (λ s. IsCore (grammar_of g.S.Shapes g.S.Cover.Cover s) chart.core) (sym c.requires.shapes) (stands_there e.4 (knows_of h)) in
-    let call_is = call c.args.task.0 by in
-    let more = calls_grow gr chart.core new c.args.task.0 c.args.outcome by c.enter_tested-entered.result a.change ∙ ap (λ l. calls_of chart.core ++ l) (one_added c.args.task.0 by c.enter_tested-entered.result _ (c.adds.ensures c.args.task.0 by) c.if-adds.true) in
+    let call_is = call c.args.found.task.0 by in
+    let more = calls_grow gr chart.core new c.args.found.task.0 c.args.found.outcome by c.enter_tested-entered.result a.change ∙ ap (λ l. calls_of chart.core ++ l) (one_added c.args.found.task.0 by c.enter_tested-entered.result _ (c.adds.ensures c.args.found.task.0 by) c.if-adds.true) in
     let n = c.leave_raised.ensures.seat chart call_is (ap (λ m. m.0.seen) e.2) more in
     let own = ap (λ m. own_calls m.0.claims) n ∙ ap (λ m. own_calls m.0.claims ++ call_is ∷ []) e.2 in record {
       counted = (let k = h.counted in let l = ap (λ x. length x) own in let z = length-append (own_calls h.chair.me.0.claims) (call_is ∷ []) in omega arith);
@@ -113,19 +113,19 @@ returns-then-adds-clause-enters g c =
     let by = caller_by h.number h.count in
     let chart = c.enter-chart.result.1 in let new = c.enter_tested-entered.new.self in
     let isc = subst (λ s. IsCore (grammar_of g.S.Shapes g.S.Cover.Cover s) chart.core) (sym c.requires.shapes) (stands_there e.4 (knows_of h)) in
-    let call_is = call c.args.task.0 by in
-    let more = calls_grow gr chart.core new c.args.task.0 c.args.outcome by c.enter_tested-entered.result a.change ∙ ap (λ l. calls_of chart.core ++ l) (one_added c.args.task.0 by c.enter_tested-entered.result _ (c.adds.ensures c.args.task.0 by) c.if-adds.true) in
+    let call_is = call c.args.found.task.0 by in
+    let more = calls_grow gr chart.core new c.args.found.task.0 c.args.found.outcome by c.enter_tested-entered.result a.change ∙ ap (λ l. calls_of chart.core ++ l) (one_added c.args.found.task.0 by c.enter_tested-entered.result _ (c.adds.ensures c.args.found.task.0 by) c.if-adds.true) in
     let n = c.leave_raised.ensures.seat chart call_is (ap (λ m. m.0.seen) e.2) more in
     let own = ap (λ m. own_calls m.0.claims) n ∙ ap (λ m. own_calls m.0.claims ++ call_is ∷ []) e.2 in
     let late = subst (λ s. IsLater (grammar_of g.S.Shapes g.S.Cover.Cover s) (state_of c.args.seat.now) chart.core) (sym c.requires.shapes) (later_there e.4 (knows_of h)).1 in record {
       same = record { id = c.leave_raised.ensures.id.0 ∙ c.enter-chart.ensures.id.0; number = refl; shapes = present_same _ _ _ _ (ap (λ m. m.0.base) n ∙ ap (λ m. m.0.base) e.2) };
       at = chart.core;
       sees = record { core = isc; later = late };
-      answer_is = subst (λ k. IsAnswer gr chart.core c.args.task.0 c.args.outcome (caller_by h.number k) c.enter_tested-entered.result) h.counted a.answer;
-      change = subst (λ x. Changes gr chart.core c.args.task.0 c.args.outcome (caller_now c.args.seat.now) c.enter_tested-entered.result x.core) (sym (sole_is _ _ _ (ap (λ m. m.0.seen) n)))
-          (subst (λ k. Changes gr chart.core c.args.task.0 c.args.outcome (caller_by h.number k) c.enter_tested-entered.result new) h.counted a.change);
+      answer_is = subst (λ k. IsAnswer gr chart.core c.args.found.task.0 c.args.found.outcome (caller_by h.number k) c.enter_tested-entered.result) h.counted a.answer;
+      change = subst (λ x. Changes gr chart.core c.args.found.task.0 c.args.found.outcome (caller_now c.args.seat.now) c.enter_tested-entered.result x.core) (sym (sole_is _ _ _ (ap (λ m. m.0.seen) n)))
+          (subst (λ k. Changes gr chart.core c.args.found.task.0 c.args.found.outcome (caller_by h.number k) c.enter_tested-entered.result new) h.counted a.change);
       core = subst (λ x. IsCore gr x.core) (sym (sole_is _ _ _ (ap (λ m. m.0.seen) n))) a.core;
-      made = own ∙ ap (λ l. made_by c.args.seat.now ++ l) (subst (λ k. call_is ∷ [] ≡ on_list (call_added c.args.task.0 (caller_by h.number k) c.enter_tested-entered.result) []) h.counted (sym (one_added c.args.task.0 by c.enter_tested-entered.result _ (c.adds.ensures c.args.task.0 by) c.if-adds.true)));
+      made = own ∙ ap (λ l. made_by c.args.seat.now ++ l) (subst (λ k. call_is ∷ [] ≡ on_list (call_added c.args.found.task.0 (caller_by h.number k) c.enter_tested-entered.result) []) h.counted (sym (one_added c.args.found.task.0 by c.enter_tested-entered.result _ (c.adds.ensures c.args.found.task.0 by) c.if-adds.true)));
       saw = ap (λ m. m.0.saw) n ∙ ap (λ m. m.0.saw) e.2;
       set = ap (λ m. m.0.set) n ∙ ap (λ m. m.0.set) e.2;
     }
@@ -143,11 +143,11 @@ returns-else-adds-clause-enters g c =
       same = record { id = c.leave.ensures.id.0 ∙ c.enter-chart.ensures.id.0; number = refl; shapes = present_same _ _ _ _ (ap (λ m. m.0.base) n ∙ ap (λ m. m.0.base) e.2) };
       at = chart.core;
       sees = record { core = isc; later = late };
-      answer_is = subst (λ k. IsAnswer gr chart.core c.args.task.0 c.args.outcome (caller_by h.number k) c.enter_tested-entered.result) h.counted a.answer;
-      change = subst (λ x. Changes gr chart.core c.args.task.0 c.args.outcome (caller_now c.args.seat.now) c.enter_tested-entered.result x.core) (sym (sole_is _ _ _ (ap (λ m. m.0.seen) n)))
-          (subst (λ k. Changes gr chart.core c.args.task.0 c.args.outcome (caller_by h.number k) c.enter_tested-entered.result new) h.counted a.change);
+      answer_is = subst (λ k. IsAnswer gr chart.core c.args.found.task.0 c.args.found.outcome (caller_by h.number k) c.enter_tested-entered.result) h.counted a.answer;
+      change = subst (λ x. Changes gr chart.core c.args.found.task.0 c.args.found.outcome (caller_now c.args.seat.now) c.enter_tested-entered.result x.core) (sym (sole_is _ _ _ (ap (λ m. m.0.seen) n)))
+          (subst (λ k. Changes gr chart.core c.args.found.task.0 c.args.found.outcome (caller_by h.number k) c.enter_tested-entered.result new) h.counted a.change);
       core = subst (λ x. IsCore gr x.core) (sym (sole_is _ _ _ (ap (λ m. m.0.seen) n))) a.core;
-      made = own ∙ sym (nothing_added c.args.task.0 (caller_now c.args.seat.now) c.enter_tested-entered.result (made_by c.args.seat.now) _ (c.adds.ensures c.args.task.0 (caller_now c.args.seat.now)) c.if-adds.false);
+      made = own ∙ sym (nothing_added c.args.found.task.0 (caller_now c.args.seat.now) c.enter_tested-entered.result (made_by c.args.seat.now) _ (c.adds.ensures c.args.found.task.0 (caller_now c.args.seat.now)) c.if-adds.false);
       saw = ap (λ m. m.0.saw) n ∙ ap (λ m. m.0.saw) e.2;
       set = ap (λ m. m.0.set) n ∙ ap (λ m. m.0.set) e.2;
     }
@@ -156,7 +156,7 @@ pub inform_new-told-requires : goal.inform_new-told-requires
 inform_new-told-requires g c =
     let a = c.enter_tested-entered.ensures in let h = c.args.seat.now in record {
       core = (c.args.shapes.now, a.core);
-      made = made_there (grammar_of g.S.Shapes g.S.Cover.Cover c.args.shapes.now) c.enter-chart.result.1.core c.enter_tested-entered.new.self c.args.task.0 c.args.outcome (caller_by h.number h.count) c.enter_tested-entered.result a.answer a.change;
+      made = made_there (grammar_of g.S.Shapes g.S.Cover.Cover c.args.shapes.now) c.enter-chart.result.1.core c.enter_tested-entered.new.self c.args.found.task.0 c.args.found.outcome (caller_by h.number h.count) c.enter_tested-entered.result a.answer a.change;
     }
 
 pub returns-then-adds-clause-infos : goal.returns-then-adds-clause-infos
@@ -165,8 +165,8 @@ returns-then-adds-clause-infos g c =
     let gr = grammar_of g.S.Shapes g.S.Cover.Cover c.args.shapes.now in
     let by = caller_by h.number h.count in
     let chart = c.enter-chart.result.1 in let new = c.enter_tested-entered.new.self in
-    let call_is = call c.args.task.0 by in
-    let more = calls_grow gr chart.core new c.args.task.0 c.args.outcome by c.enter_tested-entered.result a.change ∙ ap (λ l. calls_of chart.core ++ l) (one_added c.args.task.0 by c.enter_tested-entered.result _ (c.adds.ensures c.args.task.0 by) c.if-adds.true) in
+    let call_is = call c.args.found.task.0 by in
+    let more = calls_grow gr chart.core new c.args.found.task.0 c.args.found.outcome by c.enter_tested-entered.result a.change ∙ ap (λ l. calls_of chart.core ++ l) (one_added c.args.found.task.0 by c.enter_tested-entered.result _ (c.adds.ensures c.args.found.task.0 by) c.if-adds.true) in
     let n = c.leave_raised.ensures.seat chart call_is (ap (λ m. m.0.seen) e.2) more in
     subst (λ x. OnOk c.inform_new-told.result (AreNewInfos g.S.Cover.Cover.extent x.core c.enter_tested-entered.result c.inform_new-told.new.infos.items)) (sym (sole_is _ _ _ (ap (λ m. m.0.seen) n))) c.inform_new-told.ensures
 

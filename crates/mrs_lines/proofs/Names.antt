@@ -15,7 +15,7 @@ use Rattle.tdl_lexer.specs.Characters.{is_name}
 use Rattle.tdl_lexer.specs.Spelling.{lower}
 use Rattle.tdl_lexer.proofs.Complete.{name_not_white, name_is_not}
 use Rattle.mrs_model.specs.Texts.{ends_name, is_capital, IsName}
-use Rattle.grammar_names.specs.Fitting.{is_mark, IsInstanceName}
+use Rattle.mrs_lines.specs.Fitting.{is_mark, IsInstanceName}
 
 -- one or more name characters, in ASCII lower case
 pub record IsTdlName (name : List ℕ) : Type 0 where

@@ -15,7 +15,7 @@ use Rattle.tdl_lexer.specs.Characters.{is_name}
 use Rattle.tdl_lexer.specs.Spelling.{lower}
 use Rattle.type_hierarchy.specs.Table.{glb_name}
 use Rattle.mrs_model.specs.Texts.{is_capital}
-use Rattle.grammar_names.proofs.Names.{IsTdlName, in_lower}
+use Rattle.mrs_lines.proofs.Names.{IsTdlName, in_lower}
 
 abbrev pub is_plain : ℕ → Bool
 is_plain c = nat_lt c 128 && (is_name c && not (is_capital c))

@@ -1,6 +1,6 @@
-use Rattle.grammar_names.proofs.Paths.{loaded_paths_are, loaded_feats_are}
-use Rattle.grammar_names.proofs.Instances.{loaded_names_are, loaded_apart}
-use Rattle.grammar_names.proofs.loaded_names.Goals as goal
+use Rattle.mrs_lines.proofs.Paths.{loaded_paths_are, loaded_feats_are}
+use Rattle.mrs_lines.proofs.Instances.{loaded_names_are, loaded_apart}
+use Rattle.mrs_lines.proofs.grammar_names.loaded_names.Goals as goal
 
 pub returns : goal.returns
 returns c = λ files fails top settings g h.

@@ -11,9 +11,9 @@ use Rattle.grammar_files.specs.Faults.{FoundFault}
 use Rattle.grammar_files.specs.FileNames.{with_ending}
 use Rattle.grammar_files.specs.Walks.{Files, IsSettled, by_default, fails_there, too_long_there, out_of_form, in_form, Says, fails_here, too_long, unlexed, unread, says, WalkState, begun, WalksFile, loops, too_many, unsaid, said, Walks, ends, ends_within, breaks_off, goes_on, stops_within, follows, WalkedTree, WalksTo, unsettled, unwalked, walked}
 use Rattle.grammar_files.specs.Reads.{ReadTree, ReadsTo, unwalked as unwalked_files, without_forms, reads}
-use Rattle.grammar_names.proofs.Settled.{AreNamed, said_named, defaults_named}
-use Rattle.grammar_names.proofs.Statements.{StatementNamed, AllStatementsNamed, file_named}
-use Rattle.grammar_names.proofs.Tokens.{tokens_good}
+use Rattle.mrs_lines.proofs.Settled.{AreNamed, said_named, defaults_named}
+use Rattle.mrs_lines.proofs.Statements.{StatementNamed, AllStatementsNamed, file_named}
+use Rattle.mrs_lines.proofs.Tokens.{tokens_good}
 
 abbrev pub AllPlaced : List PlacedTree → Type 0
 AllPlaced [] = Unit {0}

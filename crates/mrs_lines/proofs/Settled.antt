@@ -18,8 +18,8 @@ use Rattle.grammar_settings.specs.Forms.{Name, Word, fits, has_form, name_of, is
 use Rattle.grammar_settings.specs.SettingsFiles.{Entry, is_some_word, words, is_comment, entry_of, line_gives, after_line, entries_from, entries_of, last_values}
 use Rattle.grammar_settings.specs.Settled.{SettingsTree, SortTree, given, word_or, sort_in, default_sorts, sorts_of, settings_by, settled_by, settings_in, default_settings}
 use Rattle.mrs_model.specs.Texts.{IsSort}
-use Rattle.grammar_names.proofs.Names.{IsTdlName}
-use Rattle.grammar_names.proofs.Plain.{is_plain, plain_name}
+use Rattle.mrs_lines.proofs.Names.{IsTdlName}
+use Rattle.mrs_lines.proofs.Plain.{is_plain, plain_name}
 
 -- what is said of the names of settings
 pub record AreNamed (t : SettingsTree) : Type 0 where

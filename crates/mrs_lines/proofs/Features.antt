@@ -10,9 +10,9 @@ use Rattle.grammar_files.specs.Statements.{body_written, speaks_of_type, defines
 use Rattle.body_facts.specs.Writing.{ListNames}
 use Rattle.body_facts.specs.BracketUses.{Used, used, path_uses, is_empty_path, is_empty_list, cell_uses, term_uses, body_uses, attrs_use, items_use, end_uses}
 use Rattle.constraint_expand.specs.Features.{AreFeatures, uses_in}
-use Rattle.grammar_names.proofs.Names.{IsTdlName}
-use Rattle.grammar_names.proofs.Statements.{AllNames, TermNamed, BodyNamed, AttrsNamed, ItemsNamed, RestNamed, StatementNamed}
-use Rattle.grammar_names.proofs.Walked.{AllPlaced}
+use Rattle.mrs_lines.proofs.Names.{IsTdlName}
+use Rattle.mrs_lines.proofs.Statements.{AllNames, TermNamed, BodyNamed, AttrsNamed, ItemsNamed, RestNamed, StatementNamed}
+use Rattle.mrs_lines.proofs.Walked.{AllPlaced}
 
 -- the features of lists
 pub record ListsNamed (n : ListNames) : Type 0 where

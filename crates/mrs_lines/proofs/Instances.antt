@@ -22,10 +22,10 @@ use Rattle.grammar_files.specs.Walks.{Files}
 use Rattle.grammar_files.specs.Reads.{ReadTree}
 use Rattle.grammar_load.specs.Loaded.{GrammarTree, IsGrammarOf}
 use Rattle.grammar_load.specs.Loads.{Loads, loads, Makes, makes}
-use Rattle.grammar_names.specs.Fitting.{IsInstanceName, AreNamedApart}
-use Rattle.grammar_names.proofs.Names.{unmarked}
-use Rattle.grammar_names.proofs.Types.{defined_named}
-use Rattle.grammar_names.proofs.Walked.{AllPlaced, WalkedNamed, read_named}
+use Rattle.mrs_lines.specs.Fitting.{IsInstanceName, AreNamedApart}
+use Rattle.mrs_lines.proofs.Names.{unmarked}
+use Rattle.mrs_lines.proofs.Types.{defined_named}
+use Rattle.mrs_lines.proofs.Walked.{AllPlaced, WalkedNamed, read_named}
 
 -- The name of each instance is one.
 instances_named : (ps : List PlacedTree) → AllPlaced ps → All IsInstanceName (map name_of (filter defines_instance ps))

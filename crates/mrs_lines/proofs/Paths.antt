@@ -17,10 +17,10 @@ use Rattle.grammar_load.proofs.OneBook.{type-there}
 use Rattle.mrs_model.specs.Texts.{IsName, IsSort}
 use Rattle.mrs_places.specs.Settled.{paths_said, sort_said}
 use Rattle.mrs_extract.specs.Asked.{ArePaths}
-use Rattle.grammar_names.proofs.Names.{IsTdlName, named, undotted}
-use Rattle.grammar_names.proofs.Walked.{WalkedNamed, read_named}
-use Rattle.grammar_names.proofs.Features.{ListsNamed, features_named}
-use Rattle.grammar_names.proofs.Types.{types_named, completed_within}
+use Rattle.mrs_lines.proofs.Names.{IsTdlName, named, undotted}
+use Rattle.mrs_lines.proofs.Walked.{WalkedNamed, read_named}
+use Rattle.mrs_lines.proofs.Features.{ListsNamed, features_named}
+use Rattle.mrs_lines.proofs.Types.{types_named, completed_within}
 
 all_have : {X : Type 0} (P : X → Type 0) (xs : List X) → ((x : X) → Has x xs → P x) → All P xs
 all_have P [] h = All-nil P

@@ -12,10 +12,10 @@ use Rattle.type_hierarchy.specs.Decls.{Name, Declared, bare, is_defined, names_o
 use Rattle.type_hierarchy.specs.Table.{TypeTable, completed_count, count_of, glb_name}
 use Rattle.grammar_files.specs.Walks.{WalkedTree}
 use Rattle.grammar_types.specs.Typings.{AreTypesOf, declared_in, decls_in, strings_in}
-use Rattle.grammar_names.proofs.Names.{IsTdlName}
-use Rattle.grammar_names.proofs.Plain.{glb_named}
-use Rattle.grammar_names.proofs.Statements.{AllNames, StatementNamed}
-use Rattle.grammar_names.proofs.Walked.{AllPlaced, WalkedNamed}
+use Rattle.mrs_lines.proofs.Names.{IsTdlName}
+use Rattle.mrs_lines.proofs.Plain.{glb_named}
+use Rattle.mrs_lines.proofs.Statements.{AllNames, StatementNamed}
+use Rattle.mrs_lines.proofs.Walked.{AllPlaced, WalkedNamed}
 
 all_both : (ns ms : List Name) → AllNames ns → AllNames ms → AllNames (ns ++ ms)
 all_both [] ms h k = k

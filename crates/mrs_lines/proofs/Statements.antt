@@ -3,8 +3,8 @@ use Rattle.std.proofs.Common.{ℕ, List, [], ◌∷◌, ◌++◌}
 use Rattle.tdl_reader.specs.Grammar.{SpellsPath, one_name, more_names, SpellsTerm, name, text, symbol, coref, empty_avm, avm, empty_list, open_list, list, empty_diff, diff, SpellsBody, one_term, more_terms, SpellsAttrs, one_attr, and_attr, SpellsItems, one_item, and_item, SpellsEnd, nothing_more, and_open, and_tail, SpellsStatement, define, add, begin_types, begin_instances, end_types, end_instances, include_file, letter_set, dotted_letter_set, SpellsFile, no_statements, more_statements}
 use Rattle.tdl_reader.specs.Toks.{Tok}
 use Rattle.tdl_reader.specs.Trees.{TermTree, of_name, of_text, of_coref, of_avm, of_list, of_diff, BodyTree, no_terms, and_term, AttrTrees, no_attrs, more_attrs, ItemTrees, no_items, more_items, RestTree, closed, open_end, tail_of, SetTree, StatementTree, defines, adds}
-use Rattle.grammar_names.proofs.Names.{IsTdlName}
-use Rattle.grammar_names.proofs.Tokens.{AllGood, good_parts, value_named}
+use Rattle.mrs_lines.proofs.Names.{IsTdlName}
+use Rattle.mrs_lines.proofs.Tokens.{AllGood, good_parts, value_named}
 
 abbrev pub AllNames : List (List ℕ) → Type 0
 AllNames [] = Unit {0}
