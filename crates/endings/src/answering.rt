@@ -35,38 +35,11 @@ impl<'c, C: Answers> Work<Vec<u8>, Option<Answer>> for LineWork<'c, C> {
     ) -> Result<Option<Answer>, AllocError> {
         // (the gate was told of the line, and isn't told of what is done within it)
         let number = self.number + place;
-        Ok(told_by(
-            rt,
-            alloc,
-            self.command,
-            number,
-            line,
-            Share::Single,
-            &OpenGate,
-        ))
+        Ok(told_by_one(rt, alloc, self.command, number, line))
     }
 }
 
-// The answer to a line by this share of the workers, or nothing where memory is wanting.
-fn told_by<C: Answers, Rt: Threads + Wait + Sync>(
-    rt: &Rt,
-    alloc: Global,
-    command: &C,
-    number: u64,
-    line: &[u8],
-    share: Share,
-    gate: &dyn Gate,
-) -> Option<Answer>
-    requires ready { C.ready command.now }
-    ensures { IsTold (C.IsAnswer command.now) (C.IsNote command.now) number line.now result }
-{
-    match command.answer(rt, alloc, number, line, share, gate) {
-        Ok(answer) => Some(answer),
-        Err(NoMemory) => None,
-    }
-}
-
-// The answer to a line by one worker, who tells no gate of it.
+// The answer to a line by one worker, who tells no gate of it, or nothing where memory is wanting.
 fn told_by_one<C: Answers, Rt: Threads + Wait + Sync>(
     rt: &Rt,
     alloc: Global,
@@ -77,7 +50,10 @@ fn told_by_one<C: Answers, Rt: Threads + Wait + Sync>(
     requires ready { C.ready command.now }
     ensures { IsTold (C.IsAnswer command.now) (C.IsNote command.now) number line.now result }
 {
-    told_by(rt, alloc, command, number, line, Share::Single, &OpenGate)
+    match command.answer(rt, alloc, number, line, Share::Single, &OpenGate) {
+        Ok(answer) => Some(answer),
+        Err(NoMemory) => None,
+    }
 }
 
 // The answer to a line that comes alone. It has all workers first, and where memory is wanting so, one alone.
@@ -92,9 +68,11 @@ fn told_alone<C: Answers, Rt: Threads + Wait + Sync>(
     requires ready { C.ready command.now }
     ensures { IsTold (C.IsAnswer command.now) (C.IsNote command.now) number line.now result }
 {
-    let told = told_by(rt, alloc, command, number, line, Share::Whole, gate);
-    if told.is_some() || command.workers() == 1 {
-        return told;
+    if let Ok(answer) = command.answer(rt, alloc, number, line, Share::Whole, gate) {
+        return Some(answer);
+    }
+    if command.workers() == 1 {
+        return None;
     }
     told_by_one(rt, alloc, command, number, line)
 }

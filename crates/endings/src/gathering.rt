@@ -7,6 +7,13 @@ ghost use Rattle.endings.specs.Inner.Batches.{Gathered, ReadsSome};
 use lkb_io::{Held, LineFault, Source, read_line};
 use std::alloc::Global;
 
+/// Lines that are answered together, the first of this number.
+#[derive(Clone, Copy)]
+pub(crate) struct Batch<'l> {
+    pub(crate) number: u64,
+    pub(crate) lines: &'l [Vec<u8>],
+}
+
 // Adds a line.
 fn keep_line(lines: &mut Vec<Vec<u8>>, line: Vec<u8>) -> Result<(), LineFault>
     ensures kept { OnOk result (lines.new.items ≡ lines.old.items ++ line ∷ []) }

@@ -6,7 +6,7 @@ ghost use Rattle.endings.specs.Inner.Batches.{Ends, IsFlag, ServedBatch, Told};
 
 use crate::Stop;
 use crate::answering::answer_in_turn;
-use crate::gathering::read_batch;
+use crate::gathering::{Batch, read_batch};
 use crate::kept::{Kept, either, ended, flush_before_read, nothing_kept};
 use crate::lines::Answers;
 use crate::pieces::flush_at_stop;
@@ -17,34 +17,31 @@ use std::sync::Wait;
 use std::thread::Threads;
 use worker_gate::Gate;
 
-// Answers some lines, the first of this number, and sets the pace by it. `Ok` tells whether one is refused.
+// Answers some lines, and sets the pace by it. `Ok` tells whether one is refused.
 fn serve_batch<C: Answers, O: Sink, Rt: Threads + Wait + Sync>(
     rt: &Rt,
-    alloc: Global,
     command: &C,
-    number: u64,
-    lines: &[Vec<u8>],
+    batch: &Batch<'_>,
     kept: &mut Kept,
     out: &mut O,
     gate: &dyn Gate,
 ) -> Result<bool, Stop>
     requires ready { C.ready command.now }
-    requires room { number + length lines.now ≤ 2 ^ 64 }
-    ensures outcome { ServedBatch (C.IsAnswer command.now) number (map (λ l. l.items) lines.now) (O.written out.old) (O.written out.new) (O.faults out.old) (O.faults out.new)
+    requires room { batch.now.number + length batch.now.lines.now ≤ 2 ^ 64 }
+    ensures outcome { ServedBatch (C.IsAnswer command.now) batch.now.number (map (λ l. l.items) batch.now.lines.now) (O.written out.old) (O.written out.new) (O.faults out.old) (O.faults out.new)
         kept.old.wanting kept.new.wanting result }
     ensures no_fall { O.faults out.old ≤ O.faults out.new }
 {
-    let told = answer_in_turn(rt, alloc, command, number, lines, gate)?;
+    let told = answer_in_turn(rt, kept.alloc, command, batch.number, batch.lines, gate)?;
     kept.pace.heed(&told);
     kept.wanting = either(kept.wanting, is_one_wanting(&told));
-    put_told(out, number, &told, &mut kept.note)?;
+    put_told(out, batch.number, &told, &mut kept.note)?;
     Ok(is_one_refused(&told))
 }
 
 // Answers all lines of the source, and flushes the sink at the end and before the source is asked for more.
 fn serve_lines<C: Answers, I: Source, O: Sink, Rt: Threads + Wait + Sync>(
     rt: &Rt,
-    alloc: Global,
     command: &C,
     input: &mut I,
     out: &mut O,
@@ -57,6 +54,7 @@ fn serve_lines<C: Answers, I: Source, O: Sink, Rt: Threads + Wait + Sync>(
         × Ends (Told (C.IsAnswer command.now) wanting) (streams I.left I.faults O.written O.flushed O.faults input.old input.new out.old out.new) result }
     ensures no_fall { O.faults out.old ≤ O.faults out.new }
 {
+    let alloc = kept.alloc;
     let mut held = Held::new(alloc);
     let mut refused = false;
     let mut count = 0;
@@ -71,7 +69,11 @@ fn serve_lines<C: Answers, I: Source, O: Sink, Rt: Threads + Wait + Sync>(
             kept.pace.lines().min(u64::MAX - count),
             &mut lines,
         );
-        let batch_refused = serve_batch(rt, alloc, command, count + 1, &lines, kept, out, gate)?;
+        let batch = Batch {
+            number: count + 1,
+            lines: &lines,
+        };
+        let batch_refused = serve_batch(rt, command, &batch, kept, out, gate)?;
         refused = refused || batch_refused;
         let came = read?;
         if came == 0 {
@@ -100,7 +102,7 @@ pub fn serve_in_turn<C: Answers, I: Source, O: Sink, Rt: Threads + Wait + Sync>(
         flush_at_stop(out);
         return Err(Stop::NoMemory);
     };
-    let end = serve_lines(rt, alloc, command, input, out, &mut kept, gate);
+    let end = serve_lines(rt, command, input, out, &mut kept, gate);
     match end {
         Ok(refused) => ended(Ok(refused), kept.wanting),
         Err(stop) => {

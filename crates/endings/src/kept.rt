@@ -9,10 +9,11 @@ use crate::pace::Pace;
 use lkb_io::{Failed, Held, Sink};
 use std::alloc::Global;
 
-/// What is kept from one batch of lines to the next: their pace, whether memory was wanting for an item, and room for the line that tells
-/// it, so that telling it takes none.
+/// What is kept from one batch of lines to the next: the allocator, their pace, whether memory was wanting for an item, and room for the line
+/// that tells it, so that telling it takes none.
 #[derive(Drop)]
 pub(crate) struct Kept {
+    pub(crate) alloc: Global,
     pub(crate) pace: Pace,
     pub(crate) wanting: bool,
     pub(crate) note: Vec<u8>,
@@ -29,6 +30,7 @@ pub(crate) fn nothing_kept(alloc: Global, workers: u32) -> Result<Kept, NoMemory
     ensures failed { IfOk result (λ k. k.failed ≡ false) }
 {
     Ok(Kept {
+        alloc,
         pace: Pace::new(workers),
         wanting: false,
         note: Vec::with_capacity(alloc, NOTE_BYTES)?,

@@ -26,7 +26,6 @@ pub mod plain;
 mod telling;
 
 use lkb_io::{Failed, Shelf, Sink, Source, put_all};
-use std::alloc::Global;
 use std::sync::Wait;
 use std::thread::Threads;
 use worker_gate::Gate;
@@ -122,11 +121,11 @@ pub trait Command {
     fn lawful(&self)
         ensures { Lawful (meaning self.now) };
 
-    /// Does what the command says, and tells on `err` the notes on lines, if it has any. `Ok` tells whether something is refused.
+    /// Does what the command says, and tells on `err` the notes on lines, if it has any. `Ok` tells whether something is refused. The command
+    /// has its allocator.
     fn perform<S: Shelf, I: Source, O: Sink, X: Sink, Rt: Threads + Wait + Sync>(
         &self,
         rt: &Rt,
-        alloc: Global,
         shelf: &mut S,
         input: &mut I,
         out: &mut O,
@@ -211,7 +210,6 @@ pub fn conclude<X: Sink>(err: &mut X, end: &Result<bool, Fault>) -> Status
 /// `err` itself changes nothing. What the workers are, and when the gate lets them go on, no clause names.
 pub fn run_command<C: Command, S: Shelf, I: Source, O: Sink, X: Sink, Rt: Threads + Wait + Sync>(
     rt: &Rt,
-    alloc: Global,
     command: &C,
     shelf: &mut S,
     input: &mut I,
@@ -297,6 +295,6 @@ pub fn run_command<C: Command, S: Shelf, I: Source, O: Sink, X: Sink, Rt: Thread
         → (C.meaning command.now).notes (Some files) false lines text → (C.meaning command.now).notes (Some files) false lines other → text ≡ other }
 {
     command.lawful();
-    let end = command.perform(rt, alloc, shelf, input, out, err, gate);
+    let end = command.perform(rt, shelf, input, out, err, gate);
     conclude(err, &end)
 }

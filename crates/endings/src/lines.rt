@@ -8,7 +8,7 @@ ghost use Rattle.endings.specs.Inner.Batches.{Ends, EndNotes, IsFlag, IsNotedSoF
 
 use crate::Stop;
 use crate::answering::answer_apart;
-use crate::gathering::read_batch;
+use crate::gathering::{Batch, read_batch};
 use crate::kept::{Kept, either, ended, flush_before_read, nothing_kept};
 use crate::noting::{Nobody, put_notes};
 use crate::pieces::{Report, flush_at_stop};
@@ -101,32 +101,30 @@ impl From<NoMemory> for Stop {
     }
 }
 
-// Answers some lines, the first of this number, and sets the pace by it. `Ok` tells whether one is refused.
+// Answers some lines, and sets the pace by it. `Ok` tells whether one is refused.
 fn serve_batch<C: Answers + Sync, O: Sink, X: Sink, Rt: Threads + Wait + Sync>(
     rt: &Rt,
-    alloc: Global,
     command: &C,
-    number: u64,
-    lines: &[Vec<u8>],
+    batch: &Batch<'_>,
     kept: &mut Kept,
     out: &mut O,
     err: &mut X,
     gate: &dyn Gate,
 ) -> Result<bool, Stop>
     requires ready { C.ready command.now }
-    requires room { number + length lines.now ≤ 2 ^ 64 }
-    ensures outcome { ServedBatch (C.IsAnswer command.now) number (map (λ l. l.items) lines.now) (O.written out.old) (O.written out.new) (O.faults out.old) (O.faults out.new)
+    requires room { batch.now.number + length batch.now.lines.now ≤ 2 ^ 64 }
+    ensures outcome { ServedBatch (C.IsAnswer command.now) batch.now.number (map (λ l. l.items) batch.now.lines.now) (O.written out.old) (O.written out.new) (O.faults out.old) (O.faults out.new)
         kept.old.wanting kept.new.wanting result }
     ensures no_fall { O.faults out.old ≤ O.faults out.new }
     ensures held { kept.old.wanting ≡ true → kept.new.wanting ≡ true }
-    ensures noted { IfOk result (λ _. (text : List ℕ) × AreNotes (OrNone kept.new.wanting (C.IsNote command.now)) number (map (λ l. l.items) lines.now) text
+    ensures noted { IfOk result (λ _. (text : List ℕ) × AreNotes (OrNone kept.new.wanting (C.IsNote command.now)) batch.now.number (map (λ l. l.items) batch.now.lines.now) text
         × TellsMore kept.old.failed kept.new.failed (X.written err.old) (X.written err.new) (X.faults err.old) (X.faults err.new) text) }
     ensures unnoted { OnErr result ((err.new ≡ err.old) × (kept.new.failed ≡ kept.old.failed)) }
 {
-    let told = answer_apart(rt, alloc, command, number, lines, gate)?;
+    let told = answer_apart(rt, kept.alloc, command, batch.number, batch.lines, gate)?;
     kept.pace.heed(&told);
     kept.wanting = either(kept.wanting, is_one_wanting(&told));
-    put_told(out, number, &told, &mut kept.note)?;
+    put_told(out, batch.number, &told, &mut kept.note)?;
     put_notes(err, &told, &mut kept.failed);
     Ok(is_one_refused(&told))
 }
@@ -134,7 +132,6 @@ fn serve_batch<C: Answers + Sync, O: Sink, X: Sink, Rt: Threads + Wait + Sync>(
 // Answers all lines of the source, and flushes the sink at the end and before the source is asked for more.
 fn serve_lines<C: Answers + Sync, I: Source, O: Sink, X: Sink, Rt: Threads + Wait + Sync>(
     rt: &Rt,
-    alloc: Global,
     command: &C,
     input: &mut I,
     out: &mut O,
@@ -151,6 +148,7 @@ fn serve_lines<C: Answers + Sync, I: Source, O: Sink, X: Sink, Rt: Threads + Wai
     ensures noted { (text : List ℕ) × EndNotes (AreNotes (OrNone kept.new.wanting (C.IsNote command.now)) 1) (I.left input.old) (I.left input.new) text result
         × IsNotedSoFar kept.new.failed (X.written err.old) (X.written err.new) (X.faults err.old) (X.faults err.new) text }
 {
+    let alloc = kept.alloc;
     let mut held = Held::new(alloc);
     let mut refused = false;
     let mut count = 0;
@@ -165,17 +163,11 @@ fn serve_lines<C: Answers + Sync, I: Source, O: Sink, X: Sink, Rt: Threads + Wai
             kept.pace.lines().min(u64::MAX - count),
             &mut lines,
         );
-        let batch_refused = serve_batch(
-            rt,
-            alloc,
-            command,
-            count + 1,
-            &lines,
-            kept,
-            out,
-            err,
-            gate,
-        )?;
+        let batch = Batch {
+            number: count + 1,
+            lines: &lines,
+        };
+        let batch_refused = serve_batch(rt, command, &batch, kept, out, err, gate)?;
         refused = refused || batch_refused;
         let came = read?;
         if came == 0 {
@@ -209,7 +201,7 @@ pub fn serve_noted<C: Answers + Sync, I: Source, O: Sink, X: Sink, Rt: Threads +
         flush_at_stop(out);
         return Err(Stop::NoMemory);
     };
-    let end = serve_lines(rt, alloc, command, input, out, err, &mut kept, gate);
+    let end = serve_lines(rt, command, input, out, err, &mut kept, gate);
     match end {
         Ok(refused) => ended(Ok(refused), kept.wanting),
         Err(stop) => {

@@ -4,7 +4,6 @@ ghost use Rattle.std.specs.Prelude.{◌≡◌};
 use crate::pieces::say;
 use crate::{Command, Fault};
 use lkb_io::{Shelf, Sink, Source};
-use std::alloc::Global;
 use std::sync::Wait;
 use std::thread::Threads;
 use worker_gate::Gate;
@@ -25,7 +24,6 @@ impl Command for Plain {
     fn perform<S: Shelf, I: Source, O: Sink, X: Sink, Rt: Threads + Wait + Sync>(
         &self,
         _rt: &Rt,
-        _alloc: Global,
         _shelf: &mut S,
         _input: &mut I,
         out: &mut O,

@@ -34,11 +34,13 @@ pub trait Use<A, B, C> {
     /// What is given, by the grammar and as its lines see it, of three things as they were and as they are left.
     ghost Gives: { Self → GrammarTree → Speech → A → A → B → B → C → C → Self.Out → Type 0 };
 
+    /// The allocator from which memory is taken for it, and for the engine.
+    fn allocator(&self) -> Global;
+
     /// Does it, with an engine that is ready.
     fn run<Rt: Threads + Wait + Sync>(
         &self,
         rt: &Rt,
-        alloc: Global,
         engine: &Engine<'_, '_, '_>,
         a: &mut A,
         b: &mut B,
@@ -81,13 +83,25 @@ fn parts_of<'x>(
     })
 }
 
+// A grammar with its signs.
+#[derive(Clone, Copy)]
+struct Signed<'x> {
+    grammar: &'x Grammar,
+    signs: &'x SignBook<'x>,
+}
+
+// What an engine is made of: a grammar, its signs, and what is made of them.
+#[derive(Clone, Copy)]
+struct Made<'x, 'y> {
+    grammar: &'x Grammar,
+    signs: &'x SignBook<'y>,
+    parts: &'x Parts<'y>,
+}
+
 // Lends what was made, with a memory for lines. What that is made of has one lifetime, so that it is let go as a whole.
 fn with_parts<'x, A, B, C, U: Use<A, B, C>, Rt: Threads + Wait + Sync>(
     rt: &Rt,
-    alloc: Global,
-    grammar: &'x Grammar,
-    signs: &'x SignBook<'x>,
-    parts: &'x Parts<'x>,
+    made: &Made<'x, 'x>,
     job: &U,
     a: &mut A,
     b: &mut B,
@@ -95,20 +109,23 @@ fn with_parts<'x, A, B, C, U: Use<A, B, C>, Rt: Threads + Wait + Sync>(
     gate: &dyn Gate,
 ) -> Result<U::Out, NoMemory>
     requires sync { IsSync Rt.row }
-    requires loaded { IsLoaded (grammar_of grammar.now) }
-    requires fits { IsWellNamed (grammar_of grammar.now) }
-    requires book { signs.now.book ≡ grammar.now.book }
-    requires shapes { AreShapesOf signs.now parts.now.shapes }
-    requires feeds { AreFeedsOf signs.now parts.now.feeds }
-    requires paths { paths_of parts.now.paths ≡ mrs_paths_of (grammar_of grammar.now) }
+    requires loaded { IsLoaded (grammar_of made.now.grammar.now) }
+    requires fits { IsWellNamed (grammar_of made.now.grammar.now) }
+    requires book { made.now.signs.now.book ≡ made.now.grammar.now.book }
+    requires shapes { AreShapesOf made.now.signs.now made.now.parts.now.shapes }
+    requires feeds { AreFeedsOf made.now.signs.now made.now.parts.now.feeds }
+    requires paths { paths_of made.now.parts.now.paths ≡ mrs_paths_of (grammar_of made.now.grammar.now) }
     ensures none { OnErr result ((a.new ≡ a.old) × (b.new ≡ b.old) × (c.new ≡ c.old)) }
-    ensures given { IfOk result (λ out. (speech : Speech) × IsSpeechOf (grammar_of grammar.now) speech
-        × U.Gives job.now (grammar_of grammar.now) speech a.old a.new b.old b.new c.old c.new out) }
+    ensures given { IfOk result (λ out. (speech : Speech) × IsSpeechOf (grammar_of made.now.grammar.now) speech
+        × U.Gives job.now (grammar_of made.now.grammar.now) speech a.old a.new b.old b.new c.old c.new out) }
 {
+    let alloc = job.allocator();
+    let signs = made.signs;
+    let parts = made.parts;
     let shapes = run_shapes(alloc, &parts.shapes)?;
     let shared = RunMemory::new(alloc, signs, &parts.shapes)?;
     let engine = Engine {
-        grammar,
+        grammar: made.grammar,
         signs,
         shapes: &shapes,
         shared: &shared,
@@ -116,16 +133,13 @@ fn with_parts<'x, A, B, C, U: Use<A, B, C>, Rt: Threads + Wait + Sync>(
         paths: &parts.paths,
     };
     engine.laws();
-    Ok(job.run(rt, alloc, &engine, a, b, c, gate))
+    Ok(job.run(rt, &engine, a, b, c, gate))
 }
 
 // The same where what is lent was made at another lifetime.
 fn with_lent<'x, 'y, A, B, C, U: Use<A, B, C>, Rt: Threads + Wait + Sync>(
     rt: &Rt,
-    alloc: Global,
-    grammar: &'x Grammar,
-    signs: &'x SignBook<'y>,
-    parts: &'x Parts<'y>,
+    lent: &Made<'x, 'y>,
     job: &U,
     a: &mut A,
     b: &mut B,
@@ -133,25 +147,28 @@ fn with_lent<'x, 'y, A, B, C, U: Use<A, B, C>, Rt: Threads + Wait + Sync>(
     gate: &dyn Gate,
 ) -> Result<U::Out, NoMemory>
     requires sync { IsSync Rt.row }
-    requires loaded { IsLoaded (grammar_of grammar.now) }
-    requires fits { IsWellNamed (grammar_of grammar.now) }
-    requires book { signs.now.book ≡ grammar.now.book }
-    requires shapes { AreShapesOf signs.now parts.now.shapes }
-    requires feeds { AreFeedsOf signs.now parts.now.feeds }
-    requires paths { paths_of parts.now.paths ≡ mrs_paths_of (grammar_of grammar.now) }
+    requires loaded { IsLoaded (grammar_of lent.now.grammar.now) }
+    requires fits { IsWellNamed (grammar_of lent.now.grammar.now) }
+    requires book { lent.now.signs.now.book ≡ lent.now.grammar.now.book }
+    requires shapes { AreShapesOf lent.now.signs.now lent.now.parts.now.shapes }
+    requires feeds { AreFeedsOf lent.now.signs.now lent.now.parts.now.feeds }
+    requires paths { paths_of lent.now.parts.now.paths ≡ mrs_paths_of (grammar_of lent.now.grammar.now) }
     ensures none { OnErr result ((a.new ≡ a.old) × (b.new ≡ b.old) × (c.new ≡ c.old)) }
-    ensures given { IfOk result (λ out. (speech : Speech) × IsSpeechOf (grammar_of grammar.now) speech
-        × U.Gives job.now (grammar_of grammar.now) speech a.old a.new b.old b.new c.old c.new out) }
+    ensures given { IfOk result (λ out. (speech : Speech) × IsSpeechOf (grammar_of lent.now.grammar.now) speech
+        × U.Gives job.now (grammar_of lent.now.grammar.now) speech a.old a.new b.old b.new c.old c.new out) }
 {
-    with_parts(rt, alloc, grammar, &*signs, &*parts, job, a, b, c, gate)
+    let made = Made {
+        grammar: lent.grammar,
+        signs: &*lent.signs,
+        parts: &*lent.parts,
+    };
+    with_parts(rt, &made, job, a, b, c, gate)
 }
 
 // The same with what is made here of signs.
 fn with_signs<'x, A, B, C, U: Use<A, B, C>, Rt: Threads + Wait + Sync>(
     rt: &Rt,
-    alloc: Global,
-    grammar: &'x Grammar,
-    signs: &'x SignBook<'x>,
+    signed: &Signed<'x>,
     job: &U,
     a: &mut A,
     b: &mut B,
@@ -159,22 +176,26 @@ fn with_signs<'x, A, B, C, U: Use<A, B, C>, Rt: Threads + Wait + Sync>(
     gate: &dyn Gate,
 ) -> Result<U::Out, NoMemory>
     requires sync { IsSync Rt.row }
-    requires loaded { IsLoaded (grammar_of grammar.now) }
-    requires fits { IsWellNamed (grammar_of grammar.now) }
-    requires book { signs.now.book ≡ grammar.now.book }
+    requires loaded { IsLoaded (grammar_of signed.now.grammar.now) }
+    requires fits { IsWellNamed (grammar_of signed.now.grammar.now) }
+    requires book { signed.now.signs.now.book ≡ signed.now.grammar.now.book }
     ensures none { OnErr result ((a.new ≡ a.old) × (b.new ≡ b.old) × (c.new ≡ c.old)) }
-    ensures given { IfOk result (λ out. (speech : Speech) × IsSpeechOf (grammar_of grammar.now) speech
-        × U.Gives job.now (grammar_of grammar.now) speech a.old a.new b.old b.new c.old c.new out) }
+    ensures given { IfOk result (λ out. (speech : Speech) × IsSpeechOf (grammar_of signed.now.grammar.now) speech
+        × U.Gives job.now (grammar_of signed.now.grammar.now) speech a.old a.new b.old b.new c.old c.new out) }
 {
-    let parts = parts_of(alloc, grammar, signs)?;
-    with_lent(rt, alloc, grammar, &*signs, &parts, job, a, b, c, gate)
+    let parts = parts_of(job.allocator(), signed.grammar, signed.signs)?;
+    let made = Made {
+        grammar: signed.grammar,
+        signs: &*signed.signs,
+        parts: &parts,
+    };
+    with_lent(rt, &made, job, a, b, c, gate)
 }
 
 /// Makes an engine of a grammar, once, and lends it to a job, which is told what it may change. `NoMemory` comes where memory is wanting
 /// before the job begins; nothing has changed then.
 pub fn with_engine<A, B, C, U: Use<A, B, C>, Rt: Threads + Wait + Sync>(
     rt: &Rt,
-    alloc: Global,
     grammar: &Grammar,
     job: &U,
     a: &mut A,
@@ -190,8 +211,13 @@ pub fn with_engine<A, B, C, U: Use<A, B, C>, Rt: Threads + Wait + Sync>(
     ensures given { IfOk result (λ out. (speech : Speech) × IsSpeechOf (grammar_of grammar.now) speech
         × U.Gives job.now (grammar_of grammar.now) speech a.old a.new b.old b.new c.old c.new out) }
 {
+    let alloc = job.allocator();
     let Ok(signs) = SignBook::make(alloc, &grammar.book) else {
         return Err(NoMemory);
     };
-    with_signs(rt, alloc, grammar, &signs, job, a, b, c, gate)
+    let signed = Signed {
+        grammar,
+        signs: &signs,
+    };
+    with_signs(rt, &signed, job, a, b, c, gate)
 }

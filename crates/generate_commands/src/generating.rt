@@ -25,6 +25,8 @@ use worker_gate::Gate;
 /// `generate`: the answers to lines that write MRSs, with the grammar of this name under the settings of the file of that name.
 #[derive(Clone, Copy)]
 pub struct Generate<'a> {
+    /// The allocator from which memory is taken.
+    pub alloc: Global,
     pub grammar: &'a str,
     pub settings: Option<&'a str>,
     /// The limits, each in its range; `empty` is the most empty words of a sentence.
@@ -39,7 +41,6 @@ pub struct Generate<'a> {
 /// grammar, then line by line: read, answer, write.
 pub fn generate_lines<S: Shelf, I: Source, O: Sink, Rt: Threads + Wait + Sync>(
     rt: &Rt,
-    alloc: Global,
     command: &Generate<'_>,
     shelf: &mut S,
     input: &mut I,
@@ -54,18 +55,19 @@ pub fn generate_lines<S: Shelf, I: Source, O: Sink, Rt: Threads + Wait + Sync>(
     whole_book();
     loaded_names();
     let grammar = load_grammar(
-        alloc,
+        command.alloc,
         shelf,
         command.grammar,
         command.settings,
         command.verbose,
     )?;
     let job = AllLines {
+        alloc: command.alloc,
         limits: command.limits,
         workers: command.workers,
     };
     let mut nothing = ();
-    match with_engine(rt, alloc, &grammar, &job, input, out, &mut nothing, gate) {
+    match with_engine(rt, &grammar, &job, input, out, &mut nothing, gate) {
         Ok(Ok(refused)) => Ok(refused),
         Ok(Err(stop)) => Err(Fault::Stopped(stop)),
         Err(_) => Err(Fault::Stopped(Stop::NoMemory)),

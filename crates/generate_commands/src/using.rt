@@ -20,6 +20,7 @@ use worker_gate::Gate;
 /// All lines of a source, under these limits and by so many workers.
 #[derive(Drop)]
 pub(crate) struct AllLines {
+    pub(crate) alloc: Global,
     pub(crate) limits: Limits,
     pub(crate) workers: u32,
     ghost in_range: { InRange limits },
@@ -35,17 +36,20 @@ impl<I: Source, O: Sink, X> Use<I, O, X> for AllLines {
 
     ghost Gives = { λ job g speech input left out written none nothing end. IsServedBy g speech (bounds_with job.limits) (streams I.left I.faults O.written O.flushed O.faults input left out written) end };
 
+    fn allocator(&self) -> Global {
+        self.alloc
+    }
+
     fn run<Rt: Threads + Wait + Sync>(
         &self,
         rt: &Rt,
-        alloc: Global,
         engine: &Engine<'_, '_, '_>,
         input: &mut I,
         out: &mut O,
         _nothing: &mut X,
         gate: &dyn Gate,
     ) -> Result<bool, Stop> {
-        let Ok(given) = contributions_of(alloc, engine, self.limits.lexical) else {
+        let Ok(given) = contributions_of(self.alloc, engine, self.limits.lexical) else {
             flush_at_stop(out);
             return Err(Stop::NoMemory);
         };
@@ -54,10 +58,10 @@ impl<I: Source, O: Sink, X> Use<I, O, X> for AllLines {
             contributors: &given.contributors,
             c_cont: &given.c_cont,
             limits: self.limits,
-            desks: Desks::new(alloc, self.workers),
+            desks: Desks::new(self.alloc, self.workers),
         };
         // (what a grammar's lexical trees contribute isn't shown to be fit for threads that share it, since trees are of a type that reaches
         // itself; so MRSs aren't answered side by side, as the lines of `parse` are)
-        serve_in_turn(rt, alloc, &generator, input, out, gate)
+        serve_in_turn(rt, self.alloc, &generator, input, out, gate)
     }
 }

@@ -33,6 +33,8 @@ use worker_gate::Gate;
 /// `chart`: the packed forests of lines, with the grammar of this name under the settings of the file of that name.
 #[derive(Clone, Copy)]
 pub struct Chart<'a> {
+    /// The allocator from which memory is taken.
+    pub alloc: Global,
     pub grammar: &'a str,
     pub settings: Option<&'a str>,
     /// The limits, each in its range. Nothing is unpacked, so that the limit on readings is never broken.
@@ -48,6 +50,7 @@ pub struct Chart<'a> {
 // What `chart` does with an engine: it answers the lines of a source to a sink.
 #[derive(Drop)]
 struct Charting {
+    alloc: Global,
     limits: Limits,
     workers: u32,
     lattice: bool,
@@ -67,10 +70,13 @@ impl<I: Source, O: Sink, X> Use<I, O, X> for Charting {
         (AreAnswers (OrNoMemory (IsChartLine g.book.system.types (texts g.book.feats.items) speech (limits_in job.limits) job.limits.lexical job.lattice)) 1)
         (streams I.left I.faults O.written O.flushed O.faults input_old input_new out_old out_new) end };
 
+    fn allocator(&self) -> Global {
+        self.alloc
+    }
+
     fn run<Rt: Threads + Wait + Sync>(
         &self,
         rt: &Rt,
-        alloc: Global,
         engine: &Engine<'_, '_, '_>,
         a: &mut I,
         b: &mut O,
@@ -81,16 +87,15 @@ impl<I: Source, O: Sink, X> Use<I, O, X> for Charting {
             engine: *engine,
             limits: self.limits,
             lattice: self.lattice,
-            desks: Desks::new(alloc, self.workers),
+            desks: Desks::new(self.alloc, self.workers),
         };
-        serve(rt, alloc, &charter, a, b, gate)
+        serve(rt, self.alloc, &charter, a, b, gate)
     }
 }
 
 // Answers all lines of the source with a grammar.
 fn chart_with<I: Source, O: Sink, Rt: Threads + Wait + Sync>(
     rt: &Rt,
-    alloc: Global,
     command: &Chart<'_>,
     grammar: &Grammar,
     input: &mut I,
@@ -107,12 +112,13 @@ fn chart_with<I: Source, O: Sink, Rt: Threads + Wait + Sync>(
         (streams I.left I.faults O.written O.flushed O.faults input.old input.new out.old out.new) (input.new ≡ input.old) ((input.new ≡ input.old) × (out.new ≡ out.old)) result }
 {
     let job = Charting {
+        alloc: command.alloc,
         limits: command.limits,
         workers: command.workers,
         lattice: command.lattice,
     };
     let mut nothing = ();
-    match with_engine(rt, alloc, grammar, &job, input, out, &mut nothing, gate) {
+    match with_engine(rt, grammar, &job, input, out, &mut nothing, gate) {
         Ok(Ok(refused)) => Ok(refused),
         Ok(Err(stop)) => Err(Fault::Stopped(stop)),
         Err(_) => Err(Fault::Stopped(Stop::NoMemory)),
@@ -123,7 +129,6 @@ fn chart_with<I: Source, O: Sink, Rt: Threads + Wait + Sync>(
 /// grammar, then line by line: read, answer, write.
 pub fn chart_lines<S: Shelf, I: Source, O: Sink, Rt: Threads + Wait + Sync>(
     rt: &Rt,
-    alloc: Global,
     command: &Chart<'_>,
     shelf: &mut S,
     input: &mut I,
@@ -138,11 +143,11 @@ pub fn chart_lines<S: Shelf, I: Source, O: Sink, Rt: Threads + Wait + Sync>(
     whole_book();
     loaded_names();
     let grammar = load_grammar(
-        alloc,
+        command.alloc,
         shelf,
         command.grammar,
         command.settings,
         command.verbose,
     )?;
-    chart_with(rt, alloc, command, &grammar, input, out, gate)
+    chart_with(rt, command, &grammar, input, out, gate)
 }

@@ -33,6 +33,8 @@ use worker_gate::Gate;
 /// No limit is heeded.
 #[derive(Clone, Copy)]
 pub struct Explain<'a> {
+    /// The allocator from which memory is taken.
+    pub alloc: Global,
     pub grammar: &'a str,
     pub settings: Option<&'a str>,
     /// How many workers share the lines, 1 to 64. It changes no answer.
@@ -46,6 +48,7 @@ pub struct Explain<'a> {
 // What `explain` does with an engine: it answers the lines of a source to a sink.
 #[derive(Drop)]
 struct Explaining {
+    alloc: Global,
     workers: u32,
     mrs: bool,
     ghost crew: { IsCrewSize workers },
@@ -62,21 +65,24 @@ impl<I: Source, O: Sink, X> Use<I, O, X> for Explaining {
         (AreAnswers (OrNoMemory (IsExplainLine g.book.system.types (texts g.book.feats.items) speech job.mrs)) 1)
         (streams I.left I.faults O.written O.flushed O.faults input_old input_new out_old out_new) end };
 
+    fn allocator(&self) -> Global {
+        self.alloc
+    }
+
     fn run<Rt: Threads + Wait + Sync>(
         &self,
         rt: &Rt,
-        alloc: Global,
         engine: &Engine<'_, '_, '_>,
         a: &mut I,
         b: &mut O,
         _c: &mut X,
         gate: &dyn Gate,
     ) -> Result<bool, Stop> {
-        let Ok(names) = tree_names(alloc, engine.grammar, engine.signs) else {
+        let Ok(names) = tree_names(self.alloc, engine.grammar, engine.signs) else {
             flush_at_stop(b);
             return Err(Stop::NoMemory);
         };
-        let Ok(lines) = MrsMemory::new(alloc, engine.signs, engine.paths) else {
+        let Ok(lines) = MrsMemory::new(self.alloc, engine.signs, engine.paths) else {
             flush_at_stop(b);
             return Err(Stop::NoMemory);
         };
@@ -84,18 +90,17 @@ impl<I: Source, O: Sink, X> Use<I, O, X> for Explaining {
             engine: *engine,
             names,
             mrs: self.mrs,
-            desks: Desks::new(alloc, self.workers),
+            desks: Desks::new(self.alloc, self.workers),
             lines,
         };
         explainer.made();
-        serve(rt, alloc, &explainer, a, b, gate)
+        serve(rt, self.alloc, &explainer, a, b, gate)
     }
 }
 
 // Answers all lines of the source with a grammar.
 fn explain_with<I: Source, O: Sink, Rt: Threads + Wait + Sync>(
     rt: &Rt,
-    alloc: Global,
     command: &Explain<'_>,
     grammar: &Grammar,
     input: &mut I,
@@ -111,11 +116,12 @@ fn explain_with<I: Source, O: Sink, Rt: Threads + Wait + Sync>(
         (streams I.left I.faults O.written O.flushed O.faults input.old input.new out.old out.new) (input.new ≡ input.old) ((input.new ≡ input.old) × (out.new ≡ out.old)) result }
 {
     let job = Explaining {
+        alloc: command.alloc,
         workers: command.workers,
         mrs: command.mrs,
     };
     let mut nothing = ();
-    match with_engine(rt, alloc, grammar, &job, input, out, &mut nothing, gate) {
+    match with_engine(rt, grammar, &job, input, out, &mut nothing, gate) {
         Ok(Ok(refused)) => Ok(refused),
         Ok(Err(stop)) => Err(Fault::Stopped(stop)),
         Err(_) => Err(Fault::Stopped(Stop::NoMemory)),
@@ -126,7 +132,6 @@ fn explain_with<I: Source, O: Sink, Rt: Threads + Wait + Sync>(
 /// licensed. The order is: the grammar, then line by line: read, answer, write.
 pub fn explain_lines<S: Shelf, I: Source, O: Sink, Rt: Threads + Wait + Sync>(
     rt: &Rt,
-    alloc: Global,
     command: &Explain<'_>,
     shelf: &mut S,
     input: &mut I,
@@ -140,11 +145,11 @@ pub fn explain_lines<S: Shelf, I: Source, O: Sink, Rt: Threads + Wait + Sync>(
     whole_book();
     loaded_names();
     let grammar = load_grammar(
-        alloc,
+        command.alloc,
         shelf,
         command.grammar,
         command.settings,
         command.verbose,
     )?;
-    explain_with(rt, alloc, command, &grammar, input, out, gate)
+    explain_with(rt, command, &grammar, input, out, gate)
 }

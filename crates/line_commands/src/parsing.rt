@@ -35,6 +35,8 @@ use worker_gate::Gate;
 /// `parse`: the answers to lines, with the grammar of this name under the settings of the file of that name.
 #[derive(Clone, Copy)]
 pub struct Parse<'a> {
+    /// The allocator from which memory is taken.
+    pub alloc: Global,
     pub grammar: &'a str,
     pub settings: Option<&'a str>,
     /// The limits, each in its range.
@@ -52,6 +54,7 @@ pub struct Parse<'a> {
 // What `parse` does with an engine: it answers the lines of a source to a sink.
 #[derive(Drop)]
 struct Serving {
+    alloc: Global,
     limits: Limits,
     workers: u32,
     lattice: bool,
@@ -71,17 +74,20 @@ impl<I: Source, O: Sink, X: Sink> Use<I, O, X> for Serving {
     ghost Gives = { λ job grammar speech input_old input_new out_old out_new err_old err_new end. IsParsedBy speech (asked_with job.limits job.lattice job.mrs) job.verbose
         (streams I.left I.faults O.written O.flushed O.faults input_old input_new out_old out_new) (output X.written X.flushed X.faults err_old err_new) end };
 
+    fn allocator(&self) -> Global {
+        self.alloc
+    }
+
     fn run<Rt: Threads + Wait + Sync>(
         &self,
         rt: &Rt,
-        alloc: Global,
         engine: &Engine<'_, '_, '_>,
         a: &mut I,
         b: &mut O,
         c: &mut X,
         gate: &dyn Gate,
     ) -> Result<bool, Stop> {
-        let Ok(lines) = MrsMemory::new(alloc, engine.signs, engine.paths) else {
+        let Ok(lines) = MrsMemory::new(self.alloc, engine.signs, engine.paths) else {
             flush_at_stop(b);
             return Err(Stop::NoMemory);
         };
@@ -91,17 +97,16 @@ impl<I: Source, O: Sink, X: Sink> Use<I, O, X> for Serving {
             lattice: self.lattice,
             mrs: self.mrs,
             verbose: self.verbose,
-            desks: Desks::new(alloc, self.workers),
+            desks: Desks::new(self.alloc, self.workers),
             lines,
         };
-        serve_noted(rt, alloc, &parser, a, b, c, gate)
+        serve_noted(rt, self.alloc, &parser, a, b, c, gate)
     }
 }
 
 // Answers all lines of the source with a grammar.
 fn parse_with<I: Source, O: Sink, X: Sink, Rt: Threads + Wait + Sync>(
     rt: &Rt,
-    alloc: Global,
     command: &Parse<'_>,
     grammar: &Grammar,
     input: &mut I,
@@ -122,13 +127,14 @@ fn parse_with<I: Source, O: Sink, X: Sink, Rt: Threads + Wait + Sync>(
         (I.left input.old) (I.left input.new) (output X.written X.flushed X.faults err.old err.new) result }
 {
     let job = Serving {
+        alloc: command.alloc,
         limits: command.limits,
         workers: command.workers,
         lattice: command.lattice,
         mrs: command.mrs,
         verbose: command.verbose,
     };
-    match with_engine(rt, alloc, grammar, &job, input, out, err, gate) {
+    match with_engine(rt, grammar, &job, input, out, err, gate) {
         Ok(Ok(refused)) => Ok(refused),
         Ok(Err(stop)) => Err(Fault::Stopped(stop)),
         Err(_) => Err(Fault::Stopped(Stop::NoMemory)),
@@ -139,7 +145,6 @@ fn parse_with<I: Source, O: Sink, X: Sink, Rt: Threads + Wait + Sync>(
 /// grammar, then line by line: read, answer, write. The notes on lines are told on `err`, where they are asked for.
 pub fn parse_lines<S: Shelf, I: Source, O: Sink, X: Sink, Rt: Threads + Wait + Sync>(
     rt: &Rt,
-    alloc: Global,
     command: &Parse<'_>,
     shelf: &mut S,
     input: &mut I,
@@ -157,11 +162,11 @@ pub fn parse_lines<S: Shelf, I: Source, O: Sink, X: Sink, Rt: Threads + Wait + S
     whole_book();
     loaded_names();
     let grammar = load_grammar(
-        alloc,
+        command.alloc,
         shelf,
         command.grammar,
         command.settings,
         command.verbose,
     )?;
-    parse_with(rt, alloc, command, &grammar, input, out, err, gate)
+    parse_with(rt, command, &grammar, input, out, err, gate)
 }

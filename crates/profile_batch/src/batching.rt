@@ -46,6 +46,7 @@ use worker_gate::Gate;
 /// What is done with an engine: these items are judged within these limits, by so many workers.
 #[derive(Clone, Copy)]
 struct Items<'i> {
+    alloc: Global,
     items: &'i [ProfileItem],
     limits: Limits,
     workers: u32,
@@ -65,10 +66,13 @@ impl<X> Use<(), (), X> for Items<'_> {
 
     ghost Gives = { λ job g speech a b c d x y out. IfOk out (λ results. AreResultsOrGaps speech (limits_in job.limits) job.limits.lexical (map item_kept job.items.now) results.items) };
 
+    fn allocator(&self) -> Global {
+        self.alloc
+    }
+
     fn run<Rt: Threads + Wait + Sync>(
         &self,
         rt: &Rt,
-        alloc: Global,
         engine: &Engine<'_, '_, '_>,
         _a: &mut (),
         _b: &mut (),
@@ -78,9 +82,9 @@ impl<X> Use<(), (), X> for Items<'_> {
         let judge = Judge {
             engine: *engine,
             limits: self.limits,
-            desks: Desks::new(alloc, 1),
+            desks: Desks::new(self.alloc, 1),
         };
-        judge_all(rt, alloc, judge, self.items, self.workers, gate)
+        judge_all(rt, self.alloc, judge, self.items, self.workers, gate)
     }
 }
 
@@ -108,6 +112,7 @@ pub fn batch<Rt: Threads + Wait + Sync>(
         × AreResultsOrGaps speech (limits_in limits.now) limits.now.lexical (map item_kept items.now) results.items) }
 {
     let job = Items {
+        alloc,
         items,
         limits: *limits,
         workers,
@@ -117,7 +122,6 @@ pub fn batch<Rt: Threads + Wait + Sync>(
     let mut no_more = ();
     match with_engine(
         rt,
-        alloc,
         grammar,
         &job,
         &mut none,

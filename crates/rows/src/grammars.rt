@@ -53,6 +53,7 @@ fn defaults() -> Limits
 // The steps of some lines.
 #[derive(Clone, Copy)]
 struct Steps<'x> {
+    alloc: Global,
     text: &'x str,
 }
 
@@ -61,16 +62,20 @@ impl<X> Use<Vec<u8>, (), X> for Steps<'_> {
 
     ghost Gives = { λ _ _ _ _ _ _ _ _ _ _. Unit {0} };
 
+    fn allocator(&self) -> Global {
+        self.alloc
+    }
+
     fn run<R: Threads + Wait + Sync>(
         &self,
         rt: &R,
-        alloc: Global,
         engine: &Engine<'_, '_, '_>,
         out: &mut Vec<u8>,
         _nothing: &mut (),
         _no_more: &mut X,
         _gate: &dyn Gate,
     ) -> Result<(), AllocError> {
+        let alloc = self.alloc;
         let grammar = engine.grammar;
         let Ok(c_cont) = c_cont_path(alloc, &grammar.settings, &grammar.book.feats) else {
             return Err(AllocError);
@@ -129,12 +134,11 @@ fn show_with<R: Threads + Wait + Sync>(
     requires fits { IsWellNamed (grammar_of grammar.now) }
     requires whole { IsWhole grammar.now.book }
 {
-    let job = Steps { text: steps };
+    let job = Steps { alloc, text: steps };
     let mut nothing = ();
     let mut no_more = ();
     match with_engine(
         rt,
-        alloc,
         grammar,
         &job,
         out,

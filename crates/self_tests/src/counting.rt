@@ -18,6 +18,7 @@ use worker_gate::Gate;
 /// What is done with an engine: what comes of the lines of a workload is counted.
 #[derive(Drop)]
 pub(crate) struct Counting<'t> {
+    pub(crate) alloc: Global,
     pub(crate) test: &'t SelfTest,
     pub(crate) lines: &'t [Vec<u8>],
     ghost lines_are: { map (λ l. l.items) lines.now ≡ workload_lines test.now.number test.now.size },
@@ -43,10 +44,13 @@ impl<X> Use<(), (), X> for Counting<'_> {
     ghost Gives = { λ c g speech a b p q x y out. let t = c.test.now in
         IfOk out (λ counts. AreCountsOrGaps speech.signs speech.words (limits_in t.limits) t.limits.lexical (workload_lines t.number t.size) counts.items) };
 
+    fn allocator(&self) -> Global {
+        self.alloc
+    }
+
     fn run<Rt: Threads + Wait + Sync>(
         &self,
         rt: &Rt,
-        alloc: Global,
         engine: &Engine<'_, '_, '_>,
         _a: &mut (),
         _b: &mut (),
@@ -58,9 +62,9 @@ impl<X> Use<(), (), X> for Counting<'_> {
         let counter = Counter {
             engine,
             limits: &self.test.limits,
-            desks: Desks::new(alloc, workers),
+            desks: Desks::new(self.alloc, workers),
             share: share_of(workers, self.lines.len()),
         };
-        count_all(rt, alloc, counter, self.lines, workers, gate)
+        count_all(rt, self.alloc, counter, self.lines, workers, gate)
     }
 }

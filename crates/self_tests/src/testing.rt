@@ -73,13 +73,12 @@ fn count_with<Rt: Threads + Wait + Sync>(
     requires lines { map (λ l. l.items) lines.now ≡ workload_lines test.now.number test.now.size }
     ensures { IfOk result (λ counts. AreCountedWith (grammar_of grammar.now) (limits_in test.now.limits) test.now.limits.lexical (workload_lines test.now.number test.now.size) counts.items) }
 {
-    let job = Counting { test, lines };
+    let job = Counting { alloc, test, lines };
     let mut nothing = ();
     let mut no_more = ();
     let mut none = ();
     with_engine(
         rt,
-        alloc,
         grammar,
         &job,
         &mut nothing,

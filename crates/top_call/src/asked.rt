@@ -47,6 +47,8 @@ pub fn version_text() -> &'static [u8]
 /// What the words ask for, as a command. Its numbers are in their ranges.
 #[derive(Clone, Copy, Debug)]
 pub struct Asked<'a> {
+    /// The allocator from which memory is taken.
+    pub alloc: Global,
     pub command: Command<'a>,
     ghost within: { IsInRange (form command) },
 }
@@ -64,7 +66,6 @@ impl endings::Command for Asked<'_> {
     fn perform<S: Shelf, I: Source, O: Sink, X: Sink, Rt: Threads + Wait + Sync>(
         &self,
         rt: &Rt,
-        alloc: Global,
         shelf: &mut S,
         input: &mut I,
         out: &mut O,
@@ -74,18 +75,23 @@ impl endings::Command for Asked<'_> {
         match self.command {
             Command::Help => {
                 let text = help_text();
-                (Plain { text }).perform(rt, alloc, shelf, input, out, err, gate)
+                (Plain { text }).perform(rt, shelf, input, out, err, gate)
             }
             Command::HelpOn(command) => {
                 let text = text_on(command);
-                (Plain { text }).perform(rt, alloc, shelf, input, out, err, gate)
+                (Plain { text }).perform(rt, shelf, input, out, err, gate)
             }
             Command::Version => {
                 let text = version_text();
-                (Plain { text }).perform(rt, alloc, shelf, input, out, err, gate)
+                (Plain { text }).perform(rt, shelf, input, out, err, gate)
             }
             Command::Run(task, options) => {
-                do_task(rt, alloc, task, options, shelf, input, out, err, gate)
+                let order = Order {
+                    alloc: self.alloc,
+                    task,
+                    options,
+                };
+                do_task(rt, &order, shelf, input, out, err, gate)
             }
         }
     }
@@ -131,31 +137,41 @@ fn size_of(size: u64) -> u32
     size as u32
 }
 
-// Does a task under these options. A command is one arm.
+// A task, the options under which it is done, and the allocator from which it takes memory.
+#[derive(Clone, Copy)]
+struct Order<'a> {
+    alloc: Global,
+    task: Task<'a>,
+    options: Options<'a>,
+}
+
+// Does a task under its options. A command is one arm.
 fn do_task<S: Shelf, I: Source, O: Sink, X: Sink, Rt: Threads + Wait + Sync>(
     rt: &Rt,
-    alloc: Global,
-    task: Task,
-    options: Options,
+    order: &Order<'_>,
     shelf: &mut S,
     input: &mut I,
     out: &mut O,
     err: &mut X,
     gate: &dyn Gate,
 ) -> Result<bool, Fault>
-    requires within { AreWithin (options_in options) }
-    requires sized { IsSized (task_in task) }
-    ensures ended { Ended (meaning_of (form (Command.Run task.entry options.entry))) (shelves S.files S.faults S.asked shelf.old shelf.new) (streams I.left I.faults O.written O.flushed O.faults input.old input.new out.old out.new)
+    requires within { AreWithin (options_in order.now.options) }
+    requires sized { IsSized (task_in order.now.task) }
+    ensures ended { Ended (meaning_of (form (Command.Run order.now.task order.now.options))) (shelves S.files S.faults S.asked shelf.old shelf.new) (streams I.left I.faults O.written O.flushed O.faults input.old input.new out.old out.new)
         (input.new ≡ input.old) ((input.new ≡ input.old) × (out.new ≡ out.old)) result }
-    ensures noted { IsNoted (meaning_of (form (Command.Run task.entry options.entry))) (S.files shelf.old) (I.left input.old) (I.left input.new) (output X.written X.flushed X.faults err.old err.new) result }
-    ensures unopened { (meaning_of (form (Command.Run task.entry options.entry))).opens ≡ false → shelf.new ≡ shelf.old }
+    ensures noted { IsNoted (meaning_of (form (Command.Run order.now.task order.now.options))) (S.files shelf.old) (I.left input.old) (I.left input.new) (output X.written X.flushed X.faults err.old err.new) result }
+    ensures unopened { (meaning_of (form (Command.Run order.now.task order.now.options))).opens ≡ false → shelf.new ≡ shelf.old }
 {
+    let alloc = order.alloc;
+    let task = order.task;
+    let options = order.options;
     let settings = options.settings;
     let mrs = options.mrs;
     let verbose = options.verbose;
     match task {
         Task::Parse(grammar) => {
             let command = Parse {
+                alloc,
                 grammar,
                 settings,
                 limits: limits_of(&options),
@@ -164,10 +180,11 @@ fn do_task<S: Shelf, I: Source, O: Sink, X: Sink, Rt: Threads + Wait + Sync>(
                 mrs,
                 verbose,
             };
-            parse_lines(rt, alloc, &command, shelf, input, out, err, gate)
+            parse_lines(rt, &command, shelf, input, out, err, gate)
         }
         Task::Chart(grammar) => {
             let command = Chart {
+                alloc,
                 grammar,
                 settings,
                 limits: limits_of(&options),
@@ -175,27 +192,29 @@ fn do_task<S: Shelf, I: Source, O: Sink, X: Sink, Rt: Threads + Wait + Sync>(
                 lattice: options.lattice,
                 verbose,
             };
-            chart_lines(rt, alloc, &command, shelf, input, out, gate)
+            chart_lines(rt, &command, shelf, input, out, gate)
         }
         Task::Explain(grammar) => {
             let command = Explain {
+                alloc,
                 grammar,
                 settings,
                 workers: workers_of(&options),
                 mrs,
                 verbose,
             };
-            explain_lines(rt, alloc, &command, shelf, input, out, gate)
+            explain_lines(rt, &command, shelf, input, out, gate)
         }
         Task::Generate(grammar) => {
             let command = Generate {
+                alloc,
                 grammar,
                 settings,
                 limits: limits_of(&options),
                 workers: workers_of(&options),
                 verbose,
             };
-            generate_lines(rt, alloc, &command, shelf, input, out, gate)
+            generate_lines(rt, &command, shelf, input, out, gate)
         }
         Task::Types(grammar) => {
             let command = Types {
@@ -270,7 +289,7 @@ pub fn asked_by(alloc: Global, words: &[String]) -> Result<Asked<'_>, WordsFault
     numbers_are_within();
     match command_of(alloc, words) {
         Err(fault) => Err(fault),
-        Ok(command) => Ok(Asked { command }),
+        Ok(command) => Ok(Asked { alloc, command }),
     }
 }
 

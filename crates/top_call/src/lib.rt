@@ -137,7 +137,7 @@ pub fn run<S: Shelf, I: Source, O: Sink, X: Sink, Rt: AllocGlobal + Threads + Wa
     one_form();
     built_lawful();
     match asked_by(rt.alloc(), words) {
-        Ok(command) => run_command(rt, rt.alloc(), &command, shelf, input, out, err, gate),
+        Ok(command) => run_command(rt, &command, shelf, input, out, err, gate),
         Err(fault) => conclude(err, &Err(fault_of(rt.alloc(), fault, words))),
     }
 }

@@ -13,17 +13,17 @@ returns-in_err-told-clause-outcome g c =
     let written = g.O.Sink.written in
     let faults = g.O.Sink.faults in
     let answers = g.C.Answers.IsAnswer c.args.command.now in
-    let lines = map (λ l. l.items) c.args.lines.now in
+    let lines = map (λ l. l.items) c.args.batch.now.lines.now in
     let old = c.args.kept.now.wanting in
     let p = err_from_is_err_and c.from_residual.result c.from_residual.ensures.1 in
-    let r = gaps-only answers c.args.number lines in
-    subst (ServedBatch answers c.args.number lines (written c.args.out.now) (written c.args.out.now) (faults c.args.out.now) (faults c.args.out.now) old old) (sym (p.1 ∙ ap Err p.2))
+    let r = gaps-only answers c.args.batch.now.number lines in
+    subst (ServedBatch answers c.args.batch.now.number lines (written c.args.out.now) (written c.args.out.now) (faults c.args.out.now) (faults c.args.out.now) old old) (sym (p.1 ∙ ap Err p.2))
     (r.0, r.1, r.2, r.3, cc, ([], (concat r.0, refl), Adds-none (written c.args.out.now)))
 
 pub put_told-requires : goal.put_told-requires
 put_told-requires g c =
     let told = c.in_ok-told.told.items in
-    let l = given-length _ 0 c.args.lines.now told c.in_ok-told.ensures in
+    let l = given-length _ 0 c.args.batch.now.lines.now told c.in_ok-told.ensures in
     let room = c.requires.room in
     let e = ap length c.deref-3.ensures.value in
     omega (arith, l, room, e)
@@ -33,8 +33,8 @@ returns-in_err-put_told-clause-outcome g c =
     let written = g.O.Sink.written in
     let faults = g.O.Sink.faults in
     let answers = g.C.Answers.IsAnswer c.args.command.now in
-    let number = c.args.number in
-    let lines = map (λ l. l.items) c.args.lines.now in
+    let number = c.args.batch.now.number in
+    let lines = map (λ l. l.items) c.args.batch.now.lines.now in
     let told = c.in_ok-told.told.items in
     let before = c.args.kept.now.wanting in
     let later = c.either-kept.result in
@@ -47,7 +47,7 @@ returns-in_err-put_told-clause-outcome g c =
       lines_of_all number told,
       is_one_refused told,
       is_one_wanting told,
-      given-told answers (g.C.Answers.IsNote c.args.command.now) number 0 number c.args.lines.now told (omega arith) c.in_ok-told.ensures,
+      given-told answers (g.C.Answers.IsNote c.args.command.now) number 0 number c.args.batch.now.lines.now told (omega arith) c.in_ok-told.ensures,
       flag-any stop before (is_one_wanting told) later flag,
       put-as (Unit {0}) (concat (lines_of_all number told)) (written c.args.out.now) (written c.put_told.new.out) (faults c.args.out.now) (faults c.put_told.new.out) stop put,
     ))
@@ -57,13 +57,13 @@ returns-clause-outcome g c =
     let written = g.O.Sink.written in
     let faults = g.O.Sink.faults in
     let answers = g.C.Answers.IsAnswer c.args.command.now in
-    let number = c.args.number in
-    let lines = map (λ l. l.items) c.args.lines.now in
+    let number = c.args.batch.now.number in
+    let lines = map (λ l. l.items) c.args.batch.now.lines.now in
     let told = c.in_ok-told.told.items in
     let before = c.args.kept.now.wanting in
     let flag = c.either-kept.ensures ∙ ap (λ b. before || b) (c.is_one_wanting.ensures ∙ ap is_one_wanting c.deref-2.ensures.value) in
     let put = subst (λ t. IsToldPut {X = Unit {0}} (concat (lines_of_all number t)) (written c.args.out.now) (written c.put_told.new.out) (faults c.args.out.now) (faults c.put_told.new.out) (Ok (tt {0}))) c.deref-3.ensures.value c.in_ok-put_told.ensures.put in
-    let are = given-told answers (g.C.Answers.IsNote c.args.command.now) number 0 number c.args.lines.now told (omega arith) c.in_ok-told.ensures in
+    let are = given-told answers (g.C.Answers.IsNote c.args.command.now) number 0 number c.args.batch.now.lines.now told (omega arith) c.in_ok-told.ensures in
     (lines_of_all number told, is_one_wanting told, subst (λ r. AreTold answers number lines (lines_of_all number told) r (is_one_wanting told)) (sym (c.is_one_refused.ensures ∙ ap is_one_refused c.deref-5.ensures.value)) are, flag, put)
 
 pub returns-clause-noted : goal.returns-clause-noted
@@ -74,4 +74,4 @@ returns-clause-noted g c =
     let written = g.X.Sink.written in
     let faults = g.X.Sink.faults in
     let more = λ (ts : List (Option Answer)). TellsMore c.args.kept.now.failed c.put_notes.new.failed (written c.args.err.now) (written c.put_notes.new.err) (faults c.args.err.now) (faults c.put_notes.new.err) (notes_of_all ts) in
-    (notes_of_all told, notes-given (g.C.Answers.IsNote c.args.command.now) (g.C.Answers.IsAnswer c.args.command.now) c.args.number c.args.lines.now told c.in_ok-told.ensures before c.either-kept.result flag, subst more c.deref-4.ensures.value c.put_notes.ensures)
+    (notes_of_all told, notes-given (g.C.Answers.IsNote c.args.command.now) (g.C.Answers.IsAnswer c.args.command.now) c.args.batch.now.number c.args.batch.now.lines.now told c.in_ok-told.ensures before c.either-kept.result flag, subst more c.deref-4.ensures.value c.put_notes.ensures)

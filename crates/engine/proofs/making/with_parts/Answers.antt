@@ -8,8 +8,8 @@ laws-requires g c =
     record {
       book = c.requires.book;
       loaded = c.requires.loaded;
-      shapes = subst (AreShapesOf c.args.signs.now) (sym c.in_ok-shapes.ensures) c.requires.shapes;
-      shared = subst (λ s. IsMemoryOf c.args.signs.now s c.in_ok-shared.shared) (sym c.in_ok-shapes.ensures) c.in_ok-shared.ensures;
+      shapes = subst (AreShapesOf c.args.made.now.signs.now) (sym c.in_ok-shapes.ensures) c.requires.shapes;
+      shared = subst (λ s. IsMemoryOf c.args.made.now.signs.now s c.in_ok-shared.shared) (sym c.in_ok-shapes.ensures) c.in_ok-shared.ensures;
       feeds = c.requires.feeds;
       paths = c.requires.paths;
       fits = c.requires.fits;
@@ -20,8 +20,8 @@ run-requires-clause-ready g c =
     record {
       book = c.requires.book;
       loaded = c.requires.loaded;
-      shapes = subst (AreShapesOf c.args.signs.now) (sym c.in_ok-shapes.ensures) c.requires.shapes;
-      shared = subst (λ s. IsMemoryOf c.args.signs.now s c.in_ok-shared.shared) (sym c.in_ok-shapes.ensures) c.in_ok-shared.ensures;
+      shapes = subst (AreShapesOf c.args.made.now.signs.now) (sym c.in_ok-shapes.ensures) c.requires.shapes;
+      shared = subst (λ s. IsMemoryOf c.args.made.now.signs.now s c.in_ok-shared.shared) (sym c.in_ok-shapes.ensures) c.in_ok-shared.ensures;
       feeds = c.requires.feeds;
       paths = c.requires.paths;
       fits = c.requires.fits;
