@@ -49,7 +49,8 @@ impl<I: Source, O: Sink, X> Use<I, O, X> for AllLines {
         _nothing: &mut X,
         gate: &dyn Gate,
     ) -> Result<bool, Stop> {
-        let Ok(given) = contributions_of(self.alloc, engine, self.limits.lexical) else {
+        let alloc = self.alloc;
+        let Ok(given) = contributions_of(alloc, engine, self.limits.lexical) else {
             flush_at_stop(out);
             return Err(Stop::NoMemory);
         };
@@ -58,10 +59,10 @@ impl<I: Source, O: Sink, X> Use<I, O, X> for AllLines {
             contributors: &given.contributors,
             c_cont: &given.c_cont,
             limits: self.limits,
-            desks: Desks::new(self.alloc, self.workers),
+            desks: Desks::new(alloc, self.workers),
         };
         // (what a grammar's lexical trees contribute isn't shown to be fit for threads that share it, since trees are of a type that reaches
         // itself; so MRSs aren't answered side by side, as the lines of `parse` are)
-        serve_in_turn(rt, self.alloc, &generator, input, out, gate)
+        serve_in_turn(rt, alloc, &generator, input, out, gate)
     }
 }
