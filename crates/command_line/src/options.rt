@@ -5,7 +5,7 @@
 /// Every command takes every option, each at most once. `laws::numbers_are_within` says that each number is in its range.
 #[derive(Clone, Copy, Debug, PartialEq, Eq)]
 pub struct Options<'a> {
-    /// `--workers`, how many workers fill a chart: 1 to 64, or else 1.
+    /// `--workers`, how many workers answer lines: 1 to 64, or else 1.
     pub workers: u64,
     /// `--edges`, the most packed edges of a line: 1 to 20,000, or else 5,000.
     pub edges: u64,

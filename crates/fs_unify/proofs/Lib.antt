@@ -3,6 +3,13 @@ pub mod LimitLemmas
 pub mod EnterLemmas
 pub mod OwedLemmas
 pub mod OwedRows
+pub mod StandLemmas
 pub mod PartModel
+pub mod CarryLemmas
+pub mod PayLemmas
+pub mod BoundLemmas
+pub mod HangLemmas
+pub mod HangRows
+pub mod DebtLemmas
 pub mod PlaceLemmas
 pub mod SampleLemmas

@@ -5,13 +5,14 @@ use Rattle.std.specs.Option.{option_map}
 use Rattle.fs_model.specs.Claims.{Path, Claim, exists_at, same, below, at, System, IsBare, Has, here}
 use Rattle.fs_model.specs.Closure.{Closure, given_claim, same_exists, prefix, same_refl, introduced, raised, topped, constrained}
 use Rattle.fs_model.specs.Sources.{Tells, tells_exists, tells_same, tells_below, Part, Source, Told, told_claim, told_part}
-use Rattle.fs_model.specs.Table.{Table, IsTable, NodeClaim, is_there, is_same, is_under, from, Seen, Stated, by_node, by_arc, by_merge, by_type, by_work, Follows, stated, there_left, same_back, same_on, under_same, under_higher, walk, read}
-use Rattle.fs_model.specs.Steps.{InTable, Closes, Starts, StandsIn}
+use Rattle.fs_model.specs.Table.{Table, IsTable, NodeClaim, is_there, is_same, is_under, from, Seen, Stated, by_node, by_arc, by_merge, by_type, by_work, Follows, stated, walk, read}
+use Rattle.fs_model.specs.Steps.{InTable, Closes, Starts}
 use Rattle.fs_model.specs.Numbering.{IsBefore}
 use Rattle.fs_model.proofs.StepLemmas.{Follows-grows, read-agree}
 use Rattle.fs_model.proofs.MoreSteps.{read-from}
 use Rattle.fs_model.proofs.TableLemmas.{walk-append, walk-step}
-use Rattle.fs_model.proofs.PartLemmas.{walk_follows, part_follows}
+use Rattle.fs_model.proofs.PartLemmas.{part_follows}
+use Rattle.fs_unify.proofs.StandLemmas.{graph_stands, node_under, seen_stands}
 use Rattle.fs_graph.specs.declared.graph.GraphArc.{GraphArc}
 use Rattle.fs_graph.specs.GraphMap.{GraphMap, IsGraph, table_of, type_at, arcs_at, arc_to, reader_of}
 use Rattle.fs_closing.specs.Joined.{IsJoined}
@@ -42,10 +43,12 @@ not_before p h = go p [] refl h
     go p [] e h = elim h [ ]
     go p (f ∷ q) e h = absurd (let d : f ∷ q ≡ [] = e in cc)
 
+-- A graph that enters where a path leads from a node, of which nothing is told there that the closure hasn't.
 module _ (s : System) (source : Source) (place : Path) (g : GraphMap) (graph : IsGraph g)
-    (has : Has (record { place = place; reader = reader_of g }) source.parts) (t t' : Table) (enters : EntersTable g t t')
-    (full joined full' : List NodeClaim) (joins : IsJoined (is_same 0 place t.size [] ∷ []) full joined) (owed : IsOwed s t.size g joined full')
-    (w : ℕ → Path) (ps : List Part) (old : Entered s source ps t full w) where
+    (told : (c : Claim) → Tells (reader_of g) c → Closure s (Told source) (at place c)) (t t' : Table) (enters : EntersTable g t t')
+    (entry : ℕ) (way : Path) (full joined full' : List NodeClaim) (joins : IsJoined (is_same entry way t.size [] ∷ []) full joined)
+    (owed : IsOwed s t.size g joined full') (w : ℕ → Path) (ps : List Part) (old : Entered s source ps t full w)
+    (entry_in : entry < t.size) (placed : w entry ++ way ≡ place) where
   abbrev o : ℕ
   o = t.size
 
@@ -75,9 +78,6 @@ module _ (s : System) (source : Source) (place : Path) (g : GraphMap) (graph : I
       go : (graph.least 0 ≡ []) ⊎ IsBefore (graph.least 0) [] → graph.least 0 ≡ []
       go (inl e) = e
       go (inr h) = absurd (not_before (graph.least 0) h)
-
-  told : (c : Claim) → Tells (reader_of g) c → Closure s (Told source) (at place c)
-  told c h = given_claim (at place c) (told_part (record { place = place; reader = reader_of g }) c has h)
 
   node_exists : (k : ℕ) → k < length g.types → Closure s (Told source) (exists_at (place ++ graph.least k))
   node_exists k h = told (exists_at (graph.least k)) (tells_exists (graph.least k) k (leads k h))
@@ -148,9 +148,6 @@ module _ (s : System) (source : Source) (place : Path) (g : GraphMap) (graph : I
   in_work : (c : NodeClaim) → Has c full → Has c full'
   in_work c h = kept_work c (joins.from_old c h)
 
-  joint : Has (is_same 0 place t.size []) full'
-  joint = kept_work _ (joins.from_new _ here)
-
   kept : (d : NodeClaim) → Stated t full d → Follows s t' full' d
   kept _ (by_node n h) = stated _ (by_node n (wider n h))
   kept _ (by_arc n f m h l e) = stated _ (by_arc n f m (wider n h) (live_is n) (enters.arc_old n f h ∙ e))
@@ -161,57 +158,11 @@ module _ (s : System) (source : Source) (place : Path) (g : GraphMap) (graph : I
   grows : (d : NodeClaim) → Follows s t full d → Follows s t' full' d
   grows d h = Follows-grows s t t' full full' kept d h
 
-  walk_in : (p : Path) (k n : ℕ) → k < length g.types → walk (table_of g) k p ≡ Some n → walk t' (t.size + k) p ≡ Some (t.size + n)
-  walk_in [] k n h e =
-      let d : k ≡ n = cc in
-      ap Some (live_is (t.size + k) ∙ ap (λ i. t.size + i) d)
-  walk_in (f ∷ p) k n h e = go (arc_to (arcs_at g k) f) refl (λ m. walk_in p m n)
-    where
-      go : (x : Option ℕ) → arc_to (arcs_at g k) f ≡ x → ((m : ℕ) → m < length g.types → walk (table_of g) m p ≡ Some n → walk t' (t.size + m) p ≡ Some (t.size + n)) →
-          walk t' (t.size + k) (f ∷ p) ≡ Some (t.size + n)
-      go None is rest =
-          let stops : None ≡ walk (table_of g) k (f ∷ p) = ap (λ o. elim o as (λ _. Option ℕ) [ None ↦ None | Some m ↦ walk (table_of g) m p ]) (sym is) in
-          absurd (let d : None ≡ Some n = stops ∙ e in cc)
-      go (Some m) is rest =
-          let goes = walk-step (table_of g) k m f p is in
-          let inside = graph.numbered.table.arc_in k f m h is in
-          let arc : t'.arc (t'.live (t.size + k)) f ≡ Some (t.size + m) =
-          ap (λ i. t'.arc i f) (live_is (t.size + k)) ∙ enters.arc_new k f h ∙ ap (option_map (λ i. t.size + i)) is in
-          walk-step t' (t.size + k) (t.size + m) f p arc ∙ rest m inside (sym goes ∙ e)
-
-  walk_ends_in : (p : Path) (k n : ℕ) → k < length g.types → walk (table_of g) k p ≡ Some n → n < length g.types
-  walk_ends_in [] k n h e = let d : k ≡ n = cc in subst (λ i. i < length g.types) d h
-  walk_ends_in (f ∷ p) k n h e = go (arc_to (arcs_at g k) f) refl (λ m. walk_ends_in p m n)
-    where
-      go : (x : Option ℕ) → arc_to (arcs_at g k) f ≡ x → ((m : ℕ) → m < length g.types → walk (table_of g) m p ≡ Some n → n < length g.types) → n < length g.types
-      go None is rest =
-          let stops : None ≡ walk (table_of g) k (f ∷ p) = ap (λ o. elim o as (λ _. Option ℕ) [ None ↦ None | Some m ↦ walk (table_of g) m p ]) (sym is) in
-          absurd (let d : None ≡ Some n = stops ∙ e in cc)
-      go (Some m) is rest = rest m (graph.numbered.table.arc_in k f m h is) (sym (walk-step (table_of g) k m f p is) ∙ e)
-
-  stands_in : StandsIn t' (reader_of g) t.size (λ n. t.size + n)
-  stands_in = record {
-    paths = λ p n e. subst (λ i. walk t' i p ≡ Some (t.size + n)) (let z : t.size + 0 ≡ t.size = omega arith in z) (walk_in p 0 n root_in e);
-    types = λ p n e. enters.type_new n (walk_ends_in p 0 n root_in e);
-  }
-
-  -- what is seen in the graph follows in the table
   type_follows : (k u : ℕ) → k < length g.types → s.is_below (type_at g k) u ≡ true → Follows s t' full' (is_under (t.size + k) [] u)
-  type_follows k u h b =
-      let inside : t.size + k < t'.size = omega (arith, enters.size_is) in
-      under_higher (t.size + k) (t'.type_of (t.size + k)) u [] (stated _ (by_type (t.size + k) inside (live_is (t.size + k))))
-      (ap (λ y. s.is_below y u) (enters.type_new k h) ∙ b)
-
-  path_follows : (k : ℕ) (q : Path) (n : ℕ) → k < length g.types → walk (table_of g) k q ≡ Some n → Follows s t' full' (is_same (t.size + k) q (t.size + n) [])
-  path_follows k q n h e =
-      let inside : t.size + k < t'.size = omega (arith, enters.size_is) in
-      walk_follows s t' full' table' (t.size + k) (t.size + n) q inside (walk_in q k n h e)
+  type_follows k u h b = node_under s g graph t t' enters table' full' k u h b
 
   seen_follows : (k : ℕ) (c : Claim) → k < length g.types → Seen s (table_of g) (from k c) → Follows s t' full' (from (t.size + k) c)
-  seen_follows k (exists_at q) h x = there_left _ _ _ _ (path_follows k q x.0 h x.1)
-  seen_follows k (same q r) h x = same_on _ _ _ _ _ _ (path_follows k q x.0 h x.1) (same_back _ _ _ _ (path_follows k r x.0 h x.2))
-  seen_follows k (below q v) h x =
-      under_same (t.size + x.0) (t.size + k) v [] q (same_back _ _ _ _ (path_follows k q x.0 h x.1)) (type_follows x.0 v (walk_ends_in q k x.0 h x.1) x.2)
+  seen_follows k c h x = seen_stands s g graph t t' enters table' full' k c h x
 
   read_new : (c : NodeClaim) → InTable t.size c → Closure s (Told source) (read w c) → Closure s (Told source) (read (extended w t.size place graph.least) c)
   read_new c h r = subst (Closure s (Told source)) (sym (read-agree w (extended w t.size place graph.least) t.size agrees c h)) r
@@ -254,13 +205,12 @@ module _ (s : System) (source : Source) (place : Path) (g : GraphMap) (graph : I
           (subst (λ p. Closure s (Told source) (below p (type_at g j))) (sym (append-nil _ ∙ ap (extended w t.size place graph.least) is ∙ at_new j)) (node_typed j a))
   said _ (by_work c h) = go (only_work c h)
     where
-      older : Has c (is_same 0 place t.size [] ∷ []) ⊎ Has c full → Closure s (Told source) (read (extended w t.size place graph.least) c)
+      older : Has c (is_same entry way t.size [] ∷ []) ⊎ Has c full → Closure s (Told source) (read (extended w t.size place graph.least) c)
       older (inr i) = read_new c (old.in_table c i) (old.sound.stated_in _ (by_work c i))
       older (inl i) =
-          let root : extended w t.size place graph.least 0 ≡ [] = agrees 0 old.filled ∙ old.sound.root in
           let z : t.size ≡ t.size + 0 = omega arith in
           let end = append-nil _ ∙ ap (extended w t.size place graph.least) z ∙ at_new 0 ∙ ap (λ p. place ++ p) least_root ∙ append-nil place in
-          let start = ap (λ p. p ++ place) root in
+          let start = ap (λ p. p ++ way) (agrees entry entry_in) ∙ placed in
           let there' = subst (λ p. Closure s (Told source) (exists_at p)) (ap (λ p. place ++ p) least_root ∙ append-nil place) (node_exists 0 root_in) in
           subst (λ d. Closure s (Told source) (read (extended w t.size place graph.least) d)) (sym (Has-one c _ i))
           (subst (λ p. Closure s (Told source) (same p (extended w t.size place graph.least t.size ++ []))) (sym start)
@@ -279,15 +229,15 @@ module _ (s : System) (source : Source) (place : Path) (g : GraphMap) (graph : I
           (subst (λ p. Closure s (Told source) (below p (s.introducer a.feat.0))) (sym (append-nil _ ∙ at_new k)) (node_feature k a.feat.0 a.to.0 h found))
       go (inr (inr i)) = older (joins.only c i)
 
-  pub Entered-more : (ps' : List Part) → ps' ≡ ps ++ (record { place = place; reader = reader_of g }) ∷ [] →
-      Entered s source ps' t' full' (extended w t.size place graph.least)
-  Entered-more ps' is = record {
+  -- the graphs before it stand as they did
+  pub Entered-beside : Entered s source ps t' full' (extended w t.size place graph.least)
+  Entered-beside = record {
     table = table';
     filled = wider 0 old.filled;
     live_is = live_is;
     in_table = λ c h. in_table c (only_work c h);
     sound = record { root = agrees 0 old.filled ∙ old.sound.root; stated_in = said };
-    starts = λ p c h i. starts p c i (Has-either p ps _ (subst (Has p) is h));
+    starts = λ p c h i. grows _ (old.starts p c h i);
     introduces = λ n f m h e. introduces n f m e (old_or_new n h);
     constrains = λ n u c h b i. constrains n u c b i (old_or_new n h);
   }
@@ -305,8 +255,8 @@ module _ (s : System) (source : Source) (place : Path) (g : GraphMap) (graph : I
       first_in : t.size < t'.size
       first_in = omega (arith, enters.size_is, root_in)
 
-      older : (c : NodeClaim) → Has c (is_same 0 place t.size [] ∷ []) ⊎ Has c full → InTable t'.size c
-      older c (inl i) = subst (InTable t'.size) (sym (Has-one c _ i)) (wider 0 old.filled, first_in)
+      older : (c : NodeClaim) → Has c (is_same entry way t.size [] ∷ []) ⊎ Has c full → InTable t'.size c
+      older c (inl i) = subst (InTable t'.size) (sym (Has-one c _ i)) (wider entry entry_in, first_in)
       older c (inr i) = grown c (old.in_table c i)
 
       in_table : (c : NodeClaim) →
@@ -317,13 +267,6 @@ module _ (s : System) (source : Source) (place : Path) (g : GraphMap) (graph : I
       in_table c (inr (inl (k, a, h, i, e))) =
           subst (InTable t'.size) (sym e) (let inside : t.size + k < t'.size = omega (arith, enters.size_is) in inside)
       in_table c (inr (inr i)) = older c (joins.only c i)
-
-      starts : (p : Part) (c : Claim) → Tells p.reader c → Has p ps ⊎ Has p ((record { place = place; reader = reader_of g }) ∷ []) → Follows s t' full' (from 0 (at p.place c))
-      starts p c i (inl h) = grows _ (old.starts p c h i)
-      starts p c i (inr h) =
-          let e = Has-one p _ h in
-          subst (λ q. Follows s t' full' (from 0 (at q.place c))) (sym e)
-          (part_follows s t' full' (reader_of g) place t.size (λ n. t.size + n) table' first_in stands_in joint c (subst (λ q. Tells q.reader c) e i))
 
       introduces : (n f m : ℕ) → t'.arc n f ≡ Some m → (n < t.size) ⊎ ((j : ℕ) × (j < length g.types) × (n ≡ t.size + j)) →
           Follows s t' full' (is_under n [] (s.introducer f))
@@ -353,6 +296,45 @@ module _ (s : System) (source : Source) (place : Path) (g : GraphMap) (graph : I
           go : Has (from (t.size + j) c) full' ⊎ Seen s (table_of g) (from j c) → Follows s t' full' (from (t.size + j) c)
           go (inl h) = stated _ (by_work _ h)
           go (inr h) = seen_follows j c a h
+
+-- a part enters at its path
+pub Entered-more : (s : System) (source : Source) (place : Path) (g : GraphMap) (graph : IsGraph g) →
+    Has (record { place = place; reader = reader_of g }) source.parts → (t t' : Table) → EntersTable g t t' → (full joined full' : List NodeClaim) →
+    IsJoined (is_same 0 place t.size [] ∷ []) full joined → IsOwed s t.size g joined full' → (w : ℕ → Path) (ps : List Part) → Entered s source ps t full w →
+    (ps' : List Part) → ps' ≡ ps ++ (record { place = place; reader = reader_of g }) ∷ [] → Entered s source ps' t' full' (extended w t.size place graph.least)
+Entered-more s source place g graph has t t' enters full joined full' joins owed w ps old ps' is = record {
+  table = now.table;
+  filled = now.filled;
+  live_is = now.live_is;
+  in_table = now.in_table;
+  sound = now.sound;
+  starts = λ p c h i. starts p c h i (Has-either p ps _ (subst (Has p) is h));
+  introduces = now.introduces;
+  constrains = now.constrains;
+}
+  where
+    told : (c : Claim) → Tells (reader_of g) c → Closure s (Told source) (at place c)
+    told c h = given_claim (at place c) (told_part (record { place = place; reader = reader_of g }) c has h)
+
+    now : Entered s source ps t' full' (extended w t.size place graph.least)
+    now =
+        Entered-beside s source place g graph told t t' enters 0 place full joined full' joins owed w ps old old.filled
+        (ap (λ p. p ++ place) old.sound.root)
+
+    first_in : t.size < t'.size
+    first_in = omega (arith, enters.size_is, graph.numbered.filled)
+
+    joint : Has (is_same 0 place t.size []) full'
+    joint = owed.rest _ (joins.from_new _ here)
+
+    starts : (p : Part) (c : Claim) → Has p ps' → Tells p.reader c → Has p ps ⊎ Has p ((record { place = place; reader = reader_of g }) ∷ []) →
+        Follows s t' full' (from 0 (at p.place c))
+    starts p c h i (inl k) = now.starts p c k i
+    starts p c h i (inr k) =
+        let e = Has-one p _ k in
+        subst (λ q. Follows s t' full' (from 0 (at q.place c))) (sym e)
+        (part_follows s t' full' (reader_of g) place t.size (λ n. t.size + n) now.table first_in (graph_stands g graph t t' enters) joint c
+        (subst (λ q. Tells q.reader c) e i))
 
 -- other work beside it
 pub Owes-beside : (s : System) (offset : ℕ) (g : GraphMap) (count : ℕ) (more work work' : List NodeClaim) → Owes s offset g count work work' →

@@ -1,7 +1,7 @@
 -- Parts that enter one by one, and are put at their paths.
 use Rattle.std.proofs.Common.{ℕ, zero, suc, ◌≡◌, ◌<◌, ◌+◌, ◌⊎◌, inl, inr, List, [], ◌∷◌, ◌++◌, length, map, drop, slice_index_or, refl, sym, ◌∙◌, ap, subst, arith, length-append}
 use Rattle.std.proofs.lemmas.List.{map-append, length-map}
-use Rattle.fs_model.specs.Claims.{IsBare, Has}
+use Rattle.fs_model.specs.Claims.{Path, IsBare, Has}
 use Rattle.fs_model.specs.Sources.{Part, Told}
 use Rattle.fs_model.specs.Table.{NodeClaim, is_same}
 use Rattle.fs_graph.specs.Facts.{path_of}
@@ -13,7 +13,7 @@ use Rattle.fs_closing.specs.NodeTable.{table_of, AreFlat}
 use Rattle.fs_closing.specs.Joined.{IsJoined}
 use Rattle.fs_closing.specs.Rules.{Grammar, system_of}
 use Rattle.fs_closing.specs.Work.{work_of}
-use Rattle.fs_unify.specs.Entering.{EntersTable, IsOwed, Entered}
+use Rattle.fs_unify.specs.Entering.{Entered, EntersOwing}
 use Rattle.fs_unify.specs.Placing.{placed, part_of, part_in, source_of, source_in, joints, HasEntered}
 use Rattle.fs_closing.proofs.HasLemmas.{Has-left, Has-right, Has-either, Has-one, Has-map, Has-at}
 use Rattle.fs_unify.proofs.PartModel.{extended, Entered-more, Entered-none, Owed-beside, root_of_part, closes_entered}
@@ -48,16 +48,14 @@ joined_at_end y xs work = record {
 
 pub entered_more : (g : Grammar) (all first first' : List Placed) (p : Placed) (offsets offsets' : List ℕ) (o : ℕ) (nodes : Nodes) (tasks : Tasks) (nodes' : Nodes) (tasks' : Tasks) →
     first' ≡ first ++ p ∷ [] → offsets' ≡ offsets ++ o ∷ [] → o ≡ nodes.size → Has p all → IsGraph p.graph.now →
-    EntersTable p.graph.now (table_of nodes) (table_of nodes') →
-    IsOwed (system_of g) nodes.size p.graph.now (work_of g.rules tasks) (work_of g.rules tasks') →
+    EntersOwing (system_of g) p.graph.now (table_of nodes) (work_of g.rules tasks) (table_of nodes') (work_of g.rules tasks') →
     (AreFlat nodes → AreFlat nodes') → HasEntered g all first offsets nodes tasks → HasEntered g all first' offsets' nodes' tasks'
-entered_more g all first first' p offsets offsets' o nodes tasks nodes' tasks' is is_offsets is_o has graph enters owes flat old = record {
+entered_more g all first first' p offsets offsets' o nodes tasks nodes' tasks' is is_offsets is_o has graph enters flat old = record {
   even = ap length is_offsets ∙ length-append offsets (o ∷ []) ∙ ap (λ n. n + 1) old.even ∙ sym (ap length is ∙ length-append first (p ∷ []));
   inside = λ k h. inside k (Has-either k offsets (o ∷ []) (subst (Has k) is_offsets h));
   flat = flat old.flat;
-  paths = extended old.paths nodes.size (path_of p.place.items) graph.least;
-  entered = subst (λ l. Entered (system_of g) (source_in all) (map part_in first') (table_of nodes') (l ++ work_of g.rules tasks')
-      (extended old.paths nodes.size (path_of p.place.items) graph.least)) (sym all_joints) entered;
+  paths = last.0;
+  entered = subst (λ l. Entered (system_of g) (source_in all) (map part_in first') (table_of nodes') (l ++ work_of g.rules tasks') last.0) (sym all_joints) last.1;
 }
   where
     js : List NodeClaim
@@ -75,20 +73,26 @@ entered_more g all first first' p offsets offsets' o nodes tasks nodes' tasks' i
         ∙ joints_push (map part_in first) offsets (part_in p) nodes.size even_parts
 
     inside : (k : ℕ) → Has k offsets ⊎ Has k (o ∷ []) → k < nodes'.size
-    inside k (inl h) = omega (arith, old.inside k h, enters.size_is)
-    inside k (inr h) = omega (arith, Has-one k o h, is_o, enters.size_is, graph.numbered.filled)
+    inside k (inl h) = omega (arith, old.inside k h, enters.enters.size_is, enters.carries.more)
+    inside k (inr h) = omega (arith, Has-one k o h, is_o, enters.enters.size_is, graph.numbered.filled, enters.carries.more)
 
-    entered : Entered (system_of g) (source_in all) (map part_in first') (table_of nodes')
-        ((joints (map part_in first) offsets ++ is_same 0 (path_of p.place.items) nodes.size [] ∷ []) ++ work_of g.rules tasks')
+    alone : Entered (system_of g) (source_in all) (map part_in first') enters.alone
+        ((joints (map part_in first) offsets ++ is_same 0 (path_of p.place.items) nodes.size [] ∷ []) ++ enters.forced)
         (extended old.paths nodes.size (path_of p.place.items) graph.least)
-    entered =
+    alone =
         let e = is_same 0 (path_of p.place.items) nodes.size [] in
         let more = joints (map part_in first) offsets ++ e ∷ [] in
-        Entered-more (system_of g) (source_in all) (path_of p.place.items) p.graph.now graph (Has-map part_in p all has) (table_of nodes) (table_of nodes') enters
-        (joints (map part_in first) offsets ++ work_of g.rules tasks) (more ++ work_of g.rules tasks) (more ++ work_of g.rules tasks')
+        Entered-more (system_of g) (source_in all) (path_of p.place.items) p.graph.now graph (Has-map part_in p all has) (table_of nodes) enters.alone enters.enters
+        (joints (map part_in first) offsets ++ work_of g.rules tasks) (more ++ work_of g.rules tasks) (more ++ enters.forced)
         (joined_at_end e (joints (map part_in first) offsets) (work_of g.rules tasks))
-        (Owed-beside (system_of g) nodes.size p.graph.now more (work_of g.rules tasks) (work_of g.rules tasks') owes)
+        (Owed-beside (system_of g) nodes.size p.graph.now more (work_of g.rules tasks) enters.forced enters.owed)
         old.paths (map part_in first) old.entered (map part_in first') parts_are
+
+    last : (w : ℕ → Path) × Entered (system_of g) (source_in all) (map part_in first') (table_of nodes')
+        ((joints (map part_in first) offsets ++ is_same 0 (path_of p.place.items) nodes.size [] ∷ []) ++ work_of g.rules tasks') w
+    last =
+        enters.carries.entered (joints (map part_in first) offsets ++ is_same 0 (path_of p.place.items) nodes.size [] ∷ []) (source_in all) (map part_in first')
+        (extended old.paths nodes.size (path_of p.place.items) graph.least) alone
 
 -- the claim of the next part
 pub joints_step : (parts : List Placed) (offsets : List ℕ) (i : ℕ) (d : Placed) → length offsets ≡ length parts → i < length parts →

@@ -1,22 +1,18 @@
 -- Graphs that enter a table.
-use Rattle.std.specs.Prelude.{ℕ, ◌≡◌, ◌<◌, ◌+◌, ◌⊎◌, true, Some, List, [], length, map, flat_map}
+use Rattle.std.specs.Prelude.{ℕ, ◌≡◌, ◌<◌, ◌≤◌, ◌+◌, ◌⊎◌, true, Some, List, [], ◌++◌, length, map}
 use Rattle.fs_model.specs.Claims.{Path, Claim, at, System, Has}
 use Rattle.fs_model.specs.Sources.{Reader, Part, Source, Told, Tells, IsGraphOf}
 use Rattle.fs_model.specs.Steps.{InTable}
 use Rattle.fs_model.specs.Table.{Table, IsTable, NodeClaim, is_under, from, Seen, Follows, IsSound}
 pub use Rattle.fs_closing.specs.NodeSteps.{EntersTable, IsGraphIn}
-use Rattle.fs_closing.specs.Rules.{Rule}
-use Rattle.fs_closing.specs.Work.{entry_claims}
+use Rattle.fs_closing.specs.Rules.{Grammar, facts_in, system_of}
+use Rattle.type_hierarchy.specs.Table.{is_below}
 use Rattle.fs_graph.specs.declared.graph.GraphArc.{GraphArc}
 use Rattle.fs_graph.specs.GraphMap.{GraphMap, type_at, arcs_at, table_of}
 
 -- the introducers of a node's arcs
 abbrev pub introducer_claims : System → ℕ → List GraphArc → List NodeClaim
 introducer_claims s n arcs = map (λ a. is_under n [] (s.introducer a.feat.0)) arcs
-
--- the facts of rules, at a node
-abbrev pub rules_claims : List Rule → ℕ → List ℕ → List NodeClaim
-rules_claims rules n js = flat_map (λ j. entry_claims rules (record { node = n; rule = j; from = 0 })) js
 
 -- what the types and arcs of a graph's first nodes force becomes work, where it isn't seen in the graph
 pub record Owes (s : System) (offset : ℕ) (g : GraphMap) (count : ℕ) (work work' : List NodeClaim) : Type 0 where
@@ -48,3 +44,26 @@ pub record Entered (s : System) (source : Source) (ps : List Part) (t : Table) (
   pub starts : (p : Part) (c : Claim) → Has p ps → Tells p.reader c → Follows s t work (from 0 (at p.place c))
   pub introduces : (n f m : ℕ) → n < t.size → t.arc n f ≡ Some m → Follows s t work (is_under n [] (s.introducer f))
   pub constrains : (n u : ℕ) (c : Claim) → n < t.size → s.is_below (t.type_of n) u ≡ true → Has c (s.facts_of u) → Follows s t work (from n c)
+
+-- What stands in a table with its work stands in another one too, whatever graphs entered before and whatever other work there
+-- is. Its nodes keep their types.
+pub record Carries (s : System) (t : Table) (work : List NodeClaim) (t' : Table) (work' : List NodeClaim) : Type 0 where
+  pub more : t.size ≤ t'.size
+  pub type_old : (n : ℕ) → n < t.size → t'.type_of n ≡ t.type_of n
+  pub follows : (c : NodeClaim) → Follows s t work c → Follows s t' work' c
+  pub entered : (extra : List NodeClaim) (source : Source) (ps : List Part) (w : ℕ → Path) → Entered s source ps t (extra ++ work) w →
+      (w' : ℕ → Path) × Entered s source ps t' (extra ++ work') w'
+
+-- a graph enters a table, and what its nodes force that isn't seen in it becomes work, or enters with other graphs
+pub record EntersOwing (s : System) (g : GraphMap) (t : Table) (work : List NodeClaim) (t' : Table) (work' : List NodeClaim) : Type 0 where
+  pub alone : Table
+  pub forced : List NodeClaim
+  pub enters : EntersTable g t alone
+  pub owed : IsOwed s t.size g work forced
+  pub carries : Carries s alone forced t' work'
+
+-- what the types of a graph's first nodes force follows in a table, where the nodes begin at a number, or is seen in the graph
+abbrev pub ArePaid : Grammar → GraphMap → ℕ → ℕ → Table → List NodeClaim → Type 0
+ArePaid g graph offset count t work =
+    (k x : ℕ) (c : Claim) → k < count → is_below g.types (type_at graph k) x ≡ true → Has c (facts_in g.rules x) →
+    Follows (system_of g) t work (from (offset + k) c) ⊎ Seen (system_of g) (table_of graph) (from k c)

@@ -3,6 +3,7 @@ pub mod Systems
 pub mod Room
 pub mod Given
 pub mod Entering
+pub mod Debts
 pub mod Owing
 pub mod Placing
 pub mod Limits

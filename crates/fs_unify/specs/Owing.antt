@@ -1,12 +1,14 @@
 -- What a graph owes that is well-formed but for some facts.
-use Rattle.std.specs.Prelude.{ℕ, ◌≡◌, ◌<◌, ◌||◌, Bool, true, false, if◌then◌else◌, Some, List, [], ◌∷◌, ◌++◌, length, filter, slice_index_or}
+use Rattle.std.specs.Prelude.{ℕ, ◌≡◌, ◌<◌, ◌||◌, Bool, true, false, if◌then◌else◌, Option, Some, List, [], ◌∷◌, ◌++◌, length, slice_index_or}
 use Rattle.std.specs.List.{list_any}
 use Rattle.type_hierarchy.specs.Table.{count_of}
 use Rattle.fs_model.specs.Claims.{Path, Claim, exists_at, same, below, at, System, Has}
 use Rattle.fs_model.specs.Sources.{Reader}
 use Rattle.fs_graph.specs.GraphMap.{GraphMap, reader_of}
-use Rattle.fs_closing.specs.Rules.{Grammar, no_rule, rules_above, system_of, HaveSame}
+use Rattle.fs_closing.specs.Rules.{Grammar, no_rule, rules_above, system_of}
 use Rattle.fs_unify.specs.Entering.{IsWellFormed}
+use Rattle.fs_unify.specs.declared.debts.Debt.{Debt}
+use Rattle.fs_unify.specs.Debts.{HaveDebts, IsPaidBy}
 pub use Rattle.fs_drawing.specs.Cutting.{is_one_of, begins_with, is_cut_off}
 
 -- a fact holds in a graph
@@ -42,24 +44,37 @@ speaks_of at_root anywhere (below p t) = is_cut_off at_root anywhere p
 abbrev pub owed_by : List ℕ → List ℕ → OwedFacts
 owed_by at_root anywhere = record { at_root = speaks_of at_root anywhere; further = speaks_of [] anywhere }
 
--- for each type, the places of rules whose facts a graph owes at a node of the type: at its root, and at its other nodes
+-- for each type, places of rules at or above it, whose facts hold with all that a graph owes at a node of the type: at its root,
+-- and at its other nodes. Beside them, for each rule what its type owes, as far as it is known.
 pub record OwedRules : Type 0 where
   pub at_root : List (List ℕ)
   pub further : List (List ℕ)
+  pub root_debts : List (Option Debt)
+  pub further_debts : List (Option Debt)
 
 abbrev pub row_at : OwedRules → Bool → ℕ → List ℕ
 row_at rules is_root t = slice_index_or (if is_root then rules.at_root else rules.further) t []
 
--- the first types have rows, of the rules at or above them that have one of these facts
-pub record HaveOwing (g : Grammar) (owed : Claim → Bool) (count : ℕ) (rows : List (List ℕ)) : Type 0 where
+abbrev pub debts_at : OwedRules → Bool → List (Option Debt)
+debts_at rules is_root = if is_root then rules.root_debts else rules.further_debts
+
+-- a row of rules at or above a type says all that the rules there say which have one of these facts
+pub record IsOwing (g : Grammar) (owed : Claim → Bool) (debts : List (Option Debt)) (t : ℕ) (row : List ℕ) : Type 0 where
+  pub above : (j : ℕ) → Has j row → Has j (rules_above g.types g.rules t)
+  pub paid : (j : ℕ) → Has j (rules_above g.types g.rules t) → list_any owed (slice_index_or g.rules j no_rule).claims ≡ true →
+      (i : ℕ) × Has i row × IsPaidBy g debts i j
+
+-- the first types have such rows
+pub record HaveOwing (g : Grammar) (owed : Claim → Bool) (debts : List (Option Debt)) (count : ℕ) (rows : List (List ℕ)) : Type 0 where
   pub each : length rows ≡ count
-  pub row_is : (t : ℕ) → t < count →
-      HaveSame (slice_index_or rows t []) (filter (λ j. list_any owed (slice_index_or g.rules j no_rule).claims) (rules_above g.types g.rules t))
+  pub row_is : (t : ℕ) → t < count → IsOwing g owed debts t (slice_index_or rows t [])
 
 -- the rules that have a fact which is owed
 pub record ListsOwed (g : Grammar) (owed : OwedFacts) (rules : OwedRules) : Type 0 where
-  pub at_root : HaveOwing g owed.at_root (count_of g.types) rules.at_root
-  pub further : HaveOwing g owed.further (count_of g.types) rules.further
+  pub at_root : HaveOwing g owed.at_root rules.root_debts (count_of g.types) rules.at_root
+  pub further : HaveOwing g owed.further rules.further_debts (count_of g.types) rules.further
+  pub root_debts : HaveDebts g owed.at_root (length g.rules) rules.root_debts
+  pub further_debts : HaveDebts g owed.further (length g.rules) rules.further_debts
 
 -- what a graph owes of what its types and features force: all of it, nothing, or the facts of some rules
 pub data Owing : Type 0 where

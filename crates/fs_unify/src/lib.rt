@@ -1,6 +1,7 @@
 //! Unification of typed feature structures (Copestake 2002).
 #![tactic(auto)]
 
+pub mod debts;
 pub mod entering;
 pub mod limited;
 pub mod owed;

@@ -1,27 +1,32 @@
 //! What a graph owes that was cut out of a well-formed one.
 
-ghost use Rattle.std.specs.Prelude.{◌≡◌, ◌<◌, Bool, map, length, filter, IfOk, slice_index_or};
+ghost use Rattle.std.specs.Prelude.{◌≡◌, ℕ, ◌<◌, Bool, true, map, length, filter, IfOk, IfSome, option_map, slice_index_or};
 ghost use Rattle.std.specs.List.{list_any};
 ghost use Rattle.type_hierarchy.specs.Table.{count_of};
 ghost use Rattle.fs_graph.specs.Facts.{path_of, claim_of, claims_of};
 ghost use Rattle.fs_closing.specs.Rules.{no_rule, rules_above, HaveSame};
-ghost use Rattle.fs_model.specs.Claims.{Claim};
-ghost use Rattle.fs_unify.specs.Owing.{is_one_of, begins_with, is_cut_off, speaks_of, owed_by, row_at, HaveOwing, ListsOwed};
+ghost use Rattle.fs_model.specs.Claims.{Claim, Has};
+ghost use Rattle.fs_unify.specs.Debts.{debt_at, Pays, HaveDebts, IsPaidBy};
+ghost use Rattle.fs_unify.specs.Owing.{is_one_of, begins_with, is_cut_off, speaks_of, owed_by, row_at, debts_at, IsOwing, HaveOwing, ListsOwed};
 ghost use Rattle.fs_unify.specs.Inner.Marks.{HaveMarks};
 
+use crate::debts::{Debt, debt_of};
 use fs_closing::NoMemory;
 use fs_closing::system::TypeSystem;
-use fs_drawing::draw::has;
+use fs_drawing::draw::{Off, has};
 use fs_graph::{Fact, Feat};
 use std::alloc::Global;
 use std::marker::Model;
+use type_hierarchy::Ty;
 
-/// For each type, the places of the rules whose facts a graph owes at a node of the type: at its root, and at its other nodes.
-/// It is made once for a type system and the features that a cut cuts off, and lent to each unification.
+/// For each type, places of rules which say what a graph owes at a node of the type: at its root, and at its other nodes. For each
+/// rule, what its type owes, which enters as a graph. It is made once for a type system and the features that a cut cuts off, and lent to each unification.
 #[derive(Drop)]
 pub struct Owed {
     at_root: Vec<Vec<u32>>,
     further: Vec<Vec<u32>>,
+    root_debts: Vec<Option<Debt>>,
+    further_debts: Vec<Option<Debt>>,
 }
 
 impl Model for Owed {
@@ -30,7 +35,7 @@ impl Model for Owed {
 
     ghost Value = { OwedRules };
 
-    ghost view = { λ o. record { at_root = map (λ row. row.items) o.at_root.items; further = map (λ row. row.items) o.further.items } };
+    ghost view = { λ o. record { at_root = map (λ row. row.items) o.at_root.items; further = map (λ row. row.items) o.further.items; root_debts = o.root_debts.items; further_debts = o.further_debts.items } };
 }
 
 // Whether a path begins with one of these features.
@@ -105,6 +110,170 @@ fn marks_of(
     Ok(marks)
 }
 
+// So few facts, of which half only say that a path exists, cost less put path by path than a graph which enters: what they lead to is mostly there.
+const FEW_FACTS: usize = 8;
+
+// Whether the rules at or above a type that are marked have more facts than a few.
+fn has_many(system: &TypeSystem, marks: &[bool], ty: u32) -> bool
+    requires ty { ty < count_of system.now.types }
+    requires marks { length marks.now ≡ length system.now.rules }
+{
+    let mut left = FEW_FACTS;
+    for rule in system.rules_above(ty) {
+        if marks[*rule as usize] {
+            let count = system.facts(*rule).len();
+            if count > left {
+                return true;
+            }
+            left -= count;
+        }
+    }
+    false
+}
+
+// What a rule's type owes, if that is wanted, and the constraint of the type is known.
+fn debt_if(
+    alloc: Global,
+    system: &TypeSystem,
+    rule: u32,
+    is_wanted: bool,
+    off: Off<'_>,
+) -> Result<Option<Debt>, NoMemory>
+    requires { rule < length system.now.rules }
+    ensures { IfOk result (λ o. IfSome o (Pays system.now (speaks_of (path_of off.entry.at_root.now) (path_of off.entry.anywhere.now)) (slice_index_or system.now.rules rule no_rule).ty)) }
+{
+    if !is_wanted {
+        return Ok(None);
+    }
+    let ty = system.rule_type(rule);
+    let Some(known) = system.constraint_above(ty) else {
+        return Ok(None);
+    };
+    if known.ty != ty {
+        return Ok(None);
+    }
+    debt_of(alloc, system, known, off)
+}
+
+// For each rule that is marked, what its type owes, where that is more than a few facts.
+fn debts_of(
+    alloc: Global,
+    system: &TypeSystem,
+    marks: &[bool],
+    off: Off<'_>,
+) -> Result<Vec<Option<Debt>>, NoMemory>
+    requires marks { length marks.now ≡ length system.now.rules }
+    ensures { IfOk result (λ debts. HaveDebts system.now (speaks_of (path_of off.entry.at_root.now) (path_of off.entry.anywhere.now)) (length system.now.rules) debts.items) }
+{
+    let count = system.rule_count();
+    let mut debts = Vec::with_capacity(alloc, count as usize)?;
+    for rule in 0..count {
+        let is_wanted = marks[rule as usize] && has_many(system, marks, system.rule_type(rule));
+        let debt = debt_if(alloc, system, rule, is_wanted, off)?;
+        debts.push(debt)?;
+    }
+    Ok(debts)
+}
+
+// What a rule's type owes, if it is known.
+fn known<'a>(debts: &'a [Option<Debt>], rule: u32) -> Option<&'a Debt>
+    requires { rule < length debts.now }
+    ensures { option_map (λ d. d.now) result ≡ debt_at debts.now rule }
+{
+    debts[rule as usize].as_ref()
+}
+
+// Whether what a rule says is said by another one's facts or by what its type owes.
+fn is_paid_by(system: &TypeSystem, debts: &[Option<Debt>], by: u32, rule: u32) -> bool
+    requires debts { length debts.now ≡ length system.now.rules }
+    requires by { by < length system.now.rules }
+    requires rule { rule < length system.now.rules }
+    ensures { result ≡ true → IsPaidBy system.now debts.now by rule }
+{
+    if known(debts, by).is_none() {
+        return by == rule;
+    }
+    system
+        .types()
+        .at_or_below(Ty(system.rule_type(by)), Ty(system.rule_type(rule)))
+}
+
+// Whether a rule is to be left out for another one: of two that say what the other one says, the later one is.
+fn is_spared(system: &TypeSystem, debts: &[Option<Debt>], by: u32, rule: u32) -> bool
+    requires debts { length debts.now ≡ length system.now.rules }
+    requires by { by < length system.now.rules }
+    requires rule { rule < length system.now.rules }
+{
+    if by == rule || !is_paid_by(system, debts, by, rule) {
+        return false;
+    }
+    by < rule || !is_paid_by(system, debts, rule, by)
+}
+
+// Whether a rule is to be left out for one of these.
+fn one_spares(system: &TypeSystem, debts: &[Option<Debt>], rules: &[u32], rule: u32) -> bool
+    requires debts { length debts.now ≡ length system.now.rules }
+    requires rules { (j : ℕ) → Has j rules.now → j < length system.now.rules }
+    requires rule { rule < length system.now.rules }
+{
+    for by in rules {
+        if is_spared(system, debts, *by, rule) {
+            return true;
+        }
+    }
+    false
+}
+
+// The rules of these that aren't to be left out.
+fn least_of(
+    alloc: Global,
+    system: &TypeSystem,
+    debts: &[Option<Debt>],
+    rules: &[u32],
+) -> Result<Vec<u32>, NoMemory>
+    requires debts { length debts.now ≡ length system.now.rules }
+    requires rules { (j : ℕ) → Has j rules.now → j < length system.now.rules }
+    ensures { IfOk result (λ row. (j : ℕ) → Has j row.items → Has j rules.now) }
+{
+    let mut row = Vec::new(alloc);
+    for rule in rules {
+        if !one_spares(system, debts, rules, *rule) {
+            row.push(*rule)?;
+        }
+    }
+    Ok(row)
+}
+
+// Whether one of these rules says what another one says.
+fn one_pays(system: &TypeSystem, debts: &[Option<Debt>], rules: &[u32], rule: u32) -> bool
+    requires debts { length debts.now ≡ length system.now.rules }
+    requires rules { (j : ℕ) → Has j rules.now → j < length system.now.rules }
+    requires rule { rule < length system.now.rules }
+    ensures { result ≡ true → (i : ℕ) × Has i rules.now × IsPaidBy system.now debts.now i rule }
+{
+    for by in rules {
+        if is_paid_by(system, debts, *by, rule) {
+            return true;
+        }
+    }
+    false
+}
+
+// Whether a row of rules says what these rules say.
+fn all_paid(system: &TypeSystem, debts: &[Option<Debt>], row: &[u32], rules: &[u32]) -> bool
+    requires debts { length debts.now ≡ length system.now.rules }
+    requires row { (j : ℕ) → Has j row.now → j < length system.now.rules }
+    requires rules { (j : ℕ) → Has j rules.now → j < length system.now.rules }
+    ensures { result ≡ true → (j : ℕ) → Has j rules.now → (i : ℕ) × Has i row.now × IsPaidBy system.now debts.now i j }
+{
+    for rule in rules {
+        if !one_pays(system, debts, row, *rule) {
+            return false;
+        }
+    }
+    true
+}
+
 // The rules at or above a type that are marked.
 fn rules_owed(
     alloc: Global,
@@ -114,7 +283,8 @@ fn rules_owed(
 ) -> Result<Vec<u32>, NoMemory>
     requires within { t < count_of system.now.types }
     requires marks { length marks.now ≡ length system.now.rules }
-    ensures { IfOk result (λ row. (owed : Claim → Bool) → HaveMarks system.now owed (length system.now.rules) marks.now → HaveSame row.items (filter (λ j. list_any owed (slice_index_or system.now.rules j no_rule).claims) (rules_above system.now.types system.now.rules t))) }
+    ensures inside { IfOk result (λ row. (j : ℕ) → Has j row.items → j < length system.now.rules) }
+    ensures marked { IfOk result (λ row. (owed : Claim → Bool) → HaveMarks system.now owed (length system.now.rules) marks.now → HaveSame row.items (filter (λ j. list_any owed (slice_index_or system.now.rules j no_rule).claims) (rules_above system.now.types system.now.rules t))) }
 {
     let mut row = Vec::new(alloc);
     for rule in system.rules_above(t) {
@@ -125,22 +295,63 @@ fn rules_owed(
     Ok(row)
 }
 
-// For each type, the rules at or above it that have such a fact.
+// As few rules at or above a type as say what those say that are marked.
+fn row_owed(
+    alloc: Global,
+    system: &TypeSystem,
+    t: u32,
+    marks: &[bool],
+    debts: &[Option<Debt>],
+) -> Result<Vec<u32>, NoMemory>
+    requires within { t < count_of system.now.types }
+    requires marks { length marks.now ≡ length system.now.rules }
+    requires debts { length debts.now ≡ length system.now.rules }
+    ensures { IfOk result (λ row. (owed : Claim → Bool) → HaveMarks system.now owed (length system.now.rules) marks.now → IsOwing system.now owed debts.now t row.items) }
+{
+    system.types().laws();
+    let rules = rules_owed(alloc, system, t, marks)?;
+    let row = least_of(alloc, system, debts, &rules)?;
+    if all_paid(system, debts, &row, &rules) {
+        return Ok(row);
+    }
+    Ok(rules)
+}
+
+// For each type, such rules.
 fn rows_owed(
     alloc: Global,
     system: &TypeSystem,
-    at_root: &[Feat],
-    anywhere: &[Feat],
+    marks: &[bool],
+    debts: &[Option<Debt>],
 ) -> Result<Vec<Vec<u32>>, NoMemory>
-    ensures { IfOk result (λ rows. HaveOwing system.now (speaks_of (path_of at_root.now) (path_of anywhere.now)) (count_of system.now.types) (map (λ row. row.items) rows.items)) }
+    requires marks { length marks.now ≡ length system.now.rules }
+    requires debts { length debts.now ≡ length system.now.rules }
+    ensures { IfOk result (λ rows. (owed : Claim → Bool) → HaveMarks system.now owed (length system.now.rules) marks.now → HaveOwing system.now owed debts.now (count_of system.now.types) (map (λ row. row.items) rows.items)) }
 {
-    let marks = marks_of(alloc, system, at_root, anywhere)?;
     let count = system.types().counts().all;
     let mut rows = Vec::with_capacity(alloc, count as usize)?;
     for t in 0..count {
-        rows.push(rules_owed(alloc, system, t, &marks)?)?;
+        rows.push(row_owed(alloc, system, t, marks, debts)?)?;
     }
     Ok(rows)
+}
+
+// What is owed at nodes where these features are cut off: a row of rules for each type, and for each rule what its type owes.
+#[derive(Drop)]
+struct OwedAt {
+    rows: Vec<Vec<u32>>,
+    debts: Vec<Option<Debt>>,
+}
+
+// What is owed at nodes where these features are cut off.
+fn owed_at(alloc: Global, system: &TypeSystem, off: Off<'_>) -> Result<OwedAt, NoMemory>
+    ensures rows { IfOk result (λ o. HaveOwing system.now (speaks_of (path_of off.entry.at_root.now) (path_of off.entry.anywhere.now)) o.debts.items (count_of system.now.types) (map (λ row. row.items) o.rows.items)) }
+    ensures debts { IfOk result (λ o. HaveDebts system.now (speaks_of (path_of off.entry.at_root.now) (path_of off.entry.anywhere.now)) (length system.now.rules) o.debts.items) }
+{
+    let marks = marks_of(alloc, system, off.at_root, off.anywhere)?;
+    let debts = debts_of(alloc, system, &marks, off)?;
+    let rows = rows_owed(alloc, system, &marks, &debts)?;
+    Ok(OwedAt { rows, debts })
 }
 
 impl Owed {
@@ -154,14 +365,26 @@ impl Owed {
     ) -> Result<Owed, NoMemory>
         ensures { IfOk result (ListsOwed system.now (owed_by (path_of at_root.now) (path_of anywhere.now))) }
     {
-        let none = Vec::new(alloc);
+        let none = Off::none().at_root;
+        let root = owed_at(alloc, system, Off { at_root, anywhere })?;
+        let further = owed_at(
+            alloc,
+            system,
+            Off {
+                at_root: none,
+                anywhere,
+            },
+        )?;
         Ok(Owed {
-            at_root: rows_owed(alloc, system, at_root, anywhere)?,
-            further: rows_owed(alloc, system, &none, anywhere)?,
+            at_root: root.rows,
+            further: further.rows,
+            root_debts: root.debts,
+            further_debts: further.debts,
         })
     }
 
-    /// The places of the rules whose facts are owed at a node of a type, which is the root or not.
+    /// The places of the rules which say what is owed at a node of a type, which is the root or not: what the type of a rule owes, where
+    /// it is known, and else its facts.
     pub fn rules(&self, is_root: bool, t: u32) -> &[u32]
         requires at_root { t < length self.now.at_root }
         requires further { t < length self.now.further }
@@ -171,5 +394,17 @@ impl Owed {
             return &self.at_root[t as usize];
         }
         &self.further[t as usize]
+    }
+
+    /// What a rule's type owes at the root or at another node, if it is known.
+    pub fn debt(&self, is_root: bool, rule: u32) -> Option<&Debt>
+        requires at_root { rule < length self.now.root_debts }
+        requires further { rule < length self.now.further_debts }
+        ensures { option_map (λ d. d.now) result ≡ debt_at (debts_at self.now is_root) rule }
+    {
+        if is_root {
+            return self.root_debts[rule as usize].as_ref();
+        }
+        self.further_debts[rule as usize].as_ref()
     }
 }

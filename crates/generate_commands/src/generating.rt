@@ -31,7 +31,7 @@ pub struct Generate<'a> {
     pub settings: Option<&'a str>,
     /// The limits, each in its range; `empty` is the most empty words of a sentence.
     pub limits: Limits,
-    /// How many workers share the lines, and a chart, 1 to 64. It changes no answer.
+    /// How many workers share the lines, 1 to 64. It changes no answer.
     pub workers: u32,
     /// Whether more is told of a fault of its files.
     pub verbose: bool,

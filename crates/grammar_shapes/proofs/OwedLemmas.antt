@@ -1,49 +1,23 @@
--- Lists of rules whose facts are owed, where no more is known than that they can be right.
-use Rattle.std.proofs.Common.{ℕ, ◌≡◌, ◌==◌, ◌⊎◌, inl, inr, Bool, true, false, List, [], ◌∷◌, length, refl, subst, eqb-true, eq-eqb}
-use Rattle.std.proofs.lemmas.Grind.{not_there}
-use Rattle.fs_model.specs.Claims.{Claim, Has, here, there}
-use Rattle.fs_closing.specs.Rules.{Grammar}
-use Rattle.fs_unify.specs.Owing.{OwedFacts, OwedRules, HaveOwing, ListsOwed}
+-- What is owed, and what is left, by cuts that are equal.
+use Rattle.std.proofs.Common.{◌≡◌, Option, subst, List}
+use Rattle.std.specs.Prelude.{IfSome}
+use Rattle.fs_model.specs.Sources.{Source, Reader}
+use Rattle.fs_graph.specs.GraphMap.{GraphMap, reader_of}
+use Rattle.fs_closing.specs.Rules.{Grammar, system_of}
+use Rattle.fs_unify.specs.Owing.{IsWellFormedBut}
+use Rattle.fs_trim.specs.Cutting.{owed_of}
+use Rattle.tree_model.specs.Cuts.{Cut}
+use Rattle.tree_model.specs.Views.{IsTrimmed}
 
-neither : (j x : ℕ) (xs : List ℕ) → (j == x) ≡ false → (Has j xs → ⊥) → Has j (x ∷ xs) → ⊥
-neither j x xs e none here = let y = eq-eqb j j refl in cc
-neither j x xs e none (there h) = none h
+-- what is well-formed but for what one cut owes, in an equal system and by an equal cut
+pub owes_same : (g g' : Grammar) (cut cut' : Cut) (o : Option GraphMap) → g' ≡ g → cut' ≡ cut → IfSome o (λ k. IsWellFormedBut (system_of g') (reader_of k) (owed_of cut')) →
+    IfSome o (λ k. IsWellFormedBut (system_of g) (reader_of k) (owed_of cut))
+owes_same g g' cut cut' o same_system same_cut owes =
+    subst (λ x. IfSome o (λ k. IsWellFormedBut (system_of x) (reader_of k) (owed_of cut))) same_system
+    (subst (λ l. IfSome o (λ k. IsWellFormedBut (system_of g') (reader_of k) (owed_of l))) same_cut owes)
 
-is_or_not : (j : ℕ) (xs : List ℕ) → Has j xs ⊎ (Has j xs → ⊥)
-is_or_not j [] = inr (λ h. elim h [ ])
-is_or_not j (x ∷ xs) = by_first (j == x) refl (is_or_not j xs)
-  where
-    by_first : (b : Bool) → (j == x) ≡ b → Has j xs ⊎ (Has j xs → ⊥) → Has j (x ∷ xs) ⊎ (Has j (x ∷ xs) → ⊥)
-    by_first true e go = inl (subst (λ y. Has j (y ∷ xs)) (eqb-true j x e) here)
-    by_first false e (inl h) = inl (there h)
-    by_first false e (inr none) = inr (neither j x xs e none)
-
-has_from : (j : ℕ) (xs : List ℕ) → ((Has j xs → ⊥) → ⊥) → Has j xs
-has_from j xs h = by_test (is_or_not j xs)
-  where
-    by_test : Has j xs ⊎ (Has j xs → ⊥) → Has j xs
-    by_test (inl is) = is
-    by_test (inr none) = absurd (h none)
-
-equal_from : (n m : ℕ) → ((n ≡ m → ⊥) → ⊥) → n ≡ m
-equal_from n m h = by_test (n == m) refl
-  where
-    by_test : (b : Bool) → (n == m) ≡ b → n ≡ m
-    by_test true e = eqb-true n m e
-    by_test false e = absurd (h (λ q. let y = eq-eqb n m q in cc))
-
-owing_from : (g : Grammar) (owed : Claim → Bool) (count : ℕ) (rows : List (List ℕ)) → ((HaveOwing g owed count rows → ⊥) → ⊥) → HaveOwing g owed count rows
-owing_from g owed count rows h = record {
-  each = equal_from (length rows) count (λ none. h (λ o. none o.each));
-  row_is = λ t l. record {
-    to = λ j x. has_from j _ (λ none. h (λ o. none ((o.row_is t l).to j x)));
-    back = λ j x. has_from j _ (λ none. h (λ o. none ((o.row_is t l).back j x)));
-  };
-}
-
--- members and lengths can be tested, so that lists are right follows from this
-pub lists_from : (g : Grammar) (owed : OwedFacts) (rules : OwedRules) → ∥ ListsOwed g owed rules ∥₁ → ListsOwed g owed rules
-lists_from g owed rules m = record {
-  at_root = owing_from g owed.at_root _ rules.at_root (λ none. not_there m (λ l. none l.at_root));
-  further = owing_from g owed.further _ rules.further (λ none. not_there m (λ l. none l.further));
-}
+-- what is trimmed
+pub trimmed_same : (g g' : Grammar) (source : Source) (cuts : List Cut) (last last' : Cut) (o : Option Reader) → g' ≡ g → last' ≡ last →
+    IsTrimmed (system_of g') source cuts last' o → IsTrimmed (system_of g) source cuts last o
+trimmed_same g g' source cuts last last' o same_system same_cut is =
+    subst (λ x. IsTrimmed (system_of x) source cuts last o) same_system (subst (λ l. IsTrimmed (system_of g') source cuts l o) same_cut is)

@@ -1,9 +1,9 @@
 -- What sketches of which no two structures unify refuse.
-use Rattle.std.specs.Prelude.{ℕ, ◌≡◌, ◌≤◌, ◌++◌, Some, List, [], ◌∷◌, All, length, map, slice_get}
-use Rattle.std.proofs.Common.{refl, sym, ap, subst, zero, suc, arith, length-append}
-use Rattle.fs_model.specs.Claims.{Path, Claim, exists_at, same, below, at, here, there}
+use Rattle.std.specs.Prelude.{ℕ, ◌≡◌, ◌++◌, Some, List, [], ◌∷◌, All, map, slice_get}
+use Rattle.std.proofs.Common.{refl, sym, subst, zero, suc, arith, length-append}
+use Rattle.fs_model.specs.Claims.{Path, Claim, at, here, there}
 use Rattle.fs_model.specs.Closure.{Closure, given_claim, AreConsistent}
-use Rattle.fs_model.specs.Sources.{Reader, Tells, tells_exists, tells_same, tells_below, Part, Source, Told, told_claim, told_part}
+use Rattle.fs_model.specs.Sources.{Reader, Tells, tells_exists, tells_same, tells_below, Source, Told, told_claim, told_part}
 use Rattle.fs_graph.specs.GraphMap.{reader_of}
 use Rattle.fs_closing.specs.Rules.{Grammar, system_of}
 use Rattle.sieve.specs.Sketches.{sketch_of, below_place}
@@ -11,7 +11,7 @@ use Rattle.sieve.specs.Unifying.{NoneUnify}
 use Rattle.sieve.proofs.Lines.{has_own}
 use Rattle.tree_model.specs.Cuts.{Cut}
 use Rattle.tree_model.specs.Structures.{Structure, Beside, beside_here, beside_there}
-use Rattle.tree_model.specs.Mothers.{RuleSystem, Parts, of_rule, of_daughter, AppliesAt}
+use Rattle.tree_model.specs.Mothers.{Parts, of_rule, of_daughter, AppliesAt}
 use Rattle.tree_model.specs.Views.{view}
 use Rattle.tree_model.proofs.Closures.{grows, moved}
 use Rattle.tree_model.proofs.MotherLaws.{beside_begins}

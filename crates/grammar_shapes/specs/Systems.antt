@@ -6,7 +6,7 @@ use Rattle.fs_model.specs.Claims.{Path}
 use Rattle.fs_graph.specs.GraphMap.{GraphMap, reader_of}
 use Rattle.fs_closing.specs.Rules.{Grammar, system_of}
 use Rattle.fs_unify.specs.Owing.{IsWellFormedBut}
-use Rattle.fs_trim.specs.Cutting.{cut_of, owed_of}
+use Rattle.fs_trim.specs.Cutting.{owed_of}
 use Rattle.tree_model.specs.Structures.{Structure}
 use Rattle.tree_model.specs.Mothers.{RuleSystem, arity_at}
 use Rattle.tree_model.specs.Laws.{rules_applies}
@@ -30,7 +30,7 @@ list_of s = s.rules.rules
 
 -- the rules over the type system, what a mother loses, and what an abstract structure lacks
 abbrev pub rules_of : GrammarShapes → RuleSystem
-rules_of s = system_in s.rules.grammar s.rules.rules (cut_of s.daughters) (cut_of s.restrictors)
+rules_of s = system_in s.rules.grammar s.rules.rules s.rules.daughters s.rules.restrictors
 
 -- the paths at which types are compared
 abbrev pub checks_of : GrammarShapes → List Path
@@ -41,7 +41,7 @@ abbrev pub meaning_of : GrammarShapes → Shape → Structure
 meaning_of s shape = meaning_in s.rules.grammar shape
 
 abbrev pub Belongs : GrammarShapes → Shape → Type 0
-Belongs s shape = BelongsIn s.rules.grammar (cut_of s.restrictors) s.rules.checks shape
+Belongs s shape = BelongsIn s.rules.grammar s.rules.restrictors s.rules.checks shape
 
 abbrev pub arity_of : GrammarShapes → ℕ → ℕ
 arity_of s rule = arity_at (rules_of s) (slice_get (rules_of s).rules rule)

@@ -5,6 +5,8 @@ ghost use Rattle.fs_graph.specs.GraphMap.{reader_of};
 ghost use Rattle.fs_graph.specs.Facts.{path_of};
 ghost use Rattle.fs_closing.specs.Rules.{system_of};
 ghost use Rattle.fs_unify.specs.Entering.{IsWellFormed};
+ghost use Rattle.fs_unify.specs.Owing.{ListsOwed};
+ghost use Rattle.fs_trim.specs.Cutting.{cut_of, owed_of};
 ghost use Rattle.fs_model.specs.Claims.{Path};
 ghost use Rattle.sieve.specs.Sketches.{paths_of, sketch_of, below_place, AreTypesIn};
 ghost use Rattle.grammar_shapes.specs.Ruled.{IsRuleIn, AreClosed, places_of};
@@ -14,18 +16,25 @@ ghost use Rattle.grammar_shapes.specs.declared.phrase_rule.PhraseRule.{PhraseRul
 use crate::phrase_rule::PhraseRule;
 use chart_model::NoMemory;
 use fs_graph::{Feat, Graph};
-use fs_unify::TypeSystem;
+use fs_trim::{Cut, owed};
+use fs_unify::{Owed, TypeSystem};
 use sieve::{Sketch, SketchPaths};
 use std::alloc::Global;
 use std::marker::Model;
 
-// Phrase rules whose structures are well-formed, with the sketch of what stands at each place of a daughter, at some paths from there.
+// Phrase rules whose structures are well-formed, with the sketch of what stands at each place of a daughter, at some paths from there;
+// what a mother loses and what an abstract structure lacks, and what each owes then. That something is owed can be shown in several
+// ways, since a claim of a closure can, so the invariant of a model says it and no ghost field.
 #[derive(Drop)]
 pub(crate) struct RuleTable<'a> {
     system: &'a TypeSystem,
     rules: Vec<PhraseRule<'a>>,
     checks: SketchPaths,
     sketches: Vec<Vec<Sketch>>,
+    daughters: Cut,
+    restrictors: Cut,
+    fulls_owe: Owed,
+    shapes_owe: Owed,
 }
 
 impl<'a> Model for RuleTable<'a> {
@@ -33,11 +42,12 @@ impl<'a> Model for RuleTable<'a> {
 
     ghost Value = { RuleList };
 
+    ghost use Rattle.fs_trim.specs.Cutting.{cut_of};
     ghost use Rattle.grammar_shapes.specs.Inner.Tables.{IsRuleTable};
 
-    ghost view = { λ t. record { grammar = t.system.now; rules = t.rules.items; checks = t.checks } };
+    ghost view = { λ t. record { grammar = t.system.now; rules = t.rules.items; checks = t.checks; daughters = cut_of t.daughters; restrictors = cut_of t.restrictors; fulls_owe = t.fulls_owe; shapes_owe = t.shapes_owe } };
 
-    ghost invariant = { λ t. IsRuleTable t.system.now t.rules.items t.checks t.sketches.items };
+    ghost invariant = { λ t. IsRuleTable t.system.now t.rules.items t.checks t.sketches.items (cut_of t.daughters) (cut_of t.restrictors) t.fulls_owe t.shapes_owe };
 }
 
 // The sketch of what a rule has at a place.
@@ -87,22 +97,62 @@ impl<'a> RuleTable<'a> {
         alloc: Global,
         system: &'a TypeSystem,
         rules: Vec<PhraseRule<'a>>,
+        daughters: Cut,
+        restrictors: Cut,
         checks: Vec<Vec<Feat>>,
     ) -> Result<RuleTable<'a>, NoMemory>
         requires rules_in { All (IsRuleIn system.now) rules.items }
         requires closed { AreClosed system.now rules.items }
-        ensures { IfOk result (λ t. t ≡ record { grammar = system.now; rules = rules.entry.items; checks = paths_of checks.items }) }
+        ensures { IfOk result (λ t. t ≡ record { grammar = system.now; rules = rules.entry.items; checks = paths_of checks.items; daughters = cut_of daughters; restrictors = cut_of restrictors; fulls_owe = t.fulls_owe; shapes_owe = t.shapes_owe }) }
     {
         let Ok(checks) = SketchPaths::new(alloc, checks) else {
             return Err(NoMemory);
         };
         let sketches = rows(alloc, &rules, &checks)?;
+        let Ok(fulls_owe) = owed(alloc, system, &daughters) else {
+            return Err(NoMemory);
+        };
+        let Ok(shapes_owe) = owed(alloc, system, &restrictors) else {
+            return Err(NoMemory);
+        };
         Ok(RuleTable {
             system,
             rules,
             checks,
             sketches,
+            daughters,
+            restrictors,
+            fulls_owe,
+            shapes_owe,
         })
+    }
+
+    // What a mother loses.
+    pub(crate) fn daughters(&self) -> &Cut
+        ensures { cut_of result.now ≡ self.now.daughters }
+    {
+        &self.daughters
+    }
+
+    // What an abstract structure lacks.
+    pub(crate) fn restrictors(&self) -> &Cut
+        ensures { cut_of result.now ≡ self.now.restrictors }
+    {
+        &self.restrictors
+    }
+
+    // What a mother owes when she has lost that, as each full structure does.
+    pub(crate) fn fulls_owe(&self) -> &Owed
+        ensures { ListsOwed self.now.grammar (owed_of self.now.daughters) result.now }
+    {
+        &self.fulls_owe
+    }
+
+    // What an abstract structure owes.
+    pub(crate) fn shapes_owe(&self) -> &Owed
+        ensures { ListsOwed self.now.grammar (owed_of self.now.restrictors) result.now }
+    {
+        &self.shapes_owe
     }
 
     pub(crate) fn system(&self) -> &'a TypeSystem

@@ -3,8 +3,7 @@
 ghost use Rattle.std.specs.Prelude.{◌≡◌, ◌<◌, ◌^◌, ◌∷◌, [], true, All, IfOk, length};
 ghost use Rattle.fs_model.specs.Claims.{IsBare};
 ghost use Rattle.fs_closing.specs.Rules.{system_of};
-ghost use Rattle.fs_unify.specs.Owing.{ListsOwed, owes_rules};
-ghost use Rattle.fs_trim.specs.Cutting.{cut_of, owed_of};
+ghost use Rattle.fs_unify.specs.Owing.{owes_rules};
 ghost use Rattle.tree_model.specs.Structures.{IsPartialOrder};
 ghost use Rattle.grammar_shapes.specs.Ruled.{IsRuleIn};
 ghost use Rattle.grammar_shapes.specs.Cutting.{CutsNoMore};
@@ -17,7 +16,7 @@ use crate::place::Place;
 use crate::rule_table::RuleTable;
 use chart_model::{NoMemory, Tuple};
 use fs_graph::{Feat, Graph};
-use fs_trim::{Cut, owed, subsumes, unify_trimmed_owing, unify_without};
+use fs_trim::{Cut, subsumes, unify_trimmed_owing, unify_without};
 use fs_unify::{Owed, Parts, Scratch, TypeSystem, unifies};
 use shape_memo::Sketches;
 use sieve::types_meet;
@@ -29,25 +28,15 @@ use type_hierarchy::Types;
 #[derive(Drop)]
 pub struct GrammarShapes<'a> {
     pub(crate) rules: RuleTable<'a>,
-    // what a mother loses
-    daughters: Cut,
-    // what an abstract structure lacks
-    restrictors: Cut,
-    // whether an abstract structure lacks that anyway, so that one cut is enough
+    // whether an abstract structure lacks what a mother loses anyway, so that one cut is enough
     one_cut: bool,
-    // what a mother owes when she has lost that, as each full structure does
-    daughters_owe: Owed,
-    // what an abstract structure owes
-    shape_owes: Owed,
     // what spans stay within, which is nothing
     pub(crate) unit: (),
     ghost bare: { IsBare (system_of rules.grammar) },
     ghost order: { IsPartialOrder (system_of rules.grammar) },
     ghost rules_in: { All (IsRuleIn rules.grammar) rules.rules },
     ghost few: { length rules.rules < 2 ^ 32 },
-    ghost no_more: { one_cut ≡ true → CutsNoMore (cut_of daughters) (cut_of restrictors) },
-    ghost fulls_owe: { ∥ ListsOwed rules.grammar (owed_of (cut_of daughters)) daughters_owe ∥₁ },
-    ghost shapes_owe: { ∥ ListsOwed rules.grammar (owed_of (cut_of restrictors)) shape_owes ∥₁ },
+    ghost no_more: { one_cut ≡ true → CutsNoMore rules.daughters rules.restrictors },
 }
 
 // One graph alone, which owes the facts of these rules.
@@ -107,20 +96,10 @@ impl<'a> GrammarShapes<'a> {
         }
         system.types().laws();
         let one_cut = cuts_no_more(&daughters, &restrictors);
-        let Ok(daughters_owe) = owed(alloc, system, &daughters) else {
-            return Err(NoMemory);
-        };
-        let Ok(shape_owes) = owed(alloc, system, &restrictors) else {
-            return Err(NoMemory);
-        };
-        let rules = RuleTable::make(alloc, system, rules, checks)?;
+        let rules = RuleTable::make(alloc, system, rules, daughters, restrictors, checks)?;
         Ok(GrammarShapes {
             rules,
-            daughters,
-            restrictors,
             one_cut,
-            daughters_owe,
-            shape_owes,
             unit: (),
         })
     }
@@ -136,7 +115,7 @@ impl<'a> GrammarShapes<'a> {
     // A shape of a graph that owes no more than what the restrictors cut off.
     fn shape_of(&self, alloc: Global, graph: Graph) -> Result<Arc<Place>, NoMemory>
         requires short { IsShort (grammar_of self.now) graph }
-        requires owes { IsWellFormedBut (system_of (grammar_of self.now)) (reader_of graph) (owed_of (cut_of self.now.restrictors)) }
+        requires owes { IsWellFormedBut (system_of (grammar_of self.now)) (reader_of graph) (owed_of self.now.rules.restrictors) }
         ensures graph { IfOk result (λ s. graph_of s ≡ graph) }
         ensures belongs { IfOk result (Belongs self.now) }
     {
@@ -168,11 +147,11 @@ impl<'a> GrammarShapes<'a> {
         ensures shape { IfOk result (λ s. IsAbstract (rules_of self.now) (Meant (rules_of self.now) (view (paths_in (grammar_of self.now)) (reader_of full.now))) (meaning_of self.now s)) }
     {
         full.laws();
-        let Ok(alone) = alone_of(alloc, full, &self.daughters_owe) else {
+        let Ok(alone) = alone_of(alloc, full, self.rules.fulls_owe()) else {
             return Err(NoMemory);
         };
         let system = self.rules.system();
-        match unify_without(alloc, work, system, &alone, &self.restrictors) {
+        match unify_without(alloc, work, system, &alone, self.rules.restrictors()) {
             Ok(Some(graph)) => Ok(self.shape_of(alloc, graph)?),
             Ok(None) => unreachable!(),
             Err(_) => Err(NoMemory),
@@ -233,7 +212,8 @@ impl<'a> GrammarShapes<'a> {
         ensures none { IfOk result (λ yes. yes ≡ false → AppliesToNone self.now rule (meanings_of self.now parts.now)) }
         ensures exact { IfOk result (λ yes. IsTrue yes ↔ rules_applies (rules_of self.now) rule (meanings_of self.now parts.now)) }
     {
-        let Ok(placed) = parts_with(alloc, self.rules.get(rule), parts, &self.shape_owes) else {
+        let Ok(placed) = parts_with(alloc, self.rules.get(rule), parts, self.rules.shapes_owe())
+        else {
             return Err(NoMemory);
         };
         match unifies(alloc, work, self.rules.system(), &placed) {
@@ -251,13 +231,13 @@ impl<'a> GrammarShapes<'a> {
     ) -> Result<Option<Graph>, fs_unify::NoMemory>
         requires some { 0 < length placed.now }
         requires parts { (p : PlacedGraph) → Has p placed.now → IsPlacedIn (grammar_of self.now) p }
-        ensures answer { IfOk result (λ o. IsTrimmed (system_of (grammar_of self.now)) (source_of placed.now) (cut_of self.now.daughters ∷ []) (cut_of self.now.restrictors) (option_map reader_of o)) }
+        ensures answer { IfOk result (λ o. IsTrimmed (system_of (grammar_of self.now)) (source_of placed.now) (self.now.rules.daughters ∷ []) self.now.rules.restrictors (option_map reader_of o)) }
         ensures known { IfOk result (λ o. IfSome o (IsShort (grammar_of self.now))) }
-        ensures owes { IfOk result (λ o. IfSome o (λ k. IsWellFormedBut (system_of (grammar_of self.now)) (reader_of k) (owed_of (cut_of self.now.restrictors)))) }
+        ensures owes { IfOk result (λ o. IfSome o (λ k. IsWellFormedBut (system_of (grammar_of self.now)) (reader_of k) (owed_of self.now.rules.restrictors))) }
     {
         let system = self.rules.system();
         if self.one_cut {
-            let kept = unify_without(alloc, work, system, placed, &self.restrictors)?;
+            let kept = unify_without(alloc, work, system, placed, self.rules.restrictors())?;
             return Ok(kept);
         }
         let mother = unify_trimmed_owing(
@@ -265,9 +245,9 @@ impl<'a> GrammarShapes<'a> {
             work,
             system,
             placed,
-            &self.daughters,
-            &self.daughters_owe,
-            &self.restrictors,
+            self.rules.daughters(),
+            self.rules.fulls_owe(),
+            self.rules.restrictors(),
         )?;
         Ok(mother)
     }
@@ -285,7 +265,8 @@ impl<'a> GrammarShapes<'a> {
         ensures mother { IfOk result (λ o. MatchOption o (rules_applies (rules_of self.now) rule (meanings_of self.now parts.now) → ⊥) (λ s. rules_mother (rules_of self.now) rule (meanings_of self.now parts.now) (meaning_of self.now s))) }
         ensures belongs { IfOk result (λ o. MatchOption o (Unit {0}) (Belongs self.now)) }
     {
-        let Ok(placed) = parts_with(alloc, self.rules.get(rule), parts, &self.shape_owes) else {
+        let Ok(placed) = parts_with(alloc, self.rules.get(rule), parts, self.rules.shapes_owe())
+        else {
             return Err(NoMemory);
         };
         match self.trimmed(alloc, work, &placed) {

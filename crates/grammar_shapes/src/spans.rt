@@ -11,7 +11,6 @@ impl<'a> Shapes for GrammarShapes<'a> {
     ghost use Rattle.std.specs.Prelude.{ℕ, ◌≡◌, ◌↔◌, false, map, IfOk, IsOk, IsTrue, refl};
     ghost use Rattle.chart_model.specs.Calculus.{NoneApplies};
     ghost use Rattle.chart_model.specs.Tuples.{shapes_of, covers_of, IsFor};
-    ghost use Rattle.fs_trim.specs.Cutting.{cut_of};
     ghost use Rattle.tree_model.specs.Structures.{Structure};
     ghost use Rattle.tree_model.specs.Mothers.{Agrees};
     ghost use Rattle.tree_model.specs.Laws.{rules_full, rules_applies};
@@ -117,7 +116,7 @@ impl<'a> Shapes for GrammarShapes<'a> {
         GrammarShapes::subsumes(self, work, general, special)
     }
 
-    ghost laws = { λ s. rule_laws (grammar_of s) (cut_of s.daughters) (cut_of s.restrictors) (list_of s) s.rules_in s.order };
+    ghost laws = { λ s. rule_laws (grammar_of s) s.rules.daughters s.rules.restrictors (list_of s) s.rules_in s.order };
 
     ghost agreement = { λ s. rules_agree (rules_of s) };
 

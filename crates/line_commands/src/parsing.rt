@@ -41,7 +41,7 @@ pub struct Parse<'a> {
     pub settings: Option<&'a str>,
     /// The limits, each in its range.
     pub limits: Limits,
-    /// How many workers share the lines, and a chart, 1 to 64. It changes no answer.
+    /// How many workers share the lines, 1 to 64. It changes no answer.
     pub workers: u32,
     /// Whether each line writes a lattice of words.
     pub lattice: bool,

@@ -1,6 +1,6 @@
 -- What is asked of the full structures over a line's lexical trees, and what is found over its leaves, by the grammar of its lines.
 use Rattle.std.specs.Prelude.{◌≡◌, List, map}
-use Rattle.std.proofs.Common.{refl, sym, subst}
+use Rattle.std.proofs.Common.{ℕ, refl, sym, subst}
 use Rattle.fs_model.specs.Claims.{IsOrder}
 use Rattle.chart_model.specs.declared.span.Span.{Span}
 use Rattle.chart_core.specs.declared.Leaf.{Leaf}
@@ -13,7 +13,7 @@ use Rattle.morph_analysis.specs.Lattices.{LatticeTree}
 use Rattle.packed_items.specs.Packed.{Fit, IsFound}
 use Rattle.packed_items.specs.Answers.{answer_of}
 use Rattle.packed_items.specs.declared.Found.{Found}
-use Rattle.book_signs.specs.Trees.{signs_of}
+use Rattle.book_signs.specs.Trees.{SignTree, signs_of}
 use Rattle.grammar_shapes.specs.Shaped.{Shape}
 use Rattle.grammar_shapes.specs.Spanned.{span_calculus}
 use Rattle.grammar_shapes.specs.Systems.{rules_of, meaning_of}
@@ -45,3 +45,19 @@ module _ {X W B : Type 0} (g : LineGrammar) (is : IsLineGrammar g) (o : IsOrder 
 
   pub line_answers : (found : Found) (a : Answer) → IsFound (span_calculus (rules_of g.shapes.now)) (rules_full (rules_of g.shapes.now)) (Agrees (rules_of g.shapes.now)) (wholes_of (signs_of g.signs.now) (lexemes_of g.signs.now slice) lattice.end) limits (map (leaf_seen (meaning_of g.shapes.now)) leaves) found → a ≡ answer_of found → IsLineAnswer g lattice limits a
   line_answers = call_answer g.signs.now g.shapes.now is.shapes (meaning_of g.shapes.now) (words_by g) (lattice_seen lattice) limits o (lexeme_seen (λ full. view_in g.signs.now full.graph)) slice leaves known_slice lined_slice lattice.end refl
+
+  -- the same, of full structures over these trees
+  module _ (signs : SignTree) (ls : List (LexTree FullTree)) (end : ℕ) (signs_are : signs ≡ g.signs.now) (leaves_are : ls ≡ slice) (end_is : end ≡ lattice.end) where
+    pub fits_over : Fit (span_calculus (rules_of g.shapes.now)) (rules_full (rules_of g.shapes.now)) (Agrees (rules_of g.shapes.now)) (wholes_of (signs_of signs) (lexemes_of signs ls) end) (IsLexicalAt (signs_of signs) (lexemes_of signs ls)) (IsRuled (signs_of signs)) (map (leaf_seen (meaning_of g.shapes.now)) leaves)
+    fits_over =
+        subst (λ s. Fit (span_calculus (rules_of g.shapes.now)) (rules_full (rules_of g.shapes.now)) (Agrees (rules_of g.shapes.now)) (wholes_of (signs_of s) (lexemes_of s ls) end) (IsLexicalAt (signs_of s) (lexemes_of s ls)) (IsRuled (signs_of s)) (map (leaf_seen (meaning_of g.shapes.now)) leaves)) (sym signs_are)
+        (subst (λ l. Fit (span_calculus (rules_of g.shapes.now)) (rules_full (rules_of g.shapes.now)) (Agrees (rules_of g.shapes.now)) (wholes_of (signs_of g.signs.now) (lexemes_of g.signs.now l) end) (IsLexicalAt (signs_of g.signs.now) (lexemes_of g.signs.now l)) (IsRuled (signs_of g.signs.now)) (map (leaf_seen (meaning_of g.shapes.now)) leaves)) (sym leaves_are)
+        (subst (λ e. Fit (span_calculus (rules_of g.shapes.now)) (rules_full (rules_of g.shapes.now)) (Agrees (rules_of g.shapes.now)) (wholes_of (signs_of g.signs.now) (lexemes_of g.signs.now slice) e) (IsLexicalAt (signs_of g.signs.now) (lexemes_of g.signs.now slice)) (IsRuled (signs_of g.signs.now)) (map (leaf_seen (meaning_of g.shapes.now)) leaves)) (sym end_is) line_fits))
+
+    pub answers_over : (found : Found) (a : Answer) → IsFound (span_calculus (rules_of g.shapes.now)) (rules_full (rules_of g.shapes.now)) (Agrees (rules_of g.shapes.now)) (wholes_of (signs_of signs) (lexemes_of signs ls) end) limits (map (leaf_seen (meaning_of g.shapes.now)) leaves) found → a ≡ answer_of found → IsLineAnswer g lattice limits a
+    answers_over found a is_found same_answer =
+        line_answers found a
+        (subst (λ e. IsFound (span_calculus (rules_of g.shapes.now)) (rules_full (rules_of g.shapes.now)) (Agrees (rules_of g.shapes.now)) (wholes_of (signs_of g.signs.now) (lexemes_of g.signs.now slice) e) limits (map (leaf_seen (meaning_of g.shapes.now)) leaves) found) end_is
+        (subst (λ l. IsFound (span_calculus (rules_of g.shapes.now)) (rules_full (rules_of g.shapes.now)) (Agrees (rules_of g.shapes.now)) (wholes_of (signs_of g.signs.now) (lexemes_of g.signs.now l) end) limits (map (leaf_seen (meaning_of g.shapes.now)) leaves) found) leaves_are
+        (subst (λ s. IsFound (span_calculus (rules_of g.shapes.now)) (rules_full (rules_of g.shapes.now)) (Agrees (rules_of g.shapes.now)) (wholes_of (signs_of s) (lexemes_of s ls) end) limits (map (leaf_seen (meaning_of g.shapes.now)) leaves) found) signs_are is_found)))
+        same_answer

@@ -1,6 +1,6 @@
 //! Lines that are parsed: from the leaves of a line to its answer, by chart and unpacking over them.
 
-ghost use Rattle.std.specs.Prelude.{IfOk};
+ghost use Rattle.std.specs.Prelude.{◌≡◌, IfOk};
 ghost use Rattle.chart_core.specs.Kept.{InRange};
 ghost use Rattle.morph_analysis.specs.Lattices.{IsValid};
 ghost use Rattle.morph_analysis.specs.LatticeViews.{lattice_of};
@@ -11,9 +11,10 @@ use crate::{NoMemory, RememberedLine};
 use chart_core::Limits;
 use chart_workers::{Rank, Terms};
 use grammar_rules::{Desk, ItemAnswer, LineGrammar, LineLeaves, LineWork, Search, line_leaves};
+use lexical_items::LexTree;
 use morph_analysis::Lattice;
 use packed_items::{ItemLeaves, Sieving, answer_remembered, answer_remembered_alone};
-use rule_trees::LineFulls;
+use rule_trees::{FullStructure, LineFulls};
 use sieve::{Filter, Sieve};
 use std::alloc::Global;
 use std::sync::Wait;
@@ -30,6 +31,27 @@ fn let_go(fulls: RememberedLine<'_, '_, '_>) {
         },
         mothers: _,
     } = fulls;
+}
+
+// The full structures of the trees over a line's lexical trees, with what is remembered of those of its grammar.
+fn fulls_over<'t, 'x: 't, 'k>(
+    grammar: &LineGrammar<'x, '_, 'k>,
+    trees: &'t [LexTree<FullStructure>],
+    end: u32,
+) -> RememberedLine<'t, 'x, 'k>
+    requires { IsLineGrammar grammar.now }
+    ensures signs { result.line.signs.now ≡ grammar.now.signs.now }
+    ensures leaves { result.line.leaves.now ≡ trees.now }
+    ensures end { result.line.end ≡ end }
+{
+    RememberedLine {
+        line: LineFulls {
+            signs: grammar.signs,
+            leaves: trees,
+            end,
+        },
+        mothers: grammar.shared.mothers(),
+    }
 }
 
 /// The answer to a line: the first of four rules that holds decides. A lexical tree has exactly one rule more than the limit; a
@@ -65,14 +87,7 @@ pub fn parse_words<R: Wait + Threads + Sync, F: Filter + Send + Sync, P: Rank + 
     let LineLeaves::Leaves { trees, leaves } = lines else {
         return Ok(ItemAnswer::LexicalDepth);
     };
-    let fulls = RememberedLine {
-        line: LineFulls {
-            signs: grammar.signs,
-            leaves: &trees,
-            end: lattice.end,
-        },
-        mothers: grammar.shared.mothers(),
-    };
+    let fulls = fulls_over(grammar, &trees, lattice.end);
     let sieving = Sieving {
         shapes: grammar.shapes,
         sieves: search.sieves,
@@ -113,14 +128,7 @@ pub fn parse_alone<F: Filter>(
     let LineLeaves::Leaves { trees, leaves } = lines else {
         return Ok(ItemAnswer::LexicalDepth);
     };
-    let fulls = RememberedLine {
-        line: LineFulls {
-            signs: grammar.signs,
-            leaves: &trees,
-            end: lattice.end,
-        },
-        mothers: grammar.shared.mothers(),
-    };
+    let fulls = fulls_over(grammar, &trees, lattice.end);
     let found = answer_remembered_alone(
         alloc,
         grammar.shapes,

@@ -27,8 +27,8 @@ impl Scoper {
     ghost use Rattle.std.specs.Prelude.{map, IfOk};
     ghost use Rattle.scope_commands.specs.Answers.{IsAnswer};
 
-    // The report on the line of this number.
-    fn report(&self, alloc: Global, number: u64, line: &[u8]) -> Result<Report, NoMemory>
+    /// The report on the line of this number, by one worker. It waits for nobody, so this call returns. `NoMemory` comes only for want of memory.
+    pub fn report(&self, alloc: Global, number: u64, line: &[u8]) -> Result<Report, NoMemory>
         ensures { IfOk result (λ r. IsAnswer self.now.max number line.now (map (λ l. l.items) r.lines.items) r.refused) }
     {
         match read(alloc, line) {

@@ -33,7 +33,7 @@ const HELP: &[u8] = b"\
     \x20 --lexical N      the most lexical rules over an entry, 0 to 15 (7)\n\
     \x20 --unary N        the most unary rules one over another, 0 to 32 (8)\n\
     \x20 --empty N        the most words without a predicate in a generated sentence, 0 to 16 (4)\n\
-    \x20 --workers N      how many workers fill a chart, or answer lines, 1 to 64 (1); no answer depends on it\n\
+    \x20 --workers N      how many workers answer lines, 1 to 64 (1); no answer depends on it\n\
     \x20 --lattice        each line writes a lattice, FROM:TO:WORD for each step (a line is its words)\n\
     \x20 --mrs            each tree that is listed or licensed is followed by its MRS (no MRSs)\n\
     \x20 --verbose        tells where and why files have a fault, and, in parse, the unknown words of lines without a tree (neither)\n\
@@ -60,7 +60,7 @@ const PARSE: &[u8] = b"\
     \x20 --readings N     the most trees of a line, or the most readings of an MRS, 1 to 100000 (10000)\n\
     \x20 --lexical N      the most lexical rules over an entry, 0 to 15 (7)\n\
     \x20 --unary N        the most unary rules one over another, 0 to 32 (8)\n\
-    \x20 --workers N      how many workers fill a chart, or answer lines, 1 to 64 (1); no answer depends on it\n\
+    \x20 --workers N      how many workers answer lines, 1 to 64 (1); no answer depends on it\n\
     \x20 --lattice        each line writes a lattice, FROM:TO:WORD for each step (a line is its words)\n\
     \x20 --mrs            each tree that is listed or licensed is followed by its MRS (no MRSs)\n\
     \x20 --verbose        tells where and why files have a fault, and, in parse, the unknown words of lines without a tree (neither)\n\
@@ -72,7 +72,7 @@ const CHART: &[u8] = b"\
     \x20 --edges N        the most packed classes of a line, 1 to 20000 (5000)\n\
     \x20 --lexical N      the most lexical rules over an entry, 0 to 15 (7)\n\
     \x20 --unary N        the most unary rules one over another, 0 to 32 (8)\n\
-    \x20 --workers N      how many workers fill a chart, or answer lines, 1 to 64 (1); no answer depends on it\n\
+    \x20 --workers N      how many workers answer lines, 1 to 64 (1); no answer depends on it\n\
     \x20 --lattice        each line writes a lattice, FROM:TO:WORD for each step (a line is its words)\n\
     \x20 --verbose        tells where and why files have a fault, and, in parse, the unknown words of lines without a tree (neither)\n\
 ";
@@ -80,7 +80,7 @@ const CHART: &[u8] = b"\
 const EXPLAIN: &[u8] = b"\
     \x20 explain GRAMMAR        for each tree of the input whether it is licensed, and if not, where it fails and why\n\
     \x20 --settings NAME  a file of settings (each setting's default)\n\
-    \x20 --workers N      how many workers fill a chart, or answer lines, 1 to 64 (1); no answer depends on it\n\
+    \x20 --workers N      how many workers answer lines, 1 to 64 (1); no answer depends on it\n\
     \x20 --mrs            each tree that is listed or licensed is followed by its MRS (no MRSs)\n\
     \x20 --verbose        tells where and why files have a fault, and, in parse, the unknown words of lines without a tree (neither)\n\
 ";
@@ -93,7 +93,7 @@ const GENERATE: &[u8] = b"\
     \x20 --lexical N      the most lexical rules over an entry, 0 to 15 (7)\n\
     \x20 --unary N        the most unary rules one over another, 0 to 32 (8)\n\
     \x20 --empty N        the most words without a predicate in a generated sentence, 0 to 16 (4)\n\
-    \x20 --workers N      how many workers fill a chart, or answer lines, 1 to 64 (1); no answer depends on it\n\
+    \x20 --workers N      how many workers answer lines, 1 to 64 (1); no answer depends on it\n\
     \x20 --verbose        tells where and why files have a fault, and, in parse, the unknown words of lines without a tree (neither)\n\
 ";
 
@@ -121,7 +121,7 @@ const SELF_TEST: &[u8] = b"\
     \x20 --readings N     the most trees of a line, or the most readings of an MRS, 1 to 100000 (10000)\n\
     \x20 --lexical N      the most lexical rules over an entry, 0 to 15 (7)\n\
     \x20 --unary N        the most unary rules one over another, 0 to 32 (8)\n\
-    \x20 --workers N      how many workers fill a chart, or answer lines, 1 to 64 (1); no answer depends on it\n\
+    \x20 --workers N      how many workers answer lines, 1 to 64 (1); no answer depends on it\n\
 ";
 
 const BATCH: &[u8] = b"\
@@ -131,20 +131,20 @@ const BATCH: &[u8] = b"\
     \x20 --readings N     the most trees of a line, or the most readings of an MRS, 1 to 100000 (10000)\n\
     \x20 --lexical N      the most lexical rules over an entry, 0 to 15 (7)\n\
     \x20 --unary N        the most unary rules one over another, 0 to 32 (8)\n\
-    \x20 --workers N      how many workers fill a chart, or answer lines, 1 to 64 (1); no answer depends on it\n\
+    \x20 --workers N      how many workers answer lines, 1 to 64 (1); no answer depends on it\n\
     \x20 --verbose        tells where and why files have a fault, and, in parse, the unknown words of lines without a tree (neither)\n\
 ";
 
 const SCOPE: &[u8] = b"\
     \x20 scope                  for each MRS of the input the number of its scoped readings, and all of them\n\
     \x20 --readings N     the most trees of a line, or the most readings of an MRS, 1 to 100000 (10000)\n\
-    \x20 --workers N      how many workers fill a chart, or answer lines, 1 to 64 (1); no answer depends on it\n\
+    \x20 --workers N      how many workers answer lines, 1 to 64 (1); no answer depends on it\n\
 ";
 
 const TRANSFER: &[u8] = b"\
     \x20 transfer RULES         for each MRS of the input what the rules of RULES make of it, and in how many steps\n\
     \x20 --settings NAME  a file of settings (each setting's default)\n\
-    \x20 --workers N      how many workers fill a chart, or answer lines, 1 to 64 (1); no answer depends on it\n\
+    \x20 --workers N      how many workers answer lines, 1 to 64 (1); no answer depends on it\n\
     \x20 --verbose        tells where and why files have a fault, and, in parse, the unknown words of lines without a tree (neither)\n\
 ";
 

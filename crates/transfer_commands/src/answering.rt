@@ -48,8 +48,8 @@ impl Transferrer {
         }
     }
 
-    // The report on the line of this number.
-    fn report(&self, alloc: Global, number: u64, line: &[u8]) -> Result<Report, NoMemory>
+    /// The report on the line of this number, by one worker. It waits for nobody, so this call returns. `NoMemory` comes only for want of memory.
+    pub fn report(&self, alloc: Global, number: u64, line: &[u8]) -> Result<Report, NoMemory>
         ensures { IfOk result (λ r. IsAnswer (rewriter_of self.now) number line.now (map (λ l. l.items) r.lines.items) r.refused) }
     {
         match read(alloc, line) {

@@ -1,7 +1,8 @@
-use Rattle.std.proofs.Common.{map}
-use Rattle.fs_graph.specs.Facts.{path_of}
-use Rattle.fs_unify.specs.Owing.{speaks_of, HaveOwing}
+use Rattle.std.proofs.Common.{Bool, length, map}
+use Rattle.fs_model.specs.Claims.{Claim}
+use Rattle.fs_unify.specs.Owing.{HaveOwing}
+use Rattle.fs_unify.specs.Inner.Marks.{HaveMarks}
 use Rattle.fs_unify.proofs.owed.rows_owed.Given as goal
 
 abbrev pub invariant-loop-t : goal.invariant-loop-t
-invariant-loop-t l = HaveOwing l.system (speaks_of (path_of l.at_root) (path_of l.anywhere)) l.t (map (λ row. row.items) l.rows.items)
+invariant-loop-t l = (owed : Claim → Bool) → HaveMarks l.system owed (length l.system.rules) l.marks → HaveOwing l.system owed l.debts l.t (map (λ row. row.items) l.rows.items)

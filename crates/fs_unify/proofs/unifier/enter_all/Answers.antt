@@ -26,8 +26,7 @@ loop-i-preserved c =
     record {
       entered = entered_more g parts (take i parts) _ p c.loop-i.offsets.items c.push.new.self.items c.in_ok-offset.offset c.loop-i.nodes c.loop-i.tasks
           c.enter.new.nodes c.enter.new.tasks more c.in_ok-push.ensures.items c.in_ok-offset.ensures.place
-          (item_has parts i p h c.index-parts-i.is) c.laws.ensures c.in_ok-offset.ensures.enters c.in_ok-offset.ensures.owed
-          c.in_ok-offset.ensures.flat c.loop-i.invariant.entered;
+          (item_has parts i p h c.index-parts-i.is) c.laws.ensures c.in_ok-offset.ensures.enters c.in_ok-offset.ensures.flat c.loop-i.invariant.entered;
       sound = c.in_ok-offset.ensures.sound;
     }
 

@@ -1,14 +1,10 @@
-use Rattle.std.proofs.Common.{◌∙◌, ap, subst}
+use Rattle.std.proofs.Common.{subst}
 use Rattle.morph_analysis.specs.LatticeViews.{lattice_of}
 use Rattle.grammar_rules.specs.LineLeaves.{AreLineLeaves}
 use Rattle.grammar_rules.specs.Lines.{words_by}
-use Rattle.grammar_rules.specs.Remembered.{MemoryTree}
 use Rattle.grammar_rules.specs.Views.{item_answer}
-use Rattle.line_parsing.proofs.Answered.{line_fits, line_answers}
+use Rattle.line_parsing.proofs.Answered.{fits_over, answers_over}
 use Rattle.line_parsing.proofs.parsing.parse_alone.Goals as goal
-
-pub invariant_of-fulls : goal.invariant_of-fulls
-invariant_of-fulls g c = record { same = c.mothers.ensures ∙ ap (λ (m : MemoryTree). m.signs) c.requires.grammar.shared }
 
 pub answer_remembered_alone-found-requires-clause-leaves : goal.answer_remembered_alone-found-requires-clause-leaves
 answer_remembered_alone-found-requires-clause-leaves g c =
@@ -22,11 +18,11 @@ answer_remembered_alone-found-requires-clause-fit g c =
     let grammar = c.args.grammar.now in
     let lattice = lattice_of c.args.lattice.now in
     let h = subst (AreLineLeaves grammar.signs.now grammar.shapes.now (words_by grammar) lattice c.args.limits.now.lexical) c.in-Leaves.is c.in_ok-lines.ensures in
-    line_fits grammar c.requires.grammar c.laws.ensures.order lattice c.args.limits.now c.in-Leaves.trees.items c.deref.result.now c.deref.ensures.value c.in-Leaves.leaves.items h.0 h.1
+    fits_over grammar c.requires.grammar c.laws.ensures.order lattice c.args.limits.now c.in-Leaves.trees.items c.deref.result.now c.deref.ensures.value c.in-Leaves.leaves.items h.0 h.1 c.fulls_over-fulls.result.line.signs.now c.fulls_over-fulls.result.line.leaves.now c.fulls_over-fulls.result.line.end c.fulls_over-fulls.ensures.signs c.fulls_over-fulls.ensures.leaves c.fulls_over-fulls.ensures.end
 
 pub returns-in-Ok : goal.returns-in-Ok
 returns-in-Ok g c =
     let grammar = c.args.grammar.now in
     let lattice = lattice_of c.args.lattice.now in
     let h = subst (AreLineLeaves grammar.signs.now grammar.shapes.now (words_by grammar) lattice c.args.limits.now.lexical) c.in-Leaves.is c.in_ok-lines.ensures in
-    line_answers grammar c.requires.grammar c.laws.ensures.order lattice c.args.limits.now c.in-Leaves.trees.items c.deref.result.now c.deref.ensures.value c.in-Leaves.leaves.items h.0 h.1 c.in-Ok.found (item_answer c.of_found.result) c.in-Ok.ensures c.of_found.ensures
+    answers_over grammar c.requires.grammar c.laws.ensures.order lattice c.args.limits.now c.in-Leaves.trees.items c.deref.result.now c.deref.ensures.value c.in-Leaves.leaves.items h.0 h.1 c.fulls_over-fulls.result.line.signs.now c.fulls_over-fulls.result.line.leaves.now c.fulls_over-fulls.result.line.end c.fulls_over-fulls.ensures.signs c.fulls_over-fulls.ensures.leaves c.fulls_over-fulls.ensures.end c.in-Ok.found (item_answer c.of_found.result) c.in-Ok.ensures c.of_found.ensures

@@ -1,12 +1,11 @@
 use Rattle.std.proofs.Common.{sym, ◌∙◌, subst, arith}
 use Rattle.std.specs.Prelude.{◌<◌, ◌^◌, All, length}
-use Rattle.std.proofs.lemmas.Grind.{merely}
 use Rattle.fs_model.specs.Claims.{IsBare}
 use Rattle.fs_closing.specs.Rules.{system_of}
-use Rattle.fs_unify.specs.Owing.{ListsOwed}
 use Rattle.tree_model.specs.Structures.{IsPartialOrder}
 use Rattle.grammar_shapes.specs.Ruled.{IsRuleIn}
-use Rattle.fs_trim.specs.Cutting.{cut_of, owed_of}
+use Rattle.fs_trim.specs.Cutting.{cut_of}
+use Rattle.grammar_shapes.specs.Cutting.{CutsNoMore}
 use Rattle.grammar_shapes.proofs.CutLemmas.{keeps}
 use Rattle.grammar_shapes.proofs.TableLemmas.{ordered}
 use Rattle.grammar_shapes.proofs.shapes.GrammarShapes.make.Goals as goal
@@ -19,7 +18,6 @@ invariant_of-result c =
       order = subst (λ t. IsPartialOrder (system_of t.grammar)) e (ordered c.args.system.now c.types.result.now c.types.ensures c.laws.ensures);
       rules_in = subst (λ t. All (IsRuleIn t.grammar) t.rules) e c.requires.rules_in;
       few = subst (λ t. length t.rules < 2 ^ 32) e (omega (arith, c.if-len.false, c.len.ensures));
-      no_more = λ q. keeps (cut_of c.args.daughters) (cut_of c.args.restrictors) (sym c.cuts_no_more-one_cut.ensures ∙ q);
-      fulls_owe = merely (subst (λ t. ListsOwed t.grammar (owed_of (cut_of c.args.daughters)) c.in-Ok.daughters_owe) e c.in-Ok.ensures);
-      shapes_owe = merely (subst (λ t. ListsOwed t.grammar (owed_of (cut_of c.args.restrictors)) c.in-Ok-owed.shape_owes) e c.in-Ok-owed.ensures);
+      no_more = λ q. subst (λ t. CutsNoMore t.daughters t.restrictors) e
+          (keeps (cut_of c.args.daughters) (cut_of c.args.restrictors) (sym c.cuts_no_more-one_cut.ensures ∙ q));
     }
