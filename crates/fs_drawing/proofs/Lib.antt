@@ -8,5 +8,6 @@ pub mod PictureLemmas
 pub mod NoteLemmas
 pub mod ClimbArcs
 pub mod ClimbLemmas
+pub mod LeafLemmas
 pub mod FewLemmas
 pub mod InsideLemmas

@@ -1,19 +1,22 @@
 //! Whether closed nodes have a structure: none that the root reaches reaches itself, and no path is longer than the limit.
 //! Nothing is drawn: one depth-first visit goes along each arc once.
 
-ghost use Rattle.std.specs.Prelude.{◌≡◌, ℕ, ◌<◌, ◌≤◌, ◌+◌, ◌++◌, ◌∷◌, [], length, IfOk, OnOk, slice_index};
-ghost use Rattle.fs_closing.specs.NodeTable.{table_of, IsWhole};
+ghost use Rattle.std.specs.Prelude.{◌≡◌, ℕ, ◌<◌, ◌≤◌, ◌+◌, ◌++◌, ◌∷◌, [], length, true, IfOk, OnOk, slice_index};
+ghost use Rattle.fs_closing.specs.NodeTable.{row_of, table_of, IsWhole};
 ghost use Rattle.fs_drawing.specs.Bounding.{Decided};
-ghost use Rattle.fs_drawing.specs.Inner.Climbing.{IsPassing, IsTop, IsNext, WaitsAdded, Waits, IsClimbing, AreClimbing, Climbs};
+ghost use Rattle.fs_drawing.specs.Inner.Climbing.{IsPassing, IsTop, IsNext, WaitsAdded, Waits, AddsLeaves, IsClimbing, AreClimbing, Climbs};
 
 use crate::NoMemory;
 use crate::notes::{Notes, greater};
 use fs_closing::nodes::{Nodes, first_of, live};
-use fs_closing::parts::{own_arcs, own_cell};
+use fs_closing::parts::{own_arcs, own_cell, own_count};
 use std::alloc::Global;
 
 // What is noted at an open node. At one that is done with, two more than the length of the longest path from it is noted.
 const OPEN: u32 = 1;
+
+// What is noted at a node without arcs, which is done with as soon as it is met.
+const LEAF: u32 = 2;
 
 /// An open node. Its arcs are passed one after another: those that were added to it first, of which the one at `place` comes
 /// next, and then those from its graph, of which the one of the number `own` does. Those that were passed lead to nodes from
@@ -76,22 +79,57 @@ fn opened(nodes: &Nodes<'_>, n: u32) -> Open
     }
 }
 
-// Passes the arcs that were added to a node, up to one that leads to a node that isn't done with.
-fn pass_added(notes: &Notes, nodes: &Nodes<'_>, x: Open) -> Passed
+// Whether a node has no arcs.
+fn is_leaf(nodes: &Nodes<'_>, n: u32) -> bool
     requires whole { IsWhole nodes.now }
-    requires room { nodes.now.size ≤ length notes.now }
-    requires passing { IsPassing nodes.now (slice_index notes.now) x }
-    ensures node { result.open_node.node ≡ x.node }
-    ensures waits { WaitsAdded nodes.now (slice_index notes.now) result.open_node result.next }
+    requires node { n < nodes.now.size }
+    ensures { result ≡ true → row_of nodes.now n ≡ [] }
+{
+    if first_of(nodes, n) != 0 {
+        return false;
+    }
+    if own_count(&nodes.parts, n) != 0 {
+        return false;
+    }
+    true
+}
+
+// What is noted at a node. One without arcs that wasn't met is done with at once, so that it is never open.
+fn noted_at(notes: &mut Notes, nodes: &Nodes<'_>, n: u32) -> Result<u32, NoMemory>
+    requires whole { IsWhole nodes.now }
+    requires node { n < nodes.now.size }
+    requires room { nodes.now.size ≤ length notes.old }
+    ensures value { IfOk result (λ v. v ≡ slice_index notes.new n) }
+    ensures leaves { OnOk result (AddsLeaves nodes.now notes.old notes.new) }
+{
+    let noted = notes.get(n);
+    if noted != 0 {
+        return Ok(noted);
+    }
+    if is_leaf(nodes, n) {
+        notes.note(n, LEAF)?;
+        return Ok(LEAF);
+    }
+    Ok(noted)
+}
+
+// Passes the arcs that were added to a node, up to one that leads to a node that isn't done with.
+fn pass_added(notes: &mut Notes, nodes: &Nodes<'_>, x: Open) -> Result<Passed, NoMemory>
+    requires whole { IsWhole nodes.now }
+    requires room { nodes.now.size ≤ length notes.old }
+    requires passing { IsPassing nodes.now (slice_index notes.old) x }
+    ensures node { IfOk result (λ p. p.open_node.node ≡ x.node) }
+    ensures waits { IfOk result (λ p. WaitsAdded nodes.now (slice_index notes.new) p.open_node p.next) }
+    ensures leaves { OnOk result (AddsLeaves nodes.now notes.old notes.new) }
 {
     let mut place = x.place;
     let mut high = x.high;
     while place != 0 {
         let cell = nodes.cells.at(place);
         let to = live(nodes, cell.to);
-        let noted = notes.get(to);
+        let noted = noted_at(notes, nodes, to)?;
         if noted <= OPEN {
-            return Passed {
+            return Ok(Passed {
                 open_node: Open {
                     node: x.node,
                     place,
@@ -99,12 +137,12 @@ fn pass_added(notes: &Notes, nodes: &Nodes<'_>, x: Open) -> Passed
                     high,
                 },
                 next: Some(to),
-            };
+            });
         }
         high = greater(high, noted - 1);
         place = cell.next;
     }
-    Passed {
+    Ok(Passed {
         open_node: Open {
             node: x.node,
             place: 0,
@@ -112,26 +150,27 @@ fn pass_added(notes: &Notes, nodes: &Nodes<'_>, x: Open) -> Passed
             high,
         },
         next: None,
-    }
+    })
 }
 
 // Passes the arcs that a node has from its graph, up to one that leads to a node that isn't done with.
-fn pass_own(notes: &Notes, nodes: &Nodes<'_>, x: Open) -> Passed
+fn pass_own(notes: &mut Notes, nodes: &Nodes<'_>, x: Open) -> Result<Passed, NoMemory>
     requires whole { IsWhole nodes.now }
-    requires room { nodes.now.size ≤ length notes.now }
-    requires passing { IsPassing nodes.now (slice_index notes.now) x }
+    requires room { nodes.now.size ≤ length notes.old }
+    requires passing { IsPassing nodes.now (slice_index notes.old) x }
     requires added { x.place ≡ 0 }
-    ensures node { result.open_node.node ≡ x.node }
-    ensures waits { Waits nodes.now (slice_index notes.now) result.open_node result.next }
+    ensures node { IfOk result (λ p. p.open_node.node ≡ x.node) }
+    ensures waits { IfOk result (λ p. Waits nodes.now (slice_index notes.new) p.open_node p.next) }
+    ensures leaves { OnOk result (AddsLeaves nodes.now notes.old notes.new) }
 {
     let own = own_arcs(&nodes.parts, x.node);
     let mut high = x.high;
     for i in x.own..own.arcs.len() {
         let cell = own_cell(own.base, own.arcs, i);
         let to = live(nodes, cell.to);
-        let noted = notes.get(to);
+        let noted = noted_at(notes, nodes, to)?;
         if noted <= OPEN {
-            return Passed {
+            return Ok(Passed {
                 open_node: Open {
                     node: x.node,
                     place: 0,
@@ -139,11 +178,11 @@ fn pass_own(notes: &Notes, nodes: &Nodes<'_>, x: Open) -> Passed
                     high,
                 },
                 next: Some(to),
-            };
+            });
         }
         high = greater(high, noted - 1);
     }
-    Passed {
+    Ok(Passed {
         open_node: Open {
             node: x.node,
             place: 0,
@@ -151,21 +190,25 @@ fn pass_own(notes: &Notes, nodes: &Nodes<'_>, x: Open) -> Passed
             high,
         },
         next: None,
-    }
+    })
 }
 
 // Passes the arcs of a node, up to one that leads to a node that isn't done with.
-fn pass(notes: &Notes, nodes: &Nodes<'_>, x: Open) -> Passed
+fn pass(notes: &mut Notes, nodes: &Nodes<'_>, x: Open) -> Result<Passed, NoMemory>
     requires whole { IsWhole nodes.now }
-    requires room { nodes.now.size ≤ length notes.now }
-    requires passing { IsPassing nodes.now (slice_index notes.now) x }
-    ensures node { result.open_node.node ≡ x.node }
-    ensures waits { Waits nodes.now (slice_index notes.now) result.open_node result.next }
+    requires room { nodes.now.size ≤ length notes.old }
+    requires passing { IsPassing nodes.now (slice_index notes.old) x }
+    ensures node { IfOk result (λ p. p.open_node.node ≡ x.node) }
+    ensures waits { IfOk result (λ p. Waits nodes.now (slice_index notes.new) p.open_node p.next) }
+    ensures leaves { OnOk result (AddsLeaves nodes.now notes.old notes.new) }
 {
-    let added = pass_added(notes, nodes, x);
+    let added = pass_added(notes, nodes, x)?;
     match added.next {
-        Some(_) => added,
-        None => pass_own(notes, nodes, added.open_node),
+        Some(_) => Ok(added),
+        None => {
+            let passed = pass_own(notes, nodes, added.open_node)?;
+            Ok(passed)
+        }
     }
 }
 
@@ -220,7 +263,7 @@ fn go_on(heights: &mut Heights, nodes: &Nodes<'_>, x: Open, limit: u32) -> Resul
     requires climbing { IsClimbing nodes.now limit (slice_index heights.old.notes) (heights.old.open_nodes.items ++ x ∷ []) }
     ensures { IfOk result (Climbs nodes.now limit heights.new) }
 {
-    let passed = pass(&heights.notes, nodes, x);
+    let passed = pass(&mut heights.notes, nodes, x)?;
     match passed.next {
         Some(to) => meet(heights, nodes, passed.open_node, to, limit),
         None => finish(heights, nodes, passed.open_node, limit),

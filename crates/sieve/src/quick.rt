@@ -19,10 +19,24 @@ fn have_meet(types: &Types, a: Option<Ty>, b: Option<Ty>) -> bool
     requires b_in { IfSome b (λ t. t.0 < count_of types.now) }
     ensures { result ≡ types_meet types.now (option_map (λ t. t.0) a) (option_map (λ t. t.0) b) }
 {
-    match (a, b) {
-        (Some(a), Some(b)) => types.meet(a, b).is_some(),
-        _ => true,
+    types.laws();
+    let Some(a) = a else {
+        return true;
+    };
+    let Some(b) = b else {
+        return true;
+    };
+    // Most are one type, or one is the top type: then no sets of types are compared.
+    if a.0 == b.0 {
+        return true;
     }
+    if a.0 == 0 {
+        return true;
+    }
+    if b.0 == 0 {
+        return true;
+    }
+    types.meet(a, b).is_some()
 }
 
 // Whether two paths are one.

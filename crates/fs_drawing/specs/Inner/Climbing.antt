@@ -53,6 +53,11 @@ abbrev pub Waits : Nodes → (ℕ → ℕ) → Open → Option ℕ → Type 0
 Waits nodes noted x None = IsPassing nodes noted x × IsTop nodes noted x.node x.high
 Waits nodes noted x (Some to) = IsPassing nodes noted x × IsNext nodes noted x.node to
 
+-- some nodes without arcs that weren't met are done with: no path leads on from them
+pub record AddsLeaves (nodes : Nodes) (old new : List ℕ) : Type 0 where
+  pub each : (n : ℕ) → (slice_index new n ≡ slice_index old n) ⊎ ((slice_index old n ≡ 0) × (slice_index new n ≡ 2) × (row_of nodes n ≡ []))
+  pub size : length new ≡ length old
+
 -- nodes that are done with
 pub record AreDone (t : Table) (noted : ℕ → ℕ) : Type 0 where
   pub lower : (n f m : ℕ) → 2 ≤ noted n → t.arc n f ≡ Some m → (2 ≤ noted (t.live m)) × (noted (t.live m) < noted n)
