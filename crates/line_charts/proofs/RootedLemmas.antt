@@ -28,7 +28,7 @@ open_in t root graph is short p (there here) = record { place_in = λ i d l. abs
 open_in t root graph is short p (there (there h)) = elim h [ ]
 
 abbrev no_rules : OwedRules
-no_rules = record { at_root = []; further = [] }
+no_rules = record { at_root = []; further = []; root_debts = []; further_debts = [] }
 
 pub rooted_open : (t : SignTree) (place : ℕ) (root graph : GraphMap) (parts : List PlacedGraph) (good : Bool) → place < length (signs_of t).instances → facts_at (signs_of t) place ≡ Some (facts_of t.book.system root) → IsShortIn t root → IsShortIn t graph →
     parts ≡ placed_open root graph → IsTrue good ↔ IsConsistent (system_of t.book.system) (Told (source_of parts)) → IsTrue good ↔ IsRootedBy (signs_of t) (graph_view t graph) place
